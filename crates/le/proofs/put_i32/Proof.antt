@@ -1,0 +1,23 @@
+use mir.Facts.{toZ-ofZ}
+use borrow.Author.Needs.{needs}
+use Rattle.le.proofs.put_i32.Statement.{statement}
+use Rattle.le.proofs.put_i32.Tie as tie
+use Rattle.le.proofs.put_i32.Reads as reads
+use Rattle.le.proofs.put_i32.Lts as lts
+use Rattle.le.proofs.bits_of_i32.Reads as bits-of-i32-reads
+use Rattle.le.proofs.put_u32.Reads as put-u32-reads
+
+bits-of-i32-requires : tie.Need-bits-of-i32-requires
+bits-of-i32-requires c κs = search needs
+
+put-u32-requires : tie.Need-put-u32-requires
+put-u32-requires c κs = search needs
+
+same-length : tie.Need-same-length
+same-length c = search needs
+
+returns : tie.Need-returns
+returns c = rw (c .before .before .before .bits-of-i32 .ensures, toZ-ofZ (c .before .before .before .before .before .before .fits .z)) at (c .before .before .put-u32 .ensures)
+
+pub put-i32-spec : {M : Type 1} → statement M
+put-i32-spec = tie.close (tie.spec bits-of-i32-requires put-u32-requires same-length returns)

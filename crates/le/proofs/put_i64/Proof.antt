@@ -1,0 +1,23 @@
+use mir.Facts.{toZ-ofZ}
+use borrow.Author.Needs.{needs}
+use Rattle.le.proofs.put_i64.Statement.{statement}
+use Rattle.le.proofs.put_i64.Tie as tie
+use Rattle.le.proofs.put_i64.Reads as reads
+use Rattle.le.proofs.put_i64.Lts as lts
+use Rattle.le.proofs.bits_of_i64.Reads as bits-of-i64-reads
+use Rattle.le.proofs.put_u64.Reads as put-u64-reads
+
+bits-of-i64-requires : tie.Need-bits-of-i64-requires
+bits-of-i64-requires c κs = search needs
+
+put-u64-requires : tie.Need-put-u64-requires
+put-u64-requires c κs = search needs
+
+same-length : tie.Need-same-length
+same-length c = search needs
+
+returns : tie.Need-returns
+returns c = rw (c .before .before .before .bits-of-i64 .ensures, toZ-ofZ (c .before .before .before .before .before .before .fits .z)) at (c .before .before .put-u64 .ensures)
+
+pub put-i64-spec : {M : Type 1} → statement M
+put-i64-spec = tie.close (tie.spec bits-of-i64-requires put-u64-requires same-length returns)

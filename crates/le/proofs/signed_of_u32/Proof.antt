@@ -1,0 +1,40 @@
+use native.Mathlib.Omega.{arith}
+use Prim.Native.Nat.{_-_, _<_, _^_}
+use borrow.Author.Tests.{lt-ltb, le-ltb}
+use mir.Syntax.{w32}
+use mir.Facts.{toZ-pos, toZ-ofZ}
+use Rattle.le.specs.Le.{signed}
+use Rattle.le.proofs.Laws.{minus-one}
+use borrow.Author.Needs.{needs}
+use Rattle.le.proofs.signed_of_u32.Statement.{statement}
+use Rattle.le.proofs.signed_of_u32.Tie as tie
+use Rattle.le.proofs.signed_of_u32.Reads as reads
+use Rattle.le.proofs.signed_of_u32.Lts as lts
+
+cast-result : tie.Need-cast-result
+cast-result c = search needs
+
+returns : tie.Need-returns
+unfolding signed
+returns c = rw (toZ-pos w32 (c .if1 .taken), lt-ltb _ _ (c .if1 .taken))
+
+sub-result : tie.Need-sub-result
+sub-result c = search needs
+
+cast-result-2 : tie.Need-cast-result-2
+cast-result-2 c = search needs
+
+sub-result-2 : tie.Need-sub-result-2
+sub-result-2 c = 
+    let h : 4294967295 - c .before .args .v < 2 ^ 31 = omega arith in
+    rw (toZ-pos w32 h, minus-one) (record { sfits = h })
+
+returns-2 : tie.Need-returns-2
+unfolding signed
+returns-2 c = 
+    let h : 4294967295 - c .before .args .v < 2 ^ 31 = omega arith in
+    rw (toZ-ofZ (sub-result-2 c), toZ-pos w32 h, minus-one, le-ltb _ _ (c .if1 .left))
+
+pub signed-of-u32-spec : {M : Type 1} → statement M
+signed-of-u32-spec =
+    tie.close (tie.spec cast-result returns sub-result cast-result-2 sub-result-2 returns-2)
