@@ -1,0 +1,4 @@
+pub mod ChecksumLaws
+pub mod CommandLaws
+pub mod MessageLaws
+pub mod PacketLaws

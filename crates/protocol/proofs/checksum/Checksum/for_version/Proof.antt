@@ -1,0 +1,17 @@
+use borrow.Author.Tests.{le-leb, lt-leb}
+use Rattle.protocol.specs.Checksum.{policyFor}
+use Rattle.protocol.proofs.checksum.Checksum.for_version.Statement.{statement}
+use Rattle.protocol.proofs.checksum.Checksum.for_version.Tie as tie
+use Rattle.protocol.proofs.checksum.Checksum.for_version.Reads as reads
+use Rattle.protocol.proofs.checksum.Checksum.for_version.Lts as lts
+
+returns : tie.Need-returns
+unfolding policyFor
+returns c = rw (le-leb _ _ (c .if1 .taken))
+
+returns-2 : tie.Need-returns-2
+unfolding policyFor
+returns-2 c = rw (lt-leb _ _ (c .if1 .left))
+
+pub for-version-spec : {M : Type 1} → statement M
+for-version-spec = tie.close (tie.spec returns returns-2)

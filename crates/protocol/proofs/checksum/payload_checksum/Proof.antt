@@ -1,0 +1,61 @@
+use mathlib.Core.Path.{_≡_, _∙_, ap}
+use Prim.Native.Nat.{_≤_, _+_, _-_, _%_, _^_}
+use native.Mathlib.Omega.{arith}
+use lib.ListN.{length, take}
+use borrow.Author.Needs.{needs}
+use Rattle.protocol.specs.Checksum.{sumOf}
+use Rattle.protocol.proofs.ChecksumLaws.{sum-none, sum-step, sum-all}
+use Rattle.protocol.proofs.checksum.payload_checksum.Statement.{statement}
+use Rattle.protocol.proofs.checksum.payload_checksum.Tie as tie
+use Rattle.protocol.proofs.checksum.payload_checksum.Reads as reads
+use Rattle.protocol.proofs.checksum.payload_checksum.Lts as lts
+use Rattle.protocol.proofs.checksum.wide.Reads as wide-reads
+use Rattle.std.proofs.num.wrapping_add_u32.Reads as wrapping-add-u32-reads
+
+abbrev Inv-loop : tie.InvT-loop
+Inv-loop payload sum₀ i₀ sum i = (i ≤ length payload) × (sum ≡ sumOf (take i payload))
+
+abbrev μ-loop : tie.MeasureT-loop
+μ-loop payload sum₀ i₀ sum i = length payload - i
+
+loop-holds : tie.Need-loop-holds Inv-loop μ-loop
+loop-holds c = (omega arith, sum-none (c .before .args .payload .now))
+
+shared-slice-read-wide : tie.Need-shared-slice-read-wide Inv-loop μ-loop
+shared-slice-read-wide c = omega arith
+
+wide-requires : tie.Need-wide-requires Inv-loop μ-loop
+wide-requires c κs = tt
+
+wrapping-add-u32-requires : tie.Need-wrapping-add-u32-requires Inv-loop μ-loop
+wrapping-add-u32-requires c κs = tt
+
+add-i : tie.Need-add-i Inv-loop μ-loop
+add-i c = omega arith
+
+loop-less : tie.Need-loop-less Inv-loop μ-loop
+loop-less c = omega arith
+
+loop-again : tie.Need-loop-again Inv-loop μ-loop
+loop-again c = 
+    let p = c .before .before .before .before .before .before .args .payload .now in
+    let b = c .before .before .before .before .loop in
+    (omega arith, cc (sum-step p (b .i) (omega arith), c .wrapping-add-u32 .ensures, c .before .wide .ensures))
+
+returns : tie.Need-returns Inv-loop μ-loop
+returns c = c .before .loop .inv .1 ∙ sum-all (c .before .before .before .args .payload .now) (c .before .loop .i) (omega arith)
+
+pub payload-checksum-spec : {M : Type 1} → statement M
+payload-checksum-spec =
+    tie.close
+    (tie.spec
+    Inv-loop
+    μ-loop
+    loop-holds
+    shared-slice-read-wide
+    wide-requires
+    wrapping-add-u32-requires
+    add-i
+    loop-less
+    loop-again
+    returns)

@@ -1,0 +1,64 @@
+use Rattle.protocol.proofs.MessageLaws.{put-header}
+use borrow.Author.Needs.{needs}
+use Rattle.protocol.proofs.message.Message.put_at.Statement.{statement}
+use Rattle.protocol.proofs.message.Message.put_at.Tie as tie
+use Rattle.protocol.proofs.message.Message.put_at.Reads as reads
+use Rattle.protocol.proofs.message.Message.put_at.Lts as lts
+use Rattle.le.proofs.put_u32.Reads as put-u32-reads
+
+put-u32-requires : tie.Need-put-u32-requires
+put-u32-requires c κs = search needs
+
+add-put-u32 : tie.Need-add-put-u32
+add-put-u32 c = search needs
+
+put-u32-requires-2 : tie.Need-put-u32-requires-2
+put-u32-requires-2 c κs = search needs
+
+add-put-u32-2 : tie.Need-add-put-u32-2
+add-put-u32-2 c = search needs
+
+put-u32-requires-3 : tie.Need-put-u32-requires-3
+put-u32-requires-3 c κs = search needs
+
+add-put-u32-3 : tie.Need-add-put-u32-3
+add-put-u32-3 c = search needs
+
+put-u32-requires-4 : tie.Need-put-u32-requires-4
+put-u32-requires-4 c κs = search needs
+
+add-put-u32-4 : tie.Need-add-put-u32-4
+add-put-u32-4 c = search needs
+
+put-u32-requires-5 : tie.Need-put-u32-requires-5
+put-u32-requires-5 c κs = search needs
+
+add-put-u32-5 : tie.Need-add-put-u32-5
+add-put-u32-5 c = search needs
+
+put-u32-requires-6 : tie.Need-put-u32-requires-6
+put-u32-requires-6 c κs = search needs
+
+same-length : tie.Need-same-length
+same-length c = search needs
+
+returns : tie.Need-returns
+returns c = cc (put-header (c .before .before .before .before .before .before .before .before .before .before .before .before .before .before .before .before .before .before .before .before .before .before .before .before .before .args .out .now) (c .before .before .before .before .before .before .before .before .before .before .before .before .before .before .before .before .before .before .before .before .before .before .before .before .before .args .at) (c .before .before .before .before .before .before .before .before .before .before .before .before .before .before .before .before .before .before .before .before .before .before .before .before .before .args .self) (c .before .before .before .before .before .before .before .before .before .before .before .before .before .before .before .before .before .before .before .before .before .before .before .before .before .pre))
+
+pub put-at-spec : {M : Type 1} → statement M
+put-at-spec =
+    tie.close
+    (tie.spec
+    put-u32-requires
+    add-put-u32
+    put-u32-requires-2
+    add-put-u32-2
+    put-u32-requires-3
+    add-put-u32-3
+    put-u32-requires-4
+    add-put-u32-4
+    put-u32-requires-5
+    add-put-u32-5
+    put-u32-requires-6
+    same-length
+    returns)

@@ -1,0 +1,4 @@
+pub mod Checksum
+pub mod Command
+pub mod Message
+pub mod Packet
