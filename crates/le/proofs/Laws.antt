@@ -13,7 +13,7 @@ use lib.Seq.{getD-take, drop-cons, getD-drop, drop-drop, take-add, sets-eq}
 use lib.Signed.{ltZ, mag, nonNeg}
 use borrow.Author.Tests.{ltb-true, ltb-false, lt-ltb, le-ltb}
 use Rattle.le.specs.Le.{numOf, bytesOf, signed, unsigned, part, put, Bytes}
-use Rattle.le.proofs.Parts.{by-test, part-join, put-put, part-put-same, part-put-below, part-put-above, length-put}
+use Rattle.le.proofs.Parts.{by-test, length-part, part-join, put-put, part-put-same, part-put-below, part-put-above, length-put}
 
 pub length-bytesOf : (k x : ℕ) → length (bytesOf k x) ≡ k
 unfolding bytesOf
@@ -72,6 +72,10 @@ read-write (b ∷ l) h =
     let q : (b + 256 * m) / 256 ≡ m = omega arith in
     let i = read-write l (λ j. h (suc j)) in
     rw (r, q, i)
+
+pub read-write-part : (l : List ℕ) (at k : ℕ) → Bytes l → at + k ≤ length l → bytesOf k (numOf (part l at k)) ≡ part l at k
+read-write-part l at k h e =
+    ap (λ (j : ℕ). bytesOf j (numOf (part l at k))) (sym (length-part l at k e)) ∙ read-write (part l at k) (bytes-part l at k h)
 
 -- what was put is read back, whatever the width
 pub put-get : (l : List ℕ) (at k x : ℕ) → at + k ≤ length l → x < 256 ^ k → numOf (part (put l at (bytesOf k x)) at k) ≡ x

@@ -2,5 +2,6 @@
 pub mod checksum;
 pub mod command;
 pub mod constant;
+pub mod features;
 pub mod message;
 pub mod packet;
