@@ -1,15 +1,15 @@
 -- Laws of numbers as bytes, over any number of bytes and any number of bits. Assumes nothing.
 use mathlib.Core.Path.{_≡_, refl, sym, ap, subst, _∙_}
 use mathlib.Core.Logic.{_⊎_, ⊎-elim}
-use mathlib.Core.Bool.{Bool, true, false}
+use mathlib.Core.Bool.{true, false}
 use mathlib.Core.List.{List, [], _∷_, _++_}
 use Prim.Native.Nat.{ℕ, zero, suc, _+_, _-_, _*_, _/_, _%_, _^_, _≤_, _<_}
-use native.Mathlib.Nat.{zero-add, pow-suc, one-le-pow}
+use native.Mathlib.Nat.{zero-add, pow-suc}
 use native.Mathlib.Omega.{arith}
 use lib.Dec.{T, ltb}
 use lib.IntN.{ℤ, pos, negsuc, natAbs, _-ℤ_}
-use lib.ListN.{length, take, drop, getD, set, length-take, length-drop, List·getD-eq-default}
-use lib.Seq.{getD-take, drop-cons, getD-drop, drop-drop, take-add, sets-eq}
+use lib.ListN.{length, take, drop, getD, set, length-take, List·getD-eq-default}
+use lib.Seq.{getD-take, drop-cons, getD-drop, sets-eq}
 use lib.Signed.{ltZ, mag, nonNeg}
 use borrow.Author.Tests.{ltb-true, ltb-false, lt-ltb, le-ltb}
 use Rattle.le.specs.Le.{numOf, bytesOf, signed, unsigned, part, put, Bytes}

@@ -2,11 +2,11 @@
 use mathlib.Core.Path.{_≡_, refl, sym, ap, _∙_}
 use mathlib.Core.Bool.{Bool, true, false}
 use mathlib.Core.List.{List, [], _∷_, _++_, append-assoc, append-nil}
-use Prim.Native.Nat.{ℕ, zero, suc, _+_, _-_, _≤_, _<_}
+use Prim.Native.Nat.{ℕ, zero, suc, _+_, _-_, _≤_}
 use native.Mathlib.Nat.{zero-add, suc-add}
 use native.Mathlib.Omega.{arith}
 use lib.ListN.{length, take, drop, length-append, length-take, length-drop, drop-of-length-le}
-use lib.Seq.{take-length, take-append-le, drop-append-le, take-at, drop-at, drop-drop, take-append-seam, drop-append-seam, take-nil, take-take, take-add, drop-append-add, getD-append-add, getD-take, getD-drop}
+use lib.Seq.{take-length, take-append-le, drop-append-le, take-at, drop-at, drop-drop, take-append-seam, take-nil, take-take, take-add, drop-append-add}
 use borrow.Rule.Slice.PartMut.{putMid}
 use Rattle.le.specs.Le.{part, put}
 

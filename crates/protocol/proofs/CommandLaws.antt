@@ -1,6 +1,5 @@
 -- Laws of the command words. Assumes nothing.
-use mathlib.Core.Path.{_≡_, refl, sym, ap, _∙_}
-use mathlib.Core.Bool.{Bool, true, false}
+use mathlib.Core.Path.{_≡_, refl}
 use mathlib.Core.List.{List, [], _∷_}
 use Prim.Native.Nat.{ℕ, _<_, _^_}
 use lib.Dec.{eqb, lit<}
@@ -9,7 +8,6 @@ use Rattle.le.specs.Le.{numOf}
 use Rattle.le.proofs.Parts.{by-test}
 use Rattle.protocol.specs.declared.command.Command.{Command}
 use Rattle.protocol.specs.declared.command.Command.the-variants.{Sync, Connect, Open, Ready, Close, Write, Auth, StartTls}
-use Rattle.protocol.specs.declared.command.CommandWord.{CommandWord}
 use Rattle.protocol.specs.declared.command.CommandWord.the-variants.{Known, Invalid}
 use Rattle.protocol.specs.Command.{lettersOf, wordOf, magicOf, commands, amongOf, commandOf}
 

@@ -1,10 +1,10 @@
 -- Laws of headers. Assumes nothing.
-use mathlib.Core.Path.{_≡_, refl, sym, ap, _∙_}
-use mathlib.Core.List.{List, _++_, append-assoc}
+use mathlib.Core.Path.{_≡_, refl}
+use mathlib.Core.List.{List, _++_}
 use Prim.Native.Nat.{ℕ, _+_, _≤_, _<_, _^_}
 use native.Mathlib.Omega.{arith}
-use lib.ListN.{length, take}
-use Rattle.le.specs.Le.{numOf, bytesOf, part, put, Bytes}
+use lib.ListN.{length}
+use Rattle.le.specs.Le.{bytesOf, part, put, Bytes}
 use Rattle.le.proofs.Laws.{write-read, read-write-part}
 use Rattle.le.proofs.Parts.{part-join, put-put}
 use Rattle.protocol.specs.declared.message.Message.{Message}

@@ -1,8 +1,8 @@
 -- Laws that the frames' functions cite. Assumes nothing.
-use mathlib.Core.Path.{_≡_, refl, sym, ap, _∙_}
-use mathlib.Core.Bool.{Bool, true, false}
-use mathlib.Core.List.{List, _++_}
-use Prim.Native.Nat.{ℕ, _+_, _-_, _≤_, _<_}
+use mathlib.Core.Path.{_≡_, ap}
+use mathlib.Core.Bool.{Bool}
+use mathlib.Core.List.{List}
+use Prim.Native.Nat.{ℕ, _+_, _-_, _≤_}
 use native.Mathlib.Omega.{arith}
 use lib.ListN.{length, take, drop}
 use borrow.Author.Tests.{le-ltb}
@@ -11,7 +11,6 @@ use Rattle.le.proofs.Parts.{lent-part, put-put}
 use Rattle.protocol.specs.declared.command.Command.{Command}
 use Rattle.protocol.specs.declared.command.CommandWord.{CommandWord}
 use Rattle.protocol.specs.declared.message.Message.{Message}
-use Rattle.protocol.specs.declared.packet.Decoded.{Decoded}
 use Rattle.protocol.specs.Command.{commandOf}
 use Rattle.protocol.specs.Message.{messageOf, headerBytes}
 use Rattle.protocol.specs.Packet.{payloadOf, checkPasses, namedOf, decodeOf, messageFor, frameBytes}

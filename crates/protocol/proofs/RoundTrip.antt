@@ -4,16 +4,16 @@
 --     encode-decode    what `encodeOf` writes is accepted, and its payload is the one given
 --     decode-encode    what is accepted with the policy's check is encoded to the same bytes
 use mathlib.Core.Path.{_≡_, refl, sym, ap, subst, _∙_}
-use mathlib.Core.Bool.{Bool, true, false, not}
+use mathlib.Core.Bool.{true, not}
 use mathlib.Core.List.{List, [], _++_, append-assoc}
 use Prim.Native.Nat.{ℕ, _+_, _≤_, _<_, _^_, min}
 use native.Mathlib.Omega.{arith}
 use lib.Dec.{eqb, ltb}
 use lib.ListN.{length, take, drop, length-append, take-append-drop}
 use lib.Seq.{take-add, drop-at, take-at, take-append-seam}
-use borrow.Author.Tests.{ltb-true, ltb-false, lt-ltb, le-ltb, eq-eqb, eqb-true, not-false}
-use Rattle.le.specs.Le.{numOf, part, put, Bytes}
-use Rattle.le.proofs.Parts.{by-test, length-part, part-front, part-back, part-all}
+use borrow.Author.Tests.{ltb-false, le-ltb, eq-eqb, eqb-true, not-false}
+use Rattle.le.specs.Le.{part, put, Bytes}
+use Rattle.le.proofs.Parts.{by-test, length-part}
 use Rattle.protocol.specs.declared.checksum.Checksum.{Checksum}
 use Rattle.protocol.specs.declared.checksum.Checksum.the-variants.{Compute, Skip}
 use Rattle.protocol.specs.declared.command.Command.{Command}
@@ -21,8 +21,7 @@ use Rattle.protocol.specs.declared.command.CommandWord.{CommandWord}
 use Rattle.protocol.specs.declared.command.CommandWord.the-variants.{Known, Invalid}
 use Rattle.protocol.specs.declared.message.Message.{Message}
 use Rattle.protocol.specs.declared.packet.Packet.{Packet}
-use Rattle.protocol.specs.declared.packet.Decoded.{Decoded}
-use Rattle.protocol.specs.declared.packet.Decoded.the-variants.{Waiting, InvalidCommand, InvalidMagic, PayloadTooLarge, InvalidChecksum, Accepted}
+use Rattle.protocol.specs.declared.packet.Decoded.the-variants.{Accepted}
 use Rattle.protocol.specs.declared.packet.Encoded.the-variants.{Written}
 use Rattle.protocol.specs.Checksum.{sumOf, checkFor}
 use Rattle.protocol.specs.Command.{wordOf, magicOf, commandOf}
@@ -57,7 +56,7 @@ known-says s limit c m p e =
       within = ltb-false _ _ t₂;
       whole = ltb-false _ _ t₃;
       passes = t₄;
-      packet-is = cc
+      packet-is = cc;
     })
     (λ t. let f = rw (t₁, t₂, t₃, t) at e in let z : _≡_ {A = ℕ} 0 1 = cc in absurd (omega arith)))))
 
@@ -77,7 +76,7 @@ named-says s limit p (Known c) h n e =
     record {
       long = h;
       word-is = named-word (messageOf s .command) c n ∙ ap wordOf same;
-      known = rw same at k
+      known = rw same at k;
     }
 
 pub says : (s : List ℕ) (limit : ℕ) (p : Packet) → decodeOf s limit ≡ Accepted p → Says s limit p
@@ -99,7 +98,7 @@ message-is c m payload e f g =
       arg1 = m .arg1;
       «data_length» = g i;
       «data_check» = m .«data_check»;
-      magic = sym f i
+      magic = sym f i;
     }
 
 -- a list is its first 24 elements, the n after them, and the rest
@@ -128,7 +127,7 @@ accepted-of s limit c h n w k =
       whole = l;
       within = k .within;
       passes = k .passes;
-      bytes-are = rw (e, write-header s h n) (sym (in-three s (m .«data_length»)))
+      bytes-are = rw (e, write-header s h n) (sym (in-three s (m .«data_length»)));
     }
 
 pub accepted-bytes : (s : List ℕ) (limit : ℕ) (p : Packet) → Bytes s → decodeOf s limit ≡ Accepted p → Has-bytes s limit p
@@ -169,7 +168,7 @@ module _ (c : Command) (a b : ℕ) (payload rest : List ℕ) (check : ℕ) where
         arg1-fits = hb;
         length-fits = omega arith;
         check-fits = hk;
-        magic-fits = magic-small c
+        magic-fits = magic-small c;
       } in
       let e : messageOf s ≡ m = rw frame-rest (read-header m (payload ++ rest) w) in
       let n : 24 + length payload ≤ length s = rw (length-append, frame-length) (omega arith) in
@@ -212,7 +211,7 @@ encode-decode c a b payload k out limit n ha hb hl e =
     rw (t₁, t₂) (record {
       length-is = cc;
       frame-is = not-refused c a b payload rest check limit ha hb (check-small k payload) (omega (arith, ltb-false)) (own-check k payload);
-      payload-is = frame-payload c a b payload rest check
+      payload-is = frame-payload c a b payload rest check;
     })))
 
 -- ---- decoding, then encoding

@@ -14,7 +14,7 @@ messageOf s =
       arg1 = numOf (part s 8 4);
       «data_length» = numOf (part s 12 4);
       «data_check» = numOf (part s 16 4);
-      magic = numOf (part s 20 4)
+      magic = numOf (part s 20 4);
     }
 
 -- the 24 bytes of a header

@@ -4,12 +4,19 @@ ghost use mathlib.Core.Path.{_≡_};
 ghost use Rattle.protocol.specs.Command.{wordOf, magicOf, commandOf};
 
 pub const CMD_SYNC: u32 = 0x434e_5953;
+
 pub const CMD_CNXN: u32 = 0x4e58_4e43;
+
 pub const CMD_OPEN: u32 = 0x4e45_504f;
+
 pub const CMD_OKAY: u32 = 0x5941_4b4f;
+
 pub const CMD_CLSE: u32 = 0x4553_4c43;
+
 pub const CMD_WRTE: u32 = 0x4554_5257;
+
 pub const CMD_AUTH: u32 = 0x4854_5541;
+
 pub const CMD_STLS: u32 = 0x534c_5453;
 
 pub enum Command {

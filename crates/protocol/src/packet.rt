@@ -34,6 +34,22 @@ pub enum Decoded {
     Accepted(Packet),
 }
 
+impl Decoded {
+    // Document 01's number of the answer: a refusal's own, 100 for waiting, 0 for a frame.
+    pub fn number(self) -> u32
+        ensures { λ r. ⌜ r ≡ numberOf self ⌝ }
+    {
+        match self {
+            Decoded::Waiting => 100,
+            Decoded::InvalidCommand(_) => 1,
+            Decoded::InvalidMagic => 2,
+            Decoded::PayloadTooLarge => 3,
+            Decoded::InvalidChecksum { used: _ } => 4,
+            Decoded::Accepted(_) => 0,
+        }
+    }
+}
+
 // What became of a frame that was to be written.
 pub enum Encoded {
     // Its length.
@@ -149,7 +165,14 @@ impl Packet {
     }
 
     // A frame, written at the start of out.
-    pub fn encode(command: Command, arg0: u32, arg1: u32, payload: &[u8], checksum: Checksum, out: &mut [u8]) -> Encoded
+    pub fn encode(
+        command: Command,
+        arg0: u32,
+        arg1: u32,
+        payload: &[u8],
+        checksum: Checksum,
+        out: &mut [u8],
+    ) -> Encoded
         ensures { λ r. ⌜ Encodes (encodeOf command arg0 arg1 (now (payload .entry)) checksum (now (out .entry))) r (now (out .exit)) ⌝ }
     {
         let len = payload.len();

@@ -1,14 +1,12 @@
 use native.Mathlib.Omega.{arith}
 use mathlib.Core.Path.{_≡_}
-use lib.IntN.{ℤ, pos, negsuc, _-ℤ_}
+use lib.IntN.{pos, negsuc, _-ℤ_}
 use mir.Syntax.{w64}
 use mir.Val.{SFits, toZ, ofZ}
 use mir.Facts.{toZ-ofZ, fits-natAbs}
 use Rattle.le.proofs.Laws.{Below, below, not-below}
 use Rattle.le.proofs.bits_of_i64.Statement.{statement}
 use Rattle.le.proofs.bits_of_i64.Tie as tie
-use Rattle.le.proofs.bits_of_i64.Reads as reads
-use Rattle.le.proofs.bits_of_i64.Lts as lts
 
 wit : (c : tie.Then1) → Below 63 (c .before .args .z)
 wit c =
@@ -35,12 +33,12 @@ returns : tie.Need-returns
 returns c = rw (is c) (wit c .bits)
 
 cast-result-2 : tie.Need-cast-result-2
-cast-result-2 c = 
+cast-result-2 c =
     let e = toZ-ofZ (c .before .fits .z) in
     rw e (not-below 63 (c .before .args .z) (rw e at (c .if1 .left)) .0, fits-natAbs tt (c .before .fits .z))
 
 returns-2 : tie.Need-returns-2
-returns-2 c = 
+returns-2 c =
     let e = toZ-ofZ (c .before .fits .z) in
     rw e (not-below 63 (c .before .args .z) (rw e at (c .if1 .left)) .1)
 

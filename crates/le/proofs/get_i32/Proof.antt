@@ -7,10 +7,6 @@ use Rattle.le.proofs.Laws.{signed-small}
 use borrow.Author.Needs.{needs}
 use Rattle.le.proofs.get_i32.Statement.{statement}
 use Rattle.le.proofs.get_i32.Tie as tie
-use Rattle.le.proofs.get_i32.Reads as reads
-use Rattle.le.proofs.get_i32.Lts as lts
-use Rattle.le.proofs.get_u32.Reads as get-u32-reads
-use Rattle.le.proofs.signed_of_u32.Reads as signed-of-u32-reads
 
 get-u32-requires : tie.Need-get-u32-requires
 get-u32-requires c κs = search needs
@@ -19,7 +15,7 @@ signed-of-u32-requires : tie.Need-signed-of-u32-requires
 signed-of-u32-requires c κs = search needs
 
 returns : tie.Need-returns
-returns c = 
+returns c =
     let h : c .before .get-u32 .result < 2 ^ 32 = omega arith in
     rw (c .signed-of-u32 .ensures) (toZ-ofZ (record { sfits = signed-small 31 _ h }) ∙ ap (signed 31) (c .before .get-u32 .ensures))
 

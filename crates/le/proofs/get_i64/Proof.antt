@@ -7,10 +7,6 @@ use Rattle.le.proofs.Laws.{signed-small}
 use borrow.Author.Needs.{needs}
 use Rattle.le.proofs.get_i64.Statement.{statement}
 use Rattle.le.proofs.get_i64.Tie as tie
-use Rattle.le.proofs.get_i64.Reads as reads
-use Rattle.le.proofs.get_i64.Lts as lts
-use Rattle.le.proofs.get_u64.Reads as get-u64-reads
-use Rattle.le.proofs.signed_of_u64.Reads as signed-of-u64-reads
 
 get-u64-requires : tie.Need-get-u64-requires
 get-u64-requires c κs = search needs
@@ -19,7 +15,7 @@ signed-of-u64-requires : tie.Need-signed-of-u64-requires
 signed-of-u64-requires c κs = search needs
 
 returns : tie.Need-returns
-returns c = 
+returns c =
     let h : c .before .get-u64 .result < 2 ^ 64 = omega arith in
     rw (c .signed-of-u64 .ensures) (toZ-ofZ (record { sfits = signed-small 63 _ h }) ∙ ap (signed 63) (c .before .get-u64 .ensures))
 

@@ -3,9 +3,6 @@ use Rattle.le.proofs.Laws.{read-four}
 use borrow.Author.Needs.{needs}
 use Rattle.le.proofs.get_u32.Statement.{statement}
 use Rattle.le.proofs.get_u32.Tie as tie
-use Rattle.le.proofs.get_u32.Reads as reads
-use Rattle.le.proofs.get_u32.Lts as lts
-use Rattle.le.proofs.le4.Reads as le4-reads
 
 shared-slice-read-le4 : tie.Need-shared-slice-read-le4
 shared-slice-read-le4 c = search needs

@@ -2,10 +2,6 @@ use Rattle.le.proofs.Laws.{read-halves}
 use borrow.Author.Needs.{needs}
 use Rattle.le.proofs.get_u64.Statement.{statement}
 use Rattle.le.proofs.get_u64.Tie as tie
-use Rattle.le.proofs.get_u64.Reads as reads
-use Rattle.le.proofs.get_u64.Lts as lts
-use Rattle.le.proofs.get_u32.Reads as get-u32-reads
-use Rattle.le.proofs.join.Reads as join-reads
 
 get-u32-requires : tie.Need-get-u32-requires
 get-u32-requires c κs = search needs

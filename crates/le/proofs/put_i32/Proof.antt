@@ -2,10 +2,6 @@ use mir.Facts.{toZ-ofZ}
 use borrow.Author.Needs.{needs}
 use Rattle.le.proofs.put_i32.Statement.{statement}
 use Rattle.le.proofs.put_i32.Tie as tie
-use Rattle.le.proofs.put_i32.Reads as reads
-use Rattle.le.proofs.put_i32.Lts as lts
-use Rattle.le.proofs.bits_of_i32.Reads as bits-of-i32-reads
-use Rattle.le.proofs.put_u32.Reads as put-u32-reads
 
 bits-of-i32-requires : tie.Need-bits-of-i32-requires
 bits-of-i32-requires c κs = search needs

@@ -2,10 +2,6 @@ use mir.Facts.{toZ-ofZ}
 use borrow.Author.Needs.{needs}
 use Rattle.le.proofs.put_i64.Statement.{statement}
 use Rattle.le.proofs.put_i64.Tie as tie
-use Rattle.le.proofs.put_i64.Reads as reads
-use Rattle.le.proofs.put_i64.Lts as lts
-use Rattle.le.proofs.bits_of_i64.Reads as bits-of-i64-reads
-use Rattle.le.proofs.put_u64.Reads as put-u64-reads
 
 bits-of-i64-requires : tie.Need-bits-of-i64-requires
 bits-of-i64-requires c κs = search needs

@@ -4,8 +4,6 @@ use Rattle.le.proofs.Laws.{put-four}
 use borrow.Author.Needs.{needs}
 use Rattle.le.proofs.put_u32.Statement.{statement}
 use Rattle.le.proofs.put_u32.Tie as tie
-use Rattle.le.proofs.put_u32.Reads as reads
-use Rattle.le.proofs.put_u32.Lts as lts
 
 cast-s : tie.Need-cast-s
 cast-s c = search needs

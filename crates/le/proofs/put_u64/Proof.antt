@@ -2,11 +2,6 @@ use Rattle.le.proofs.Laws.{put-halves}
 use borrow.Author.Needs.{needs}
 use Rattle.le.proofs.put_u64.Statement.{statement}
 use Rattle.le.proofs.put_u64.Tie as tie
-use Rattle.le.proofs.put_u64.Reads as reads
-use Rattle.le.proofs.put_u64.Lts as lts
-use Rattle.le.proofs.high.Reads as high-reads
-use Rattle.le.proofs.low.Reads as low-reads
-use Rattle.le.proofs.put_u32.Reads as put-u32-reads
 
 low-requires : tie.Need-low-requires
 low-requires c κs = search needs

@@ -8,8 +8,6 @@ use Rattle.le.proofs.Laws.{minus-one}
 use borrow.Author.Needs.{needs}
 use Rattle.le.proofs.signed_of_u64.Statement.{statement}
 use Rattle.le.proofs.signed_of_u64.Tie as tie
-use Rattle.le.proofs.signed_of_u64.Reads as reads
-use Rattle.le.proofs.signed_of_u64.Lts as lts
 
 cast-result : tie.Need-cast-result
 cast-result c = search needs
@@ -25,13 +23,13 @@ cast-result-2 : tie.Need-cast-result-2
 cast-result-2 c = search needs
 
 sub-result-2 : tie.Need-sub-result-2
-sub-result-2 c = 
+sub-result-2 c =
     let h : 18446744073709551615 - c .before .args .v < 2 ^ 63 = omega arith in
     rw (toZ-pos w64 h, minus-one) (record { sfits = h })
 
 returns-2 : tie.Need-returns-2
 unfolding signed
-returns-2 c = 
+returns-2 c =
     let h : 18446744073709551615 - c .before .args .v < 2 ^ 63 = omega arith in
     rw (toZ-ofZ (sub-result-2 c), toZ-pos w64 h, minus-one, le-ltb _ _ (c .if1 .left))
 

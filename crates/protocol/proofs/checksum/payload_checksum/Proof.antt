@@ -1,16 +1,11 @@
-use mathlib.Core.Path.{_≡_, _∙_, ap}
-use Prim.Native.Nat.{_≤_, _+_, _-_, _%_, _^_}
+use mathlib.Core.Path.{_≡_, _∙_}
+use Prim.Native.Nat.{_≤_, _-_}
 use native.Mathlib.Omega.{arith}
 use lib.ListN.{length, take}
-use borrow.Author.Needs.{needs}
 use Rattle.protocol.specs.Checksum.{sumOf}
 use Rattle.protocol.proofs.ChecksumLaws.{sum-none, sum-step, sum-all}
 use Rattle.protocol.proofs.checksum.payload_checksum.Statement.{statement}
 use Rattle.protocol.proofs.checksum.payload_checksum.Tie as tie
-use Rattle.protocol.proofs.checksum.payload_checksum.Reads as reads
-use Rattle.protocol.proofs.checksum.payload_checksum.Lts as lts
-use Rattle.protocol.proofs.checksum.wide.Reads as wide-reads
-use Rattle.std.proofs.num.wrapping_add_u32.Reads as wrapping-add-u32-reads
 
 abbrev Inv-loop : tie.InvT-loop
 Inv-loop payload sum₀ i₀ sum i = (i ≤ length payload) × (sum ≡ sumOf (take i payload))
@@ -37,7 +32,7 @@ loop-less : tie.Need-loop-less Inv-loop μ-loop
 loop-less c = omega arith
 
 loop-again : tie.Need-loop-again Inv-loop μ-loop
-loop-again c = 
+loop-again c =
     let p = c .before .before .before .before .before .before .args .payload .now in
     let b = c .before .before .before .before .loop in
     (omega arith, cc (sum-step p (b .i) (omega arith), c .wrapping-add-u32 .ensures, c .before .wide .ensures))

@@ -7,10 +7,6 @@ use Rattle.protocol.proofs.FeaturesLaws.{end-fits, any-found, any-none,
 use borrow.Author.Needs.{needs}
 use Rattle.protocol.proofs.features.any_part.Statement.{statement}
 use Rattle.protocol.proofs.features.any_part.Tie as tie
-use Rattle.protocol.proofs.features.any_part.Reads as reads
-use Rattle.protocol.proofs.features.any_part.Lts as lts
-use Rattle.protocol.proofs.features.part_end.Reads as part-end-reads
-use Rattle.protocol.proofs.features.same.Reads as same-reads
 
 abbrev Inv-loop : tie.InvT-loop
 Inv-loop list name at₀ at = (at ≤ length list) × (anySame (partsOf list) name ≡ anySame (partsOf (drop at list)) name)

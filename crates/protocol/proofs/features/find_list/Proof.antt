@@ -7,9 +7,6 @@ use Rattle.protocol.proofs.FeaturesLaws.{after-short, after-found, afte
 use borrow.Author.Needs.{needs}
 use Rattle.protocol.proofs.features.find_list.Statement.{statement}
 use Rattle.protocol.proofs.features.find_list.Tie as tie
-use Rattle.protocol.proofs.features.find_list.Reads as reads
-use Rattle.protocol.proofs.features.find_list.Lts as lts
-use Rattle.protocol.proofs.features.same.Reads as same-reads
 
 abbrev Inv-loop : tie.InvT-loop
 Inv-loop banner i₀ t4 i = (i ≤ length banner) × (afterName banner ≡ afterName (drop i banner))

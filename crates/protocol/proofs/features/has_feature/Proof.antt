@@ -6,10 +6,6 @@ use Rattle.protocol.specs.Features.{Finds}
 use Rattle.protocol.proofs.FeaturesLaws.{feature-found, feature-none}
 use Rattle.protocol.proofs.features.has_feature.Statement.{statement}
 use Rattle.protocol.proofs.features.has_feature.Tie as tie
-use Rattle.protocol.proofs.features.has_feature.Reads as reads
-use Rattle.protocol.proofs.features.has_feature.Lts as lts
-use Rattle.protocol.proofs.features.any_part.Reads as any-part-reads
-use Rattle.protocol.proofs.features.find_list.Reads as find-list-reads
 
 find-list-requires : tie.Need-find-list-requires
 find-list-requires c κs = search needs

@@ -2,8 +2,6 @@ use mathlib.Core.Path.{sym}
 use Rattle.protocol.proofs.FeaturesLaws.{cut-comma, cut-other}
 use Rattle.protocol.proofs.features.is_cut.Statement.{statement}
 use Rattle.protocol.proofs.features.is_cut.Tie as tie
-use Rattle.protocol.proofs.features.is_cut.Reads as reads
-use Rattle.protocol.proofs.features.is_cut.Lts as lts
 
 returns : tie.Need-returns
 returns c = sym (cut-comma (c .before .args .b) (c .if1 .taken))

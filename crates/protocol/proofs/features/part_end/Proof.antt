@@ -7,9 +7,6 @@ use Rattle.protocol.proofs.FeaturesLaws.{part-cut, part-step, part-stop
 use borrow.Author.Needs.{needs}
 use Rattle.protocol.proofs.features.part_end.Statement.{statement}
 use Rattle.protocol.proofs.features.part_end.Tie as tie
-use Rattle.protocol.proofs.features.part_end.Reads as reads
-use Rattle.protocol.proofs.features.part_end.Lts as lts
-use Rattle.protocol.proofs.features.is_cut.Reads as is-cut-reads
 
 abbrev Inv-loop : tie.InvT-loop
 Inv-loop list at i₀ i = (at ≤ i) × (i ≤ length list) × (at + length (firstPart (drop at list)) ≡ i + length (firstPart (drop i list)))

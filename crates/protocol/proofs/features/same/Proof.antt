@@ -7,8 +7,6 @@ use Rattle.protocol.proofs.FeaturesLaws.{same-length, same-step, same-n
 use borrow.Author.Needs.{needs}
 use Rattle.protocol.proofs.features.same.Statement.{statement}
 use Rattle.protocol.proofs.features.same.Tie as tie
-use Rattle.protocol.proofs.features.same.Reads as reads
-use Rattle.protocol.proofs.features.same.Lts as lts
 
 abbrev Inv-loop : tie.InvT-loop
 Inv-loop a b i₀ i = (i ≤ length a) × (length a ≡ length b) × (sameBytes a b ≡ sameBytes (drop i a) (drop i b))

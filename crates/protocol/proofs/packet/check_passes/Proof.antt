@@ -3,9 +3,6 @@ use Rattle.protocol.specs.Packet.{checkPasses}
 use borrow.Author.Needs.{needs}
 use Rattle.protocol.proofs.packet.check_passes.Statement.{statement}
 use Rattle.protocol.proofs.packet.check_passes.Tie as tie
-use Rattle.protocol.proofs.packet.check_passes.Reads as reads
-use Rattle.protocol.proofs.packet.check_passes.Lts as lts
-use Rattle.protocol.proofs.checksum.payload_checksum.Reads as payload-checksum-reads
 
 returns : tie.Need-returns
 unfolding checkPasses

@@ -10,11 +10,6 @@ use Rattle.protocol.proofs.PacketLaws.{lent-check}
 use borrow.Author.Needs.{needs}
 use Rattle.protocol.proofs.packet.decode_known.Statement.{statement}
 use Rattle.protocol.proofs.packet.decode_known.Tie as tie
-use Rattle.protocol.proofs.packet.decode_known.Reads as reads
-use Rattle.protocol.proofs.packet.decode_known.Lts as lts
-use Rattle.protocol.proofs.command.Command.magic.Reads as magic-reads
-use Rattle.protocol.proofs.packet.check_passes.Reads as check-passes-reads
-use Rattle.protocol.proofs.packet.least.Reads as least-reads
 
 magic-requires : tie.Need-magic-requires
 magic-requires c κs = search needs

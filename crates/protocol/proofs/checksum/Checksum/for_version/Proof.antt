@@ -2,8 +2,6 @@ use borrow.Author.Tests.{le-leb, lt-leb}
 use Rattle.protocol.specs.Checksum.{policyFor}
 use Rattle.protocol.proofs.checksum.Checksum.for_version.Statement.{statement}
 use Rattle.protocol.proofs.checksum.Checksum.for_version.Tie as tie
-use Rattle.protocol.proofs.checksum.Checksum.for_version.Reads as reads
-use Rattle.protocol.proofs.checksum.Checksum.for_version.Lts as lts
 
 returns : tie.Need-returns
 unfolding policyFor

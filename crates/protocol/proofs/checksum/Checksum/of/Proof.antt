@@ -2,9 +2,6 @@ use Rattle.protocol.specs.Checksum.{checkFor}
 use borrow.Author.Needs.{needs}
 use Rattle.protocol.proofs.checksum.Checksum.of.Statement.{statement}
 use Rattle.protocol.proofs.checksum.Checksum.of.Tie as tie
-use Rattle.protocol.proofs.checksum.Checksum.of.Reads as reads
-use Rattle.protocol.proofs.checksum.Checksum.of.Lts as lts
-use Rattle.protocol.proofs.checksum.payload_checksum.Reads as payload-checksum-reads
 
 enum-told : tie.Need-enum-told
 enum-told c = search needs

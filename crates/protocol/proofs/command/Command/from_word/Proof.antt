@@ -3,8 +3,6 @@ use Rattle.le.specs.Le.{numOf}
 use Rattle.protocol.proofs.CommandLaws.{none-named}
 use Rattle.protocol.proofs.command.Command.from_word.Statement.{statement}
 use Rattle.protocol.proofs.command.Command.from_word.Tie as tie
-use Rattle.protocol.proofs.command.Command.from_word.Reads as reads
-use Rattle.protocol.proofs.command.Command.from_word.Lts as lts
 
 returns : tie.Need-returns
 unfolding commandOf amongOf commands wordOf lettersOf numOf
@@ -39,7 +37,7 @@ unfolding commandOf amongOf commands wordOf lettersOf numOf
 returns-8 c = rw (c .match .keys8)
 
 returns-9 : tie.Need-returns-9
-returns-9 c = 
+returns-9 c =
     none-named (c .before .args .word) (c .match .rest .0 .0 .0 .0 .0 .0 .0 .1) (c .match .rest .0 .0 .0 .0 .0 .0 .1) (c .match .rest .0 .0 .0 .0 .0 .1) (c .match .rest .0 .0 .0 .0 .1) (c .match .rest .0 .0 .0 .1) (c .match .rest .0 .0 .1) (c .match .rest .0 .1) (c .match .rest .1)
 
 pub from-word-spec : {M : Type 1} → statement M

@@ -4,9 +4,6 @@ use Rattle.protocol.specs.Command.{magicOf}
 use borrow.Author.Needs.{needs}
 use Rattle.protocol.proofs.command.Command.magic.Statement.{statement}
 use Rattle.protocol.proofs.command.Command.magic.Tie as tie
-use Rattle.protocol.proofs.command.Command.magic.Reads as reads
-use Rattle.protocol.proofs.command.Command.magic.Lts as lts
-use Rattle.protocol.proofs.command.Command.word.Reads as word-reads
 
 word-requires : tie.Need-word-requires
 word-requires c κs = search needs

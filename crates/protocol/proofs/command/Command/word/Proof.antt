@@ -3,8 +3,6 @@ use Rattle.le.specs.Le.{numOf}
 use borrow.Author.Needs.{needs}
 use Rattle.protocol.proofs.command.Command.word.Statement.{statement}
 use Rattle.protocol.proofs.command.Command.word.Tie as tie
-use Rattle.protocol.proofs.command.Command.word.Reads as reads
-use Rattle.protocol.proofs.command.Command.word.Lts as lts
 
 enum-told : tie.Need-enum-told
 enum-told c = search needs

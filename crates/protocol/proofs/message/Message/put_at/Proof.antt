@@ -2,9 +2,6 @@ use Rattle.protocol.proofs.MessageLaws.{put-header}
 use borrow.Author.Needs.{needs}
 use Rattle.protocol.proofs.message.Message.put_at.Statement.{statement}
 use Rattle.protocol.proofs.message.Message.put_at.Tie as tie
-use Rattle.protocol.proofs.message.Message.put_at.Reads as reads
-use Rattle.protocol.proofs.message.Message.put_at.Lts as lts
-use Rattle.le.proofs.put_u32.Reads as put-u32-reads
 
 put-u32-requires : tie.Need-put-u32-requires
 put-u32-requires c κs = search needs

@@ -2,9 +2,6 @@ use Rattle.protocol.specs.Message.{messageOf}
 use borrow.Author.Needs.{needs}
 use Rattle.protocol.proofs.message.Message.read.Statement.{statement}
 use Rattle.protocol.proofs.message.Message.read.Tie as tie
-use Rattle.protocol.proofs.message.Message.read.Reads as reads
-use Rattle.protocol.proofs.message.Message.read.Lts as lts
-use Rattle.le.proofs.get_u32.Reads as get-u32-reads
 
 get-u32-requires : tie.Need-get-u32-requires
 get-u32-requires c κs = search needs

@@ -6,11 +6,6 @@ use Rattle.protocol.proofs.PacketLaws.{named-decode}
 use borrow.Author.Needs.{needs}
 use Rattle.protocol.proofs.packet.Packet.decode.Statement.{statement}
 use Rattle.protocol.proofs.packet.Packet.decode.Tie as tie
-use Rattle.protocol.proofs.packet.Packet.decode.Reads as reads
-use Rattle.protocol.proofs.packet.Packet.decode.Lts as lts
-use Rattle.protocol.proofs.command.Command.from_word.Reads as from-word-reads
-use Rattle.protocol.proofs.message.Message.read.Reads as read-reads
-use Rattle.protocol.proofs.packet.decode_known.Reads as decode-known-reads
 
 returns : tie.Need-returns
 unfolding decodeOf

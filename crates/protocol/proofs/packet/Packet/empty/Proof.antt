@@ -2,8 +2,6 @@ use mathlib.Core.Path.{refl}
 use Rattle.protocol.specs.Packet.{emptyPacket}
 use Rattle.protocol.proofs.packet.Packet.empty.Statement.{statement}
 use Rattle.protocol.proofs.packet.Packet.empty.Tie as tie
-use Rattle.protocol.proofs.packet.Packet.empty.Reads as reads
-use Rattle.protocol.proofs.packet.Packet.empty.Lts as lts
 
 returns : tie.Need-returns
 unfolding emptyPacket

@@ -1,4 +1,3 @@
-use native.Mathlib.Omega.{arith}
 use mathlib.Core.Path.{refl}
 use borrow.Author.Tests.{lt-ltb, le-ltb}
 use Rattle.protocol.specs.Checksum.{checkFor}
@@ -7,13 +6,6 @@ use Rattle.protocol.proofs.PacketLaws.{encoded}
 use borrow.Author.Needs.{needs}
 use Rattle.protocol.proofs.packet.Packet.encode.Statement.{statement}
 use Rattle.protocol.proofs.packet.Packet.encode.Tie as tie
-use Rattle.protocol.proofs.packet.Packet.encode.Reads as reads
-use Rattle.protocol.proofs.packet.Packet.encode.Lts as lts
-use Rattle.le.proofs.copy_at.Reads as copy-at-reads
-use Rattle.protocol.proofs.checksum.Checksum.of.Reads as of-reads
-use Rattle.protocol.proofs.command.Command.magic.Reads as magic-reads
-use Rattle.protocol.proofs.command.Command.word.Reads as word-reads
-use Rattle.protocol.proofs.message.Message.put_at.Reads as put-at-reads
 
 cast-if1 : tie.Need-cast-if1
 cast-if1 c = search needs
@@ -52,7 +44,7 @@ same-length c = search needs
 
 returns-3 : tie.Need-returns-3
 unfolding encodeOf messageFor
-returns-3 c = 
+returns-3 c =
     let a = c .before .before .before .before .before .before .before .before .before .before .before .before .before .before .before .args in
     rw (le-ltb _ _ (c .before .before .before .before .before .before .before .before .before .before .before .before .if1 .left), le-ltb _ _ (c .before .before .before .before .before .before .before .before .before .before .before .if2 .left))
     (record { result-is = refl; out-is = encoded (a .out .now) (c .before .before .before .before .before .before .put-at .last .1 .0) (c .before .before .copy-at .last .0) (a .payload .now) _ (a .command) (a .arg0) (a .arg1) (checkFor (a .checksum) (a .payload .now)) (c .before .before .before .before .before .before .before .before .before .before .before .if2 .left) (cc) (c .before .before .before .before .before .before .put-at .ensures) (c .before .before .copy-at .ensures) })

@@ -4,9 +4,6 @@ use Rattle.protocol.specs.Packet.{missingOf}
 use borrow.Author.Needs.{needs}
 use Rattle.protocol.proofs.packet.Packet.missing.Statement.{statement}
 use Rattle.protocol.proofs.packet.Packet.missing.Tie as tie
-use Rattle.protocol.proofs.packet.Packet.missing.Reads as reads
-use Rattle.protocol.proofs.packet.Packet.missing.Lts as lts
-use Rattle.le.proofs.get_u32.Reads as get-u32-reads
 
 sub-result : tie.Need-sub-result
 sub-result c = search needs

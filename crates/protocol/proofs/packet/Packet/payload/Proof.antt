@@ -3,8 +3,6 @@ use Rattle.protocol.specs.Packet.{payloadOf}
 use borrow.Author.Needs.{needs}
 use Rattle.protocol.proofs.packet.Packet.payload.Statement.{statement}
 use Rattle.protocol.proofs.packet.Packet.payload.Tie as tie
-use Rattle.protocol.proofs.packet.Packet.payload.Reads as reads
-use Rattle.protocol.proofs.packet.Packet.payload.Lts as lts
 
 add-end : tie.Need-add-end
 add-end c = search needs

@@ -1,0 +1,62 @@
+use Prim.Native.Nat.{_≤_, _<_, _-_}
+use lib.ListN.{length}
+use borrow.Author.Needs.{needs}
+use Rattle.script.proofs.number.Statement.{statement}
+use Rattle.script.proofs.number.Tie as tie
+
+abbrev Inv-loop : tie.InvT-loop
+Inv-loop s i₀ n₀ i n = (i ≤ length s) × (n < 4294967296)
+
+abbrev μ-loop : tie.MeasureT-loop
+μ-loop s i₀ n₀ i n = length s - i
+
+skip-space-requires : tie.Need-skip-space-requires Inv-loop μ-loop
+skip-space-requires c κs = search needs
+
+loop-holds : tie.Need-loop-holds Inv-loop μ-loop
+loop-holds c = search needs
+
+mul-n : tie.Need-mul-n Inv-loop μ-loop
+mul-n c = search needs
+
+shared-slice-read-digit : tie.Need-shared-slice-read-digit Inv-loop μ-loop
+shared-slice-read-digit c = search needs
+
+digit-requires : tie.Need-digit-requires Inv-loop μ-loop
+digit-requires c κs = search needs
+
+add-n : tie.Need-add-n Inv-loop μ-loop
+add-n c = search needs
+
+add-i : tie.Need-add-i Inv-loop μ-loop
+add-i c = search needs
+
+loop-less : tie.Need-loop-less Inv-loop μ-loop
+loop-less c = search needs
+
+loop-again : tie.Need-loop-again Inv-loop μ-loop
+loop-again c = search needs
+
+cast-result : tie.Need-cast-result Inv-loop μ-loop
+cast-result c = search needs
+
+returns : tie.Need-returns Inv-loop μ-loop
+returns c = search needs
+
+pub number-spec : {M : Type 1} → statement M
+number-spec =
+    tie.close
+    (tie.spec
+    Inv-loop
+    μ-loop
+    skip-space-requires
+    loop-holds
+    mul-n
+    shared-slice-read-digit
+    digit-requires
+    add-n
+    add-i
+    loop-less
+    loop-again
+    cast-result
+    returns)
