@@ -1,3 +1,4 @@
+use native.Mathlib.Omega.{arith}
 use borrow.Author.Tests.{le-leb, lt-leb}
 use Rattle.protocol.specs.Checksum.{policyFor}
 use Rattle.protocol.proofs.checksum.Checksum.for_version.Statement.{statement}
@@ -5,11 +6,11 @@ use Rattle.protocol.proofs.checksum.Checksum.for_version.Tie as tie
 
 returns : tie.Need-returns
 unfolding policyFor
-returns c = rw (le-leb _ _ (c .if1 .taken))
+returns c = rw (le-leb 0x0100_0001 (c .before .args .version) (omega arith))
 
 returns-2 : tie.Need-returns-2
 unfolding policyFor
-returns-2 c = rw (lt-leb _ _ (c .if1 .left))
+returns-2 c = rw (lt-leb 0x0100_0001 (c .before .args .version) (omega arith))
 
 pub for-version-spec : {M : Type 1} → statement M
 for-version-spec = tie.close (tie.spec returns returns-2)
