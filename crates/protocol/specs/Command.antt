@@ -1,5 +1,4 @@
--- The eight commands (protocol.txt, the heads of its sections; SYNC in "historical notes" of the Rust, STLS in its own
--- section). Assumes nothing.
+-- The eight commands (protocol.txt, "message command constants"). Assumes nothing.
 use Prim.Native.Nat.{ℕ}
 use mathlib.Core.Bool.{cond}
 use mathlib.Core.List.{List, [], _∷_}
