@@ -1,0 +1,24 @@
+use Rattle.config.specs.Negotiated.{negotiatedOf}
+use borrow.Author.Needs.{needs}
+use Rattle.config.proofs.negotiated.Negotiated.new.Statement.{statement}
+use Rattle.config.proofs.negotiated.Negotiated.new.Tie as tie
+use Rattle.config.proofs.negotiated.Negotiated.new.Reads as reads
+use Rattle.config.proofs.negotiated.Negotiated.new.Lts as lts
+use Rattle.config.proofs.negotiated.all_of.Reads as all-of-reads
+use Rattle.config.proofs.negotiated.least.Reads as least-reads
+
+least-requires : tie.Need-least-requires
+least-requires c κs = search needs
+
+least-requires-2 : tie.Need-least-requires-2
+least-requires-2 c κs = search needs
+
+all-of-requires : tie.Need-all-of-requires
+all-of-requires c κs = search needs
+
+returns : tie.Need-returns
+unfolding negotiatedOf
+returns c = cc
+
+pub new-spec : {M : Type 1} → statement M
+new-spec = tie.close (tie.spec least-requires least-requires-2 all-of-requires returns)
