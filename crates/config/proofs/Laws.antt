@@ -1,7 +1,7 @@
 -- Laws of the limits. Assumes nothing.
-use mathlib.Core.Path.{_≡_, refl, sym, ap, _∙_}
+use mathlib.Core.Path.{_≡_, refl}
 use mathlib.Core.Bool.{Bool, true, false, _&&_}
-use Prim.Native.Nat.{ℕ, _+_, _≤_, _<_}
+use Prim.Native.Nat.{_+_, _≤_}
 use native.Mathlib.Omega.{arith}
 use borrow.Author.Tests.{leb-true, le-leb}
 use Rattle.config.specs.declared.ConnectionConfig.{ConnectionConfig}
@@ -26,7 +26,7 @@ within c e =
       one-byte = leb-true _ _ (e₂ .1);
       most-payload = leb-true _ _ (e₃ .1);
       most-rx = leb-true _ _ (e₄ .1);
-      most-credit = leb-true _ _ (e₅ .1)
+      most-credit = leb-true _ _ (e₅ .1);
     }
 
 pub within-holds : (c : ConnectionConfig) → Within c → withinLimits c ≡ true
@@ -57,7 +57,7 @@ sound c w =
       watermark-below = omega arith;
       credit-fits = omega arith;
       payload-fits = omega arith;
-      cap-small = omega arith
+      cap-small = omega arith;
     }
 
 -- a ceiling with a whole payload is one over the cap

@@ -17,7 +17,7 @@ negotiatedOf host device a b c =
       «max_payload» = min b 1_048_576;
       «protocol_version» = min a 0x0100_0001;
       config = c;
-      «delayed_ack» = both host device
+      «delayed_ack» = both host device;
     }
 
 -- the policy of every channel

@@ -18,7 +18,9 @@ pub struct ConnectionConfig {
 
 impl ConnectionConfig {
     pub const MAX_CHANNELS: usize = 64;
+
     pub const MAX_RX_PER_CHANNEL: usize = 16_777_216;
+
     pub const MAX_INITIAL_ACK_BYTES: u32 = 2_147_483_647;
 
     // Whether every limit of document 01 is kept.

@@ -45,7 +45,13 @@ fn all_of(a: bool, b: bool) -> bool
 
 impl Negotiated {
     // From the device's CNXN, whose arguments are its version and its maximum payload.
-    pub fn new(host_delayed_ack: bool, device_delayed_ack: bool, arg0: u32, arg1: u32, config: ConnectionConfig) -> Negotiated
+    pub fn new(
+        host_delayed_ack: bool,
+        device_delayed_ack: bool,
+        arg0: u32,
+        arg1: u32,
+        config: ConnectionConfig,
+    ) -> Negotiated
         ensures { λ r. ⌜ r ≡ negotiatedOf «host_delayed_ack» «device_delayed_ack» arg0 arg1 config ⌝ }
     {
         Negotiated {

@@ -106,12 +106,11 @@ length-appended share head b p room =
     length-put (slid share head b) b p (omega arith) ∙ n))
 
 -- after an append the run still lies in the share
-pub head-appended : (share : List ℕ) (head b : ℕ) (p : List ℕ) → Room (length share) head b (length p)
-    → appendedHead (length share) head b (length p) + (b + length p) ≤ length share
+pub head-appended : (len head b k : ℕ) → Room len head b k → appendedHead len head b k + (b + k) ≤ len
 unfolding appendedHead fitsBehind
-head-appended share head b p room =
-    by-test (leb (head + b + length p) (length share))
-    (λ t. rw t (omega (arith, leb-true (head + b + length p) (length share) t)))
+head-appended len head b k room =
+    by-test (leb (head + b + k) len)
+    (λ t. rw t (omega (arith, leb-true (head + b + k) len t)))
     (λ t. rw t (omega arith))
 
 -- after a take the buffered bytes are the rest

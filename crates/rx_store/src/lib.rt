@@ -4,7 +4,7 @@ ghost use mathlib.Core.Path.{_≡_};
 ghost use Prim.Native.Nat.{_+_, _≤_};
 ghost use lib.ListN.{length};
 ghost use Rattle.le.specs.Le.{part, put};
-ghost use Rattle.rx_store.specs.RxStore.{Room, slid, takenHead, Appends};
+ghost use Rattle.rx_store.specs.RxStore.{Room, slid, appendedHead, takenHead, Appends};
 
 // The run, moved down to the start of the share.
 fn move_down(share: &mut [u8], head: usize, n: usize)
@@ -30,6 +30,18 @@ pub fn append(share: &mut [u8], head: usize, buffered: usize, payload: &[u8]) ->
     }
     move_down(share, head, buffered);
     le::copy_at(share, buffered, payload);
+    0
+}
+
+// Where `append` leaves the run in a share of this length, for a payload of k bytes.
+pub fn appended_head(len: usize, head: usize, buffered: usize, k: usize) -> usize
+    requires { ⌜ Room len head buffered k ⌝ }
+    ensures { λ r. ⌜ r ≡ appendedHead len head buffered k ⌝ }
+{
+    let end = head + buffered;
+    if k <= len - end {
+        return head;
+    }
     0
 }
 

@@ -2,20 +2,15 @@ use mir.Facts.{toZ-ofZ, fits-natAbs}
 use Rattle.saturate.proofs.Laws.{below-one, not-below-one}
 use Rattle.saturate.proofs.positive.Statement.{statement}
 use Rattle.saturate.proofs.positive.Tie as tie
-use Rattle.saturate.proofs.positive.Reads as reads
-use Rattle.saturate.proofs.positive.Lts as lts
 
--- src/lib.rt:23:9
 returns : tie.Need-returns
 returns c = let e = toZ-ofZ (c .before .fits .b) in below-one (c .before .args .b) (rw e at (c .if1 .taken))
 
--- src/lib.rt:25:5
 cast-result : tie.Need-cast-result
 cast-result c =
     let e = toZ-ofZ (c .before .fits .b) in
     rw e (not-below-one (c .before .args .b) (rw e at (c .if1 .left)) .0, fits-natAbs tt (c .before .fits .b))
 
--- src/lib.rt:19:1
 returns-2 : tie.Need-returns-2
 returns-2 c =
     let e = toZ-ofZ (c .before .fits .b) in

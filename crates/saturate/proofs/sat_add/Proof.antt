@@ -1,16 +1,8 @@
-use mathlib.Core.Path.{_≡_, refl, sym, ap, _∙_}
-use mathlib.Core.Bool.{true, false}
-use lib.IntN.{ℤ, pos, negsuc, _+ℤ_, _-ℤ_}
-use lib.Signed.{ltZ}
-use mir.Syntax.{w64}
-use mir.Val.{SFits, toZ, ofZ}
+use mathlib.Core.Path.{sym, _∙_}
 use mir.Facts.{toZ-ofZ}
-use Rattle.saturate.specs.Saturate.{clamp}
 use Rattle.saturate.proofs.Laws.{clamp-fits, least-fits, most-fits, low, not-low, high, not-high}
 use Rattle.saturate.proofs.sat_add.Statement.{statement}
 use Rattle.saturate.proofs.sat_add.Tie as tie
-use Rattle.saturate.proofs.sat_add.Reads as reads
-use Rattle.saturate.proofs.sat_add.Lts as lts
 
 sub-least : tie.Need-sub-least
 sub-least c =

@@ -3,8 +3,6 @@ use Rattle.saturate.specs.Saturate.{satSum}
 use borrow.Author.Needs.{needs}
 use Rattle.saturate.proofs.sat_sum.Statement.{statement}
 use Rattle.saturate.proofs.sat_sum.Tie as tie
-use Rattle.saturate.proofs.sat_sum.Reads as reads
-use Rattle.saturate.proofs.sat_sum.Lts as lts
 
 sub-if1 : tie.Need-sub-if1
 sub-if1 c = search needs

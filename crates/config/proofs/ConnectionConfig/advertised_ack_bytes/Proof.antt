@@ -3,10 +3,6 @@ use Rattle.config.specs.Config.{openingCredit}
 use borrow.Author.Needs.{needs}
 use Rattle.config.proofs.ConnectionConfig.advertised_ack_bytes.Statement.{statement}
 use Rattle.config.proofs.ConnectionConfig.advertised_ack_bytes.Tie as tie
-use Rattle.config.proofs.ConnectionConfig.advertised_ack_bytes.Reads as reads
-use Rattle.config.proofs.ConnectionConfig.advertised_ack_bytes.Lts as lts
-use Rattle.config.proofs.ConnectionConfig.rx_ceiling.Reads as rx-ceiling-reads
-use Rattle.saturate.proofs.least.Reads as least-reads
 
 rx-ceiling-requires : tie.Need-rx-ceiling-requires
 rx-ceiling-requires c κs = search needs

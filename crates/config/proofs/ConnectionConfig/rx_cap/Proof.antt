@@ -3,8 +3,6 @@ use Rattle.config.specs.Config.{capOf}
 use borrow.Author.Needs.{needs}
 use Rattle.config.proofs.ConnectionConfig.rx_cap.Statement.{statement}
 use Rattle.config.proofs.ConnectionConfig.rx_cap.Tie as tie
-use Rattle.config.proofs.ConnectionConfig.rx_cap.Reads as reads
-use Rattle.config.proofs.ConnectionConfig.rx_cap.Lts as lts
 
 cast-payload : tie.Need-cast-payload
 cast-payload c = search needs

@@ -3,9 +3,6 @@ use Rattle.config.specs.Config.{capOf, ceilingOf}
 use borrow.Author.Needs.{needs}
 use Rattle.config.proofs.ConnectionConfig.rx_ceiling.Statement.{statement}
 use Rattle.config.proofs.ConnectionConfig.rx_ceiling.Tie as tie
-use Rattle.config.proofs.ConnectionConfig.rx_ceiling.Reads as reads
-use Rattle.config.proofs.ConnectionConfig.rx_ceiling.Lts as lts
-use Rattle.config.proofs.ConnectionConfig.rx_cap.Reads as rx-cap-reads
 
 rx-cap-requires : tie.Need-rx-cap-requires
 rx-cap-requires c κs = search needs

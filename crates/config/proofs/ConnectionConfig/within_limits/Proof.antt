@@ -3,8 +3,6 @@ use borrow.Author.Tests.{le-leb, lt-leb}
 use Rattle.config.specs.Config.{withinLimits}
 use Rattle.config.proofs.ConnectionConfig.within_limits.Statement.{statement}
 use Rattle.config.proofs.ConnectionConfig.within_limits.Tie as tie
-use Rattle.config.proofs.ConnectionConfig.within_limits.Reads as reads
-use Rattle.config.proofs.ConnectionConfig.within_limits.Lts as lts
 
 returns : tie.Need-returns
 unfolding withinLimits

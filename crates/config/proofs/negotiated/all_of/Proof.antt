@@ -1,8 +1,6 @@
 use Rattle.config.specs.Negotiated.{both}
 use Rattle.config.proofs.negotiated.all_of.Statement.{statement}
 use Rattle.config.proofs.negotiated.all_of.Tie as tie
-use Rattle.config.proofs.negotiated.all_of.Reads as reads
-use Rattle.config.proofs.negotiated.all_of.Lts as lts
 
 returns : tie.Need-returns
 unfolding both

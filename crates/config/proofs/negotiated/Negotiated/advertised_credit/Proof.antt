@@ -2,9 +2,6 @@ use Rattle.config.specs.Negotiated.{creditOf}
 use borrow.Author.Needs.{needs}
 use Rattle.config.proofs.negotiated.Negotiated.advertised_credit.Statement.{statement}
 use Rattle.config.proofs.negotiated.Negotiated.advertised_credit.Tie as tie
-use Rattle.config.proofs.negotiated.Negotiated.advertised_credit.Reads as reads
-use Rattle.config.proofs.negotiated.Negotiated.advertised_credit.Lts as lts
-use Rattle.config.proofs.ConnectionConfig.advertised_ack_bytes.Reads as advertised-ack-bytes-reads
 
 advertised-ack-bytes-requires : tie.Need-advertised-ack-bytes-requires
 advertised-ack-bytes-requires c κs = search needs

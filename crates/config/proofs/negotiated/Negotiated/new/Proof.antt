@@ -2,10 +2,6 @@ use Rattle.config.specs.Negotiated.{negotiatedOf}
 use borrow.Author.Needs.{needs}
 use Rattle.config.proofs.negotiated.Negotiated.new.Statement.{statement}
 use Rattle.config.proofs.negotiated.Negotiated.new.Tie as tie
-use Rattle.config.proofs.negotiated.Negotiated.new.Reads as reads
-use Rattle.config.proofs.negotiated.Negotiated.new.Lts as lts
-use Rattle.config.proofs.negotiated.all_of.Reads as all-of-reads
-use Rattle.config.proofs.negotiated.least.Reads as least-reads
 
 least-requires : tie.Need-least-requires
 least-requires c κs = search needs

@@ -2,10 +2,6 @@ use Rattle.config.specs.Negotiated.{policyOf}
 use borrow.Author.Needs.{needs}
 use Rattle.config.proofs.negotiated.Negotiated.rx_policy.Statement.{statement}
 use Rattle.config.proofs.negotiated.Negotiated.rx_policy.Tie as tie
-use Rattle.config.proofs.negotiated.Negotiated.rx_policy.Reads as reads
-use Rattle.config.proofs.negotiated.Negotiated.rx_policy.Lts as lts
-use Rattle.config.proofs.ConnectionConfig.rx_cap.Reads as rx-cap-reads
-use Rattle.config.proofs.ConnectionConfig.rx_watermark.Reads as rx-watermark-reads
 
 rx-cap-requires : tie.Need-rx-cap-requires
 rx-cap-requires c κs = search needs

@@ -1,0 +1,54 @@
+use mathlib.Core.Bool.{true}
+use mathlib.Core.Path.{sym, ap, _∙_}
+use mir.Syntax.{w64}
+use mir.Facts.{toZ-pos}
+use borrow.Author.Needs.{needs}
+use native.Mathlib.Omega.{arith}
+use Prim.Native.Nat.{_<_, _^_}
+use lib.IntN.{pos}
+use Rattle.slot.specs.declared.ChannelState.the-variants.{Open}
+use Rattle.slot.specs.Slot.{acceptedSlot, openingSlot, withState, withRemote, withSending}
+use Rattle.slot.proofs.Laws.{cond-true, cond-false}
+use Rattle.slot.proofs.ChannelSlot.accepted.Statement.{statement}
+use Rattle.slot.proofs.ChannelSlot.accepted.Tie as tie
+
+opening-requires : tie.Need-opening-requires
+opening-requires c κs = search needs
+
+with-remote-requires : tie.Need-with-remote-requires
+with-remote-requires c κs = search needs
+
+with-state-requires : tie.Need-with-state-requires
+with-state-requires c κs = search needs
+
+cast-with-sending : tie.Need-cast-with-sending
+cast-with-sending c = search needs
+
+with-sending-requires : tie.Need-with-sending-requires
+with-sending-requires c κs = search needs
+
+returns : tie.Need-returns
+unfolding acceptedSlot
+returns c =
+    let h : c .before .before .before .before .before .before .before .args .credit < 2 ^ 63 = omega arith in
+    rw (toZ-pos w64 h) at (c .with-sending .ensures)
+    ∙ ap (λ x. withSending x true (pos (c .before .before .before .before .before .before .before .args .credit))) (c .before .before .with-state .ensures ∙ ap (λ x. withState x Open) (c .before .before .before .with-remote .ensures ∙ ap (λ x. withRemote x (c .before .before .before .before .before .before .before .args .ids .remote)) (c .before .before .before .before .opening .ensures)))
+    ∙ ap (withSending (withState (withRemote (openingSlot (c .before .before .before .before .before .before .before .args .ids .local)) (c .before .before .before .before .before .before .before .args .ids .remote)) Open) true) (sym (cond-true _ _ _ (c .before .if1 .taken)))
+
+returns-2 : tie.Need-returns-2
+unfolding acceptedSlot openingSlot
+returns-2 c =
+    (c .before .with-state .ensures ∙ ap (λ x. withState x Open) (c .before .before .with-remote .ensures ∙ ap (λ x. withRemote x (c .before .before .before .before .before .before .args .ids .remote)) (c .before .before .before .opening .ensures)))
+    ∙ ap (withSending (withState (withRemote (openingSlot (c .before .before .before .before .before .before .args .ids .local)) (c .before .before .before .before .before .before .args .ids .remote)) Open) true) (sym (cond-false _ _ _ (c .if1 .left)))
+
+pub accepted-spec : {M : Type 1} → statement M
+accepted-spec =
+    tie.close
+    (tie.spec
+    opening-requires
+    with-remote-requires
+    with-state-requires
+    cast-with-sending
+    with-sending-requires
+    returns
+    returns-2)

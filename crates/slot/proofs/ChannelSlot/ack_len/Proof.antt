@@ -1,0 +1,33 @@
+use native.Mathlib.Omega.{arith}
+use borrow.Author.Tests.{eq-eqb, ne-eqb, lt-ltb, le-ltb}
+use mathlib.Core.Path.{ap, _∙_}
+use Rattle.slot.specs.Slot.{ackLenOf, someLen}
+use borrow.Author.Needs.{needs}
+use Rattle.slot.proofs.ChannelSlot.ack_len.Statement.{statement}
+use Rattle.slot.proofs.ChannelSlot.ack_len.Tie as tie
+
+returns : tie.Need-returns
+unfolding ackLenOf
+returns c = rw (eq-eqb (c .before .before .args .self .unacked) 0 (c .if1 .taken))
+
+least-requires : tie.Need-least-requires
+least-requires c κs = search needs
+
+some-len-requires : tie.Need-some-len-requires
+some-len-requires c κs = search needs
+
+returns-2 : tie.Need-returns-2
+unfolding ackLenOf
+returns-2 c = rw (ne-eqb (c .before .before .before .before .before .args .self .unacked) 0 (c .before .before .before .if1 .left), c .before .before .if2 .taken) (c .some-len .ensures ∙ ap someLen (c .before .least .ensures))
+
+returns-3 : tie.Need-returns-3
+unfolding ackLenOf
+returns-3 c = rw (ne-eqb (c .before .before .before .before .before .args .self .unacked) 0 (c .before .before .before .if1 .left), c .before .before .if2 .left, lt-ltb (c .before .before .before .before .before .args .remaining) (c .before .before .before .before .before .args .policy .watermark) (omega arith))
+
+returns-4 : tie.Need-returns-4
+unfolding ackLenOf
+returns-4 c = rw (ne-eqb (c .before .before .before .before .before .args .self .unacked) 0 (c .before .before .before .if1 .left), c .before .before .if2 .left, le-ltb (c .before .before .before .before .before .args .remaining) (c .before .before .before .before .before .args .policy .watermark) (omega arith))
+
+pub ack-len-spec : {M : Type 1} → statement M
+ack-len-spec =
+    tie.close (tie.spec returns least-requires some-len-requires returns-2 returns-3 returns-4)

@@ -1,0 +1,80 @@
+use Rattle.slot.proofs.Laws.{wrote-now, wrote-hold}
+use native.Mathlib.Omega.{arith}
+use borrow.Author.Tests.{lt-ltb}
+use mathlib.Core.Path.{sym, _∙_}
+use Prim.Native.Nat.{_+_}
+use Rattle.slot.specs.Slot.{heldOf, wroteOf}
+use borrow.Author.Needs.{needs}
+use Rattle.slot.proofs.ChannelSlot.apply_write.Statement.{statement}
+use Rattle.slot.proofs.ChannelSlot.apply_write.Tie as tie
+
+is-opening-requires : tie.Need-is-opening-requires
+is-opening-requires c κs = search needs
+
+returns : tie.Need-returns
+unfolding wroteOf
+returns c = rw (sym (c .before .is-opening .ensures) ∙ c .if1 .taken)
+
+held-requires : tie.Need-held-requires
+held-requires c κs = search needs
+
+sub-if2 : tie.Need-sub-if2
+unfolding heldOf
+sub-if2 c = omega arith
+
+returns-2 : tie.Need-returns-2
+unfolding wroteOf heldOf
+returns-2 c = rw (sym (c .before .before .before .before .is-opening .ensures) ∙ c .before .before .before .if1 .left, lt-ltb (c .before .before .before .before .before .args .policy .«rx_cap») (heldOf (c .before .before .before .before .before .args .self) + c .before .before .before .before .before .args .n) (omega arith))
+
+mul-appended-head : tie.Need-mul-appended-head
+mul-appended-head c = search needs
+
+appended-head-requires : tie.Need-appended-head-requires
+unfolding heldOf
+appended-head-requires c κs = record { run-fits = omega arith; more-fits = omega arith }
+
+add-buffered : tie.Need-add-buffered
+add-buffered c = search needs
+
+add-acks-now : tie.Need-add-acks-now
+add-acks-now c = search needs
+
+acks-now-requires : tie.Need-acks-now-requires
+acks-now-requires c κs = search needs
+
+with-numbers-requires : tie.Need-with-numbers-requires
+with-numbers-requires c κs = search needs
+
+returns-3 : tie.Need-returns-3
+unfolding heldOf
+returns-3 c = wrote-now (c .before .before .before .before .before .before .before .before .before .before .before .args .self) (c .before .before .before .before .before .before .before .before .before .before .before .args .policy) (c .before .before .before .before .before .before .before .before .before .before .before .args .n) (c .with-numbers .result) (c .before .before .before .before .appended-head .result) (c .before .before .before .before .before .before .before .before .held .result) (c .before .before .acks-now .result) (sym (c .before .before .before .before .before .before .before .before .before .before .is-opening .ensures) ∙ c .before .before .before .before .before .before .before .before .before .if1 .left) (omega arith) (c .before .before .before .before .before .before .before .before .held .ensures) (c .before .before .acks-now .ensures) (c .before .before .before .before .appended-head .ensures) (c .before .if3 .taken) (c .with-numbers .ensures)
+
+sat-sum-requires : tie.Need-sat-sum-requires
+sat-sum-requires c κs = search needs
+
+with-numbers-requires-2 : tie.Need-with-numbers-requires-2
+with-numbers-requires-2 c κs = search needs
+
+returns-4 : tie.Need-returns-4
+unfolding heldOf
+returns-4 c = wrote-hold (c .before .before .before .before .before .before .before .before .before .before .before .before .args .self) (c .before .before .before .before .before .before .before .before .before .before .before .before .args .policy) (c .before .before .before .before .before .before .before .before .before .before .before .before .args .n) (c .with-numbers2 .result) (c .before .before .before .before .before .appended-head .result) (c .before .before .before .before .before .before .before .before .before .held .result) (c .before .before .before .acks-now .result) (sym (c .before .before .before .before .before .before .before .before .before .before .before .is-opening .ensures) ∙ c .before .before .before .before .before .before .before .before .before .before .if1 .left) (omega arith) (c .before .before .before .before .before .before .before .before .before .held .ensures) (c .before .before .before .acks-now .ensures) (c .before .before .before .before .before .appended-head .ensures) (c .before .sat-sum .result) (c .before .before .if3 .left) (c .before .sat-sum .ensures) (c .with-numbers2 .ensures)
+
+pub apply-write-spec : {M : Type 1} → statement M
+apply-write-spec =
+    tie.close
+    (tie.spec
+    is-opening-requires
+    returns
+    held-requires
+    sub-if2
+    returns-2
+    mul-appended-head
+    appended-head-requires
+    add-buffered
+    add-acks-now
+    acks-now-requires
+    with-numbers-requires
+    returns-3
+    sat-sum-requires
+    with-numbers-requires-2
+    returns-4)

@@ -1,0 +1,52 @@
+use Rattle.slot.specs.declared.ChannelSlot.{ChannelSlot}
+use Rattle.slot.specs.declared.PendingAck.the-variants.{Len}
+use Rattle.slot.proofs.Laws.{cond-true, cond-false}
+use native.Mathlib.Omega.{arith}
+use borrow.Author.Tests.{le-leb, lt-leb}
+use mathlib.Core.Path.{sym, ap, _∙_}
+use Rattle.slot.specs.Slot.{deliveredOf, acked}
+use borrow.Author.Needs.{needs}
+use Rattle.slot.proofs.ChannelSlot.deliver.Statement.{statement}
+use Rattle.slot.proofs.ChannelSlot.deliver.Tie as tie
+
+some-len-requires : tie.Need-some-len-requires
+some-len-requires c κs = search needs
+
+returns : tie.Need-returns
+unfolding deliveredOf
+returns c = rw (c .before .before .if1 .taken, c .before .if2 .taken, c .some-len .ensures)
+
+returns-2 : tie.Need-returns-2
+unfolding deliveredOf
+returns-2 c = rw (c .before .if1 .taken, c .if2 .left)
+
+returns-3 : tie.Need-returns-3
+unfolding deliveredOf
+returns-3 c = rw (c .before .before .before .if1 .left, le-leb (c .before .before .before .before .args .policy .watermark) (c .before .before .before .before .args .self .buffered) (omega arith))
+
+with-numbers-requires : tie.Need-with-numbers-requires
+with-numbers-requires c κs = search needs
+
+returns-4 : tie.Need-returns-4
+unfolding deliveredOf
+returns-4 c =
+    ap (λ (x : ChannelSlot). acked x (Len (c .before .before .before .before .before .before .args .self .unacked))) (c .with-numbers .ensures)
+    ∙ sym (cond-true _ _ _ (c .before .if4 .taken))
+    ∙ sym (cond-false _ _ _ (lt-leb (c .before .before .before .before .before .before .args .policy .watermark) (c .before .before .before .before .before .before .args .self .buffered) (omega arith)))
+    ∙ sym (cond-false _ _ _ (c .before .before .before .before .before .if1 .left))
+
+returns-5 : tie.Need-returns-5
+unfolding deliveredOf
+returns-5 c = rw (c .before .before .before .before .if1 .left, lt-leb (c .before .before .before .before .before .args .policy .watermark) (c .before .before .before .before .before .args .self .buffered) (omega arith), c .if4 .left)
+
+pub deliver-spec : {M : Type 1} → statement M
+deliver-spec =
+    tie.close
+    (tie.spec
+    some-len-requires
+    returns
+    returns-2
+    returns-3
+    with-numbers-requires
+    returns-4
+    returns-5)
