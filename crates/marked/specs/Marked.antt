@@ -1,5 +1,6 @@
 -- Document 01's marked cases: for each, what the definitions give and what the document says. Assumes nothing.
-use Prim.Native.Nat.{ℕ}
+use Prim.Native.Nat.{ℕ, suc}
+use lib.IntN.{ℤ, pos, negsuc}
 use mathlib.Core.Bool.{Bool, true, false}
 use mathlib.Core.List.{List, [], _∷_, _++_}
 use lib.ListN.{take}
@@ -10,6 +11,22 @@ use Rattle.protocol.specs.declared.packet.Decoded.{Decoded}
 use Rattle.protocol.specs.Checksum.{checkFor}
 use Rattle.protocol.specs.Features.{hasFeature}
 use Rattle.protocol.specs.Packet.{decodeOf, numberOf, usedOf, frameBytes}
+use Rattle.config.specs.declared.ConnectionConfig.{ConnectionConfig}
+use Rattle.config.specs.declared.negotiated.RxPolicy.{RxPolicy}
+use Rattle.config.specs.Config.{capOf, ceilingOf, watermarkOf, openingCredit}
+use Rattle.slot.specs.declared.ChannelSlot.{ChannelSlot}
+use Rattle.slot.specs.declared.Credit.{Credit}
+use Rattle.slot.specs.declared.Credit.the-variants.{Of, Short}
+use Rattle.slot.specs.declared.PendingAck.{PendingAck}
+use Rattle.slot.specs.declared.PendingAck.the-variants.{Len, Nothing}
+use Rattle.slot.specs.declared.Readied.{Readied}
+use Rattle.slot.specs.declared.Readied.the-variants.{Slot, Short as ReadyShort}
+use Rattle.slot.specs.declared.Settled.{Settled}
+use Rattle.slot.specs.declared.Taken.{Taken}
+use Rattle.slot.specs.declared.Taken.the-variants.{Data, Nothing as NothingTaken, Closed as ClosedTaken}
+use Rattle.slot.specs.declared.Wrote.{Wrote}
+use Rattle.slot.specs.Numbers.{creditNumber, readiedNumber, decisionNumber, takenNumber}
+use Rattle.slot.specs.Slot.{creditOf, acceptedSlot, readyOf, wroteOf, settledOf, takenOf}
 
 -- a row: the case, what the definitions give, and what the document says
 pub record Row : Type 0 where
@@ -61,6 +78,55 @@ okaySaid check =
     ++ check
     ++ 0xb0 ∷ 0xb4 ∷ 0xbe ∷ 0xa6 ∷ 5 ∷ 0 ∷ 0 ∷ 0 ∷ []
 
+-- M5's limits: max_payload 4,096, initial 32,768, max_rx 16,384
+abbrev limits : ConnectionConfig
+limits = record { channels = 1; «max_payload» = 4096; «max_rx_per_channel» = 16384; «initial_ack_bytes» = 32768 }
+
+-- a signed number: 1 below 0 and 0 otherwise, and its size
+abbrev sized : ℤ → List ℕ
+sized (pos n) = 0 ∷ n ∷ []
+sized (negsuc n) = 1 ∷ suc n ∷ []
+
+-- a credit: its answer's number, and its value
+abbrev credit : Credit → List ℕ
+credit (Of z) = creditNumber (Of z) ∷ sized z
+credit Short = creditNumber Short ∷ []
+
+-- delayed, cap 10
+abbrev ten : RxPolicy
+ten = record { delayed = true; «rx_cap» = 10; watermark = 10 }
+
+-- an open channel, local 1, remote 7
+abbrev channel : ChannelSlot
+channel = acceptedSlot (record { local = record { 0 = 1 }; remote = record { 0 = 7 } }) 1 ten
+
+-- what an OKAY leaves of the budget, which is 1 before it
+abbrev budget : Readied → List ℕ
+budget (Slot s) = readiedNumber (Slot s) ∷ sized (s .«send_budget»)
+budget ReadyShort = readiedNumber ReadyShort ∷ []
+
+-- M8, step by step: a WRTE of 6, a settling of 4
+abbrev six : Wrote
+six = wroteOf channel ten 6
+
+abbrev four : Settled
+four = settledOf (six .slot) ten 4
+
+-- an acknowledgement's length
+abbrev length-of : PendingAck → List ℕ
+length-of (Len n) = n ∷ []
+length-of Nothing = []
+
+-- what a WRTE does: its answer's number, and what is then unacknowledged
+abbrev wrote : Wrote → List ℕ
+wrote w = decisionNumber (w .decision) ∷ w .slot .unacked ∷ []
+
+-- what a take does: its answer's number, its length, and what is then set aside
+abbrev took : Taken → List ℕ
+took (Data s n) = takenNumber (Data s n) ∷ n ∷ s .settled ∷ []
+took NothingTaken = takenNumber NothingTaken ∷ []
+took (ClosedTaken e) = takenNumber (ClosedTaken e) ∷ []
+
 unfoldable pub table : List Row
 table =
     row 1 (answer (decodeOf (take 23 (okay 0)) 4096)) waiting
@@ -71,5 +137,14 @@ table =
     ∷ row 4 (answer (decodeOf (write 258) 4096)) (0 ∷ 27 ∷ [])
     ∷ row 4 (answer (decodeOf (write 0) 4096)) (0 ∷ 27 ∷ [])
     ∷ row 4 (answer (decodeOf (write 257) 4096)) (4 ∷ 27 ∷ [])
+    ∷ row 5 (capOf limits ∷ ceilingOf limits ∷ watermarkOf limits ∷ openingCredit limits ∷ []) (16384 ∷ 12289 ∷ 12289 ∷ 12289 ∷ [])
+    ∷ row 6 (credit (creditOf (255 ∷ 255 ∷ 255 ∷ 255 ∷ []))) (0 ∷ 1 ∷ 1 ∷ [])
+    ∷ row 6 (budget (readyOf channel (255 ∷ 255 ∷ 255 ∷ 255 ∷ []) ten)) (0 ∷ 0 ∷ 0 ∷ [])
+    ∷ row 6 (budget (readyOf channel (255 ∷ 255 ∷ 255 ∷ []) ten)) (5 ∷ [])
+    ∷ row 8 (wrote six) (0 ∷ 6 ∷ [])
+    ∷ row 8 (four .slot .unacked ∷ length-of (four .ack)) (2 ∷ 4 ∷ [])
+    ∷ row 8 (wrote (wroteOf (four .slot) ten 9)) (11 ∷ 2 ∷ [])
+    ∷ row 8 (wrote (wroteOf (four .slot) ten 8)) (0 ∷ 10 ∷ [])
+    ∷ row 8 (took (takenOf (wroteOf (four .slot) ten 8 .slot) 3)) (0 ∷ 3 ∷ 1 ∷ [])
     ∷ row 10 (flag (hasFeature identity (98 ∷ []))) (flag true)
     ∷ []

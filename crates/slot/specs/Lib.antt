@@ -1,2 +1,3 @@
 pub mod Ids
+pub mod Numbers
 pub mod Slot

@@ -1,0 +1,45 @@
+-- Document 01's numbers of a slot's answers: a refusal's own, 0 for done, 101 for nothing there. Assumes nothing.
+use Prim.Native.Nat.{ℕ}
+use Rattle.slot.specs.declared.Credit.{Credit}
+use Rattle.slot.specs.declared.Credit.the-variants.{Of, Short}
+use Rattle.slot.specs.declared.ChannelFault.{ChannelFault}
+use Rattle.slot.specs.declared.ChannelFault.the-variants.{RxOverflow, ShortReadyPayload, UnexpectedCommand}
+use Rattle.slot.specs.declared.ChannelError.{ChannelError}
+use Rattle.slot.specs.declared.ChannelError.the-variants.{Closed, Fault}
+use Rattle.slot.specs.declared.Readied.{Readied}
+use Rattle.slot.specs.declared.Readied.the-variants.{Slot, Short as ReadyShort}
+use Rattle.slot.specs.declared.AckDecision.{AckDecision}
+use Rattle.slot.specs.declared.AckDecision.the-variants.{Now, Hold, Overflow, Early}
+use Rattle.slot.specs.declared.Taken.{Taken}
+use Rattle.slot.specs.declared.Taken.the-variants.{Data, Nothing as NothingTaken, Closed as ClosedTaken}
+
+-- 5: a credit under four bytes
+unfoldable pub creditNumber : Credit → ℕ
+creditNumber (Of z) = 0
+creditNumber Short = 5
+
+unfoldable pub readiedNumber : Readied → ℕ
+readiedNumber (Slot s) = 0
+readiedNumber ReadyShort = 5
+
+-- 11: over the cap; 6: a WRTE for an open still waiting
+unfoldable pub decisionNumber : AckDecision → ℕ
+decisionNumber (Now n) = 0
+decisionNumber Hold = 0
+decisionNumber Overflow = 11
+decisionNumber Early = 6
+
+unfoldable pub faultNumber : ChannelFault → ℕ
+faultNumber RxOverflow = 11
+faultNumber ShortReadyPayload = 5
+faultNumber UnexpectedCommand = 6
+
+-- 10: closed
+unfoldable pub errorNumber : ChannelError → ℕ
+errorNumber Closed = 10
+errorNumber (Fault f) = faultNumber f
+
+unfoldable pub takenNumber : Taken → ℕ
+takenNumber (Data s n) = 0
+takenNumber NothingTaken = 101
+takenNumber (ClosedTaken e) = errorNumber e
