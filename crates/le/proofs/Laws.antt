@@ -124,6 +124,13 @@ read-halves l a h =
     let e = sym (part-join l a 4 4) in
     rw (e, four l a (omega arith), four l (a + 4) (omega arith)) (omega arith)
 
+-- one store
+pub put-byte : (d : List ℕ) (at v : ℕ) → at + 1 ≤ length d → v < 256 → set d at v ≡ put d at (bytesOf 1 v)
+unfolding put bytesOf
+put-byte d at v h k =
+    let e : v % 256 ≡ v = omega arith in
+    rw e (sets-eq (v ∷ []) d at h)
+
 -- four stores are one
 pub put-four : (d : List ℕ) (at v : ℕ) → at + 4 ≤ length d
     → set (set (set (set d at (v % 256)) (at + 1) (v / 256 % 256)) (at + 2) (v / 65536 % 256)) (at + 3) (v / 16777216 % 256) ≡ put d at (bytesOf 4 v)

@@ -131,3 +131,26 @@ part-put-above l a ys b n h k =
     let x : drop b (f ++ drop m l) ≡ drop b l =
     ap (λ (j : ℕ). drop j (f ++ drop m l)) (sym g) ∙ drop-append-add f (drop m l) (b - m) ∙ drop-drop (b - m) m l ∙ ap (λ (j : ℕ). drop j l) e in
     rw x
+
+-- fields put one behind the other, and their bytes as one
+abbrev pub putSeq : List ℕ → ℕ → List (List ℕ) → List ℕ
+putSeq d at [] = d
+putSeq d at (f ∷ fs) = putSeq (put d at f) (at + length f) fs
+
+abbrev pub joined : List ℕ → List (List ℕ) → List ℕ
+joined a [] = a
+joined a (f ∷ fs) = joined (a ++ f) fs
+
+joined-grows : (a : List ℕ) (fs : List (List ℕ)) → length a ≤ length (joined a fs)
+joined-grows a [] = omega arith
+joined-grows a (f ∷ fs) = let h = joined-grows (a ++ f) fs in omega (arith, length-append a f)
+
+-- they are one put
+pub put-seq : (d : List ℕ) (at : ℕ) (a : List ℕ) (fs : List (List ℕ)) → at + length (joined a fs) ≤ length d
+    → putSeq (put d at a) (at + length a) fs ≡ put d at (joined a fs)
+put-seq d at a [] h = refl
+put-seq d at a (f ∷ fs) h =
+    let g = joined-grows (a ++ f) fs in
+    let n = length-append a f in
+    let e : at + length a + length f ≡ at + length (a ++ f) = omega arith in
+    rw (put-put d at a (at + length a) f refl (omega arith), e) (put-seq d at (a ++ f) fs h)

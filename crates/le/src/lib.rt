@@ -108,6 +108,13 @@ pub fn get_i64(s: &[u8], at: usize) -> i64
     signed_of_u64(get_u64(s, at))
 }
 
+pub fn put_u8(s: &mut [u8], at: usize, x: u8)
+    requires { ⌜ at + 1 ≤ length (now s) ⌝ }
+    ensures { λ _. ⌜ now (s .exit) ≡ put (now (s .entry)) at (bytesOf 1 x) ⌝ }
+{
+    s[at] = x;
+}
+
 pub fn put_u32(s: &mut [u8], at: usize, x: u32)
     requires { ⌜ at + 4 ≤ length (now s) ⌝ }
     ensures { λ _. ⌜ now (s .exit) ≡ put (now (s .entry)) at (bytesOf 4 x) ⌝ }

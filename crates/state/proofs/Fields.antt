@@ -1,0 +1,89 @@
+-- The fields of a record's bytes, put one behind the other. Assumes nothing.
+use mathlib.Core.Path.{_≡_, refl, sym, ap, _∙_}
+use mathlib.Core.List.{List, [], _∷_, _++_}
+use Prim.Native.Nat.{ℕ, _+_, _-_, _*_, _≤_, _<_}
+use native.Mathlib.Omega.{arith}
+use lib.ListN.{length, take, drop, length-append, drop-of-length-le}
+use mathlib.Core.List.{append-nil}
+use borrow.Rule.Slice.PartMut.{putMid}
+use Rattle.le.specs.Le.{numOf, bytesOf, signed, unsigned, part, put}
+use Rattle.le.proofs.Parts.{put-seq, put-put, length-part, lent-part, lent-back}
+use Rattle.slot.specs.declared.ChannelSlot.{ChannelSlot}
+use Rattle.state.specs.declared.Header.{Header}
+use Rattle.state.specs.declared.PendingOpen.{PendingOpen}
+use Rattle.state.specs.State.{flagByte, stateTag, failedTag, slotNumbers, slotTags, slotBytes, openBytes, headerSizes, headerWords, headerTags, headerBytes, putSlot, putOpen, putHeader}
+
+pub numbers-put : (d : List ℕ) (s : ChannelSlot) → 53 ≤ length d
+    → put (put (put (put (put (put (put d 0 (bytesOf 4 (s .local .0))) 4 (bytesOf 4 (s .remote .0))) 8 (bytesOf 8 (unsigned 63 (s .«send_budget»)))) 16 (bytesOf 8 (s .unacked))) 24 (bytesOf 8 (s .settled))) 32 (bytesOf 8 (s .head))) 40 (bytesOf 8 (s .buffered)) ≡ put d 0 (slotNumbers s)
+unfolding slotNumbers bytesOf
+numbers-put d s h =
+    put-seq d 0 (bytesOf 4 (s .local .0))
+    (bytesOf 4 (s .remote .0) ∷ bytesOf 8 (unsigned 63 (s .«send_budget»)) ∷ bytesOf 8 (s .unacked) ∷ bytesOf 8 (s .settled) ∷ bytesOf 8 (s .head) ∷ bytesOf 8 (s .buffered) ∷ [])
+    (omega arith)
+
+pub tags-put : (d : List ℕ) (s : ChannelSlot) → 53 ≤ length d
+    → put (put (put (put (put d 48 (bytesOf 1 (flagByte (s .filled)))) 49 (bytesOf 1 (flagByte (s .«has_remote»)))) 50 (bytesOf 1 (flagByte (s .«wrte_acked»)))) 51 (bytesOf 1 (stateTag (s .state)))) 52 (bytesOf 1 (failedTag (s .failed))) ≡ put d 48 (slotTags s)
+unfolding slotTags bytesOf
+tags-put d s h =
+    put-seq d 48 (bytesOf 1 (flagByte (s .filled)))
+    (bytesOf 1 (flagByte (s .«has_remote»)) ∷ bytesOf 1 (flagByte (s .«wrte_acked»)) ∷ bytesOf 1 (stateTag (s .state)) ∷ bytesOf 1 (failedTag (s .failed)) ∷ [])
+    (omega arith)
+
+pub length-slot : (s : ChannelSlot) → length (slotBytes s) ≡ 53
+unfolding slotBytes slotNumbers slotTags bytesOf
+length-slot s = refl
+
+pub slot-put : (d : List ℕ) (s : ChannelSlot) → 53 ≤ length d → put (put d 0 (slotNumbers s)) 48 (slotTags s) ≡ put d 0 (slotBytes s)
+unfolding slotBytes slotNumbers slotTags bytesOf
+slot-put d s h = put-seq d 0 (slotNumbers s) (slotTags s ∷ []) (omega arith)
+
+pub length-open : (q : PendingOpen) → length (openBytes q) ≡ 24
+unfolding openBytes bytesOf
+length-open q = refl
+
+pub open-put : (d : List ℕ) (q : PendingOpen) → 24 ≤ length d
+    → put (put (put (put d 0 (bytesOf 4 (q .remote .0))) 4 (bytesOf 4 (q .credit))) 8 (bytesOf 8 (q .share))) 16 (bytesOf 8 (q .length)) ≡ put d 0 (openBytes q)
+unfolding openBytes bytesOf
+open-put d q h = put-seq d 0 (bytesOf 4 (q .remote .0)) (bytesOf 4 (q .credit) ∷ bytesOf 8 (q .share) ∷ bytesOf 8 (q .length) ∷ []) (omega arith)
+
+pub sizes-put : (d : List ℕ) (h : Header) → 58 ≤ length d
+    → put (put (put (put d 0 (bytesOf 8 (h .negotiated .config .channels))) 8 (bytesOf 8 (h .negotiated .config .«max_rx_per_channel»))) 16 (bytesOf 8 (h .waiting .slot))) 24 (bytesOf 8 (h .queued)) ≡ put d 0 (headerSizes h)
+unfolding headerSizes bytesOf
+sizes-put d h k =
+    put-seq d 0 (bytesOf 8 (h .negotiated .config .channels))
+    (bytesOf 8 (h .negotiated .config .«max_rx_per_channel») ∷ bytesOf 8 (h .waiting .slot) ∷ bytesOf 8 (h .queued) ∷ [])
+    (omega arith)
+
+pub words-put : (d : List ℕ) (h : Header) → 58 ≤ length d
+    → put (put (put (put (put (put d 32 (bytesOf 4 (h .negotiated .config .«max_payload»))) 36 (bytesOf 4 (h .negotiated .config .«initial_ack_bytes»))) 40 (bytesOf 4 (h .negotiated .«max_payload»))) 44 (bytesOf 4 (h .negotiated .«protocol_version»))) 48 (bytesOf 4 (h .«next_local»))) 52 (bytesOf 4 (h .waiting .local .0)) ≡ put d 32 (headerWords h)
+unfolding headerWords bytesOf
+words-put d h k =
+    put-seq d 32 (bytesOf 4 (h .negotiated .config .«max_payload»))
+    (bytesOf 4 (h .negotiated .config .«initial_ack_bytes») ∷ bytesOf 4 (h .negotiated .«max_payload») ∷ bytesOf 4 (h .negotiated .«protocol_version») ∷ bytesOf 4 (h .«next_local») ∷ bytesOf 4 (h .waiting .local .0) ∷ [])
+    (omega arith)
+
+pub header-tags-put : (d : List ℕ) (h : Header) → 58 ≤ length d
+    → put (put d 56 (bytesOf 1 (flagByte (h .negotiated .«delayed_ack»)))) 57 (bytesOf 1 (flagByte (h .waiting .on))) ≡ put d 56 (headerTags h)
+unfolding headerTags bytesOf
+header-tags-put d h k = put-seq d 56 (bytesOf 1 (flagByte (h .negotiated .«delayed_ack»))) (bytesOf 1 (flagByte (h .waiting .on)) ∷ []) (omega arith)
+
+pub length-header : (h : Header) → length (headerBytes h) ≡ 58
+unfolding headerBytes headerSizes headerWords headerTags bytesOf
+length-header h = refl
+
+pub header-put : (d : List ℕ) (h : Header) → 58 ≤ length d
+    → put (put (put d 0 (headerSizes h)) 32 (headerWords h)) 56 (headerTags h) ≡ putHeader d h
+unfolding putHeader headerBytes headerSizes headerWords headerTags bytesOf
+header-put d h k = put-seq d 0 (headerSizes h) (headerWords h ∷ headerTags h ∷ []) (omega arith)
+
+-- a record's bytes, put over the whole of a part that is lent
+put-whole : (d n : List ℕ) → length d ≡ length n → put d 0 n ≡ n
+unfolding put
+put-whole d n h = let e : length d ≤ 0 + length n = omega arith in rw (drop-of-length-le d e) (append-nil n)
+
+pub put-lent : (b : List ℕ) (at size : ℕ) (n l : List ℕ) → length n ≡ size → at + size ≤ length b
+    → l ≡ put (take (at + size - at) (drop at b)) 0 n → putMid at (at + size - at) b l ≡ put b at n
+put-lent b at size n l m k e =
+    let f : put (part b at size) 0 n ≡ n = put-whole (part b at size) n (length-part b at size k ∙ sym m) in
+    let g : l ≡ n = (rw (lent-part b at size) at e) ∙ f in
+    lent-back b at size l (ap length g ∙ m) ∙ ap (put b at) g

@@ -1,0 +1,174 @@
+-- A connection's state, and its bytes (docs/LAYOUT.md). Assumes nothing.
+use Prim.Native.Nat.{ℕ, _+_, _*_}
+use mathlib.Core.Bool.{Bool, true, false, cond, _&&_}
+use mathlib.Core.List.{List, _++_}
+use lib.Dec.{leb, eqb}
+use lib.ListN.{length, getD, set, drop}
+use Rattle.le.specs.Le.{numOf, bytesOf, signed, unsigned, part, put}
+use Rattle.slot.specs.declared.ChannelFault.the-variants.{RxOverflow, ShortReadyPayload, UnexpectedCommand}
+use Rattle.slot.specs.declared.ChannelSlot.{ChannelSlot}
+use Rattle.slot.specs.declared.ChannelState.{ChannelState}
+use Rattle.slot.specs.declared.ChannelState.the-variants.{Opening, Open, Closed}
+use Rattle.slot.specs.declared.Failed.{Failed}
+use Rattle.slot.specs.declared.Failed.the-variants.{No, By}
+use Rattle.state.specs.declared.Header.{Header}
+use Rattle.state.specs.declared.PendingOpen.{PendingOpen}
+use Rattle.state.specs.Rows.{flat, rows, allIs}
+
+-- the state, with no bytes in it: 64 slots and 64 places for waiting opens
+pub record Connection : Type 0 where
+  pub header : Header
+  pub slots : List ChannelSlot
+  pub opens : List PendingOpen
+
+-- ---- flags and tags
+
+-- a flag is a byte that is 1 for yes and 0 for no
+abbrev pub flagOf : ℕ → Bool
+flagOf b = eqb b 1
+
+abbrev pub flagByte : Bool → ℕ
+flagByte f = cond f 1 0
+
+-- 0 opening, 1 open, 2 closed
+abbrev pub stateOfTag : ℕ → ChannelState
+stateOfTag b = cond (eqb b 0) Opening (cond (eqb b 1) Open Closed)
+
+abbrev pub stateTag : ChannelState → ℕ
+stateTag Opening = 0
+stateTag Open = 1
+stateTag Closed = 2
+
+-- 0 no fault, 1 overflow, 2 a short credit, 3 a WRTE too early
+abbrev pub failedOfTag : ℕ → Failed
+failedOfTag b = cond (eqb b 0) No (cond (eqb b 1) (By RxOverflow) (cond (eqb b 2) (By ShortReadyPayload) (By UnexpectedCommand)))
+
+abbrev pub failedTag : Failed → ℕ
+failedTag No = 0
+failedTag (By RxOverflow) = 1
+failedTag (By ShortReadyPayload) = 2
+failedTag (By UnexpectedCommand) = 3
+
+-- ---- a slot: 53 bytes
+
+unfoldable pub slotNumbers : ChannelSlot → List ℕ
+slotNumbers s =
+    bytesOf 4 (s .local .0) ++ bytesOf 4 (s .remote .0) ++ bytesOf 8 (unsigned 63 (s .«send_budget»)) ++ bytesOf 8 (s .unacked)
+    ++ bytesOf 8 (s .settled) ++ bytesOf 8 (s .head) ++ bytesOf 8 (s .buffered)
+
+unfoldable pub slotTags : ChannelSlot → List ℕ
+slotTags s =
+    bytesOf 1 (flagByte (s .filled)) ++ bytesOf 1 (flagByte (s .«has_remote»)) ++ bytesOf 1 (flagByte (s .«wrte_acked»))
+    ++ bytesOf 1 (stateTag (s .state)) ++ bytesOf 1 (failedTag (s .failed))
+
+unfoldable pub slotBytes : ChannelSlot → List ℕ
+slotBytes s = slotNumbers s ++ slotTags s
+
+unfoldable pub slotOf : List ℕ → ChannelSlot
+slotOf l =
+    record {
+      filled = flagOf (getD l 48 0);
+      local = record { 0 = numOf (part l 0 4) };
+      remote = record { 0 = numOf (part l 4 4) };
+      «has_remote» = flagOf (getD l 49 0);
+      state = stateOfTag (getD l 51 0);
+      «wrte_acked» = flagOf (getD l 50 0);
+      «send_budget» = signed 63 (numOf (part l 8 8));
+      unacked = numOf (part l 16 8);
+      settled = numOf (part l 24 8);
+      head = numOf (part l 32 8);
+      buffered = numOf (part l 40 8);
+      failed = failedOfTag (getD l 52 0)
+    }
+
+-- flags are 0 or 1, tags are in range
+unfoldable pub isSlot : List ℕ → Bool
+isSlot l =
+    leb (getD l 48 0) 1 && leb (getD l 49 0) 1 && leb (getD l 50 0) 1 && leb (getD l 51 0) 2 && leb (getD l 52 0) 3
+
+-- ---- a waiting open: 24 bytes
+
+unfoldable pub openBytes : PendingOpen → List ℕ
+openBytes q = bytesOf 4 (q .remote .0) ++ bytesOf 4 (q .credit) ++ bytesOf 8 (q .share) ++ bytesOf 8 (q .length)
+
+unfoldable pub openOf : List ℕ → PendingOpen
+openOf l = record { remote = record { 0 = numOf (part l 0 4) }; credit = numOf (part l 4 4); share = numOf (part l 8 8); length = numOf (part l 16 8) }
+
+-- ---- the header: 58 bytes
+
+unfoldable pub headerSizes : Header → List ℕ
+headerSizes h =
+    bytesOf 8 (h .negotiated .config .channels) ++ bytesOf 8 (h .negotiated .config .«max_rx_per_channel»)
+    ++ bytesOf 8 (h .waiting .slot) ++ bytesOf 8 (h .queued)
+
+unfoldable pub headerWords : Header → List ℕ
+headerWords h =
+    bytesOf 4 (h .negotiated .config .«max_payload») ++ bytesOf 4 (h .negotiated .config .«initial_ack_bytes»)
+    ++ bytesOf 4 (h .negotiated .«max_payload») ++ bytesOf 4 (h .negotiated .«protocol_version»)
+    ++ bytesOf 4 (h .«next_local») ++ bytesOf 4 (h .waiting .local .0)
+
+unfoldable pub headerTags : Header → List ℕ
+headerTags h = bytesOf 1 (flagByte (h .negotiated .«delayed_ack»)) ++ bytesOf 1 (flagByte (h .waiting .on))
+
+unfoldable pub headerBytes : Header → List ℕ
+headerBytes h = headerSizes h ++ headerWords h ++ headerTags h
+
+unfoldable pub headerOf : List ℕ → Header
+headerOf l =
+    record {
+      negotiated =
+        record {
+          «max_payload» = numOf (part l 40 4);
+          «protocol_version» = numOf (part l 44 4);
+          config =
+            record {
+              channels = numOf (part l 0 8);
+              «max_payload» = numOf (part l 32 4);
+              «max_rx_per_channel» = numOf (part l 8 8);
+              «initial_ack_bytes» = numOf (part l 36 4)
+            };
+          «delayed_ack» = flagOf (getD l 56 0)
+        };
+      «next_local» = numOf (part l 48 4);
+      waiting = record { on = flagOf (getD l 57 0); slot = numOf (part l 16 8); local = record { 0 = numOf (part l 52 4) } };
+      queued = numOf (part l 24 8)
+    }
+
+-- ---- the whole: header, 64 slots, 64 waiting opens: 4,986 bytes
+
+unfoldable pub layout : Connection → List ℕ
+layout c = headerBytes (c .header) ++ flat slotBytes (c .slots) ++ flat openBytes (c .opens)
+
+-- the state that bytes stand for
+unfoldable pub stateOf : List ℕ → Connection
+stateOf b = record { header = headerOf b; slots = rows 53 slotOf 64 (drop 58 b); opens = rows 24 openOf 64 (drop 3450 b) }
+
+-- bytes that are a state's: enough of them, flags 0 or 1, tags in range
+unfoldable pub isState : List ℕ → Bool
+isState b = leb 4986 (length b) && leb (getD b 56 0) 1 && leb (getD b 57 0) 1 && allIs 53 isSlot 64 (drop 58 b)
+
+-- ---- one record of it, in place
+
+unfoldable pub slotAt : List ℕ → ℕ → ChannelSlot
+slotAt b i = slotOf (part b (58 + i * 53) 53)
+
+unfoldable pub openAt : List ℕ → ℕ → PendingOpen
+openAt b i = openOf (part b (3450 + i * 24) 24)
+
+unfoldable pub putSlot : List ℕ → ℕ → ChannelSlot → List ℕ
+putSlot b i s = put b (58 + i * 53) (slotBytes s)
+
+unfoldable pub putOpen : List ℕ → ℕ → PendingOpen → List ℕ
+putOpen b i q = put b (3450 + i * 24) (openBytes q)
+
+unfoldable pub putHeader : List ℕ → Header → List ℕ
+putHeader b h = put b 0 (headerBytes h)
+
+abbrev pub withSlot : Connection → ℕ → ChannelSlot → Connection
+withSlot c i s = record { header = c .header; slots = set (c .slots) i s; opens = c .opens }
+
+abbrev pub withHeader : Connection → Header → Connection
+withHeader c h = record { header = h; slots = c .slots; opens = c .opens }
+
+abbrev pub withOpen : Connection → ℕ → PendingOpen → Connection
+withOpen c i q = record { header = c .header; slots = c .slots; opens = set (c .opens) i q }

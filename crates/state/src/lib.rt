@@ -1,0 +1,303 @@
+// The lent state, worked on in place: a header of 58 bytes, 64 slots of 53, 64 waiting opens of 24 (docs/LAYOUT.md).
+// The header is read and written by value; a slot or a waiting open is read where it lies, and the one that changed is
+// stored.
+use config::ConnectionConfig;
+use config::negotiated::Negotiated;
+use slot::ChannelFault;
+use slot::ChannelSlot;
+use slot::ChannelState;
+use slot::Failed;
+use slot::ids::LocalId;
+use slot::ids::RemoteId;
+ghost use mathlib.Core.Path.{_≡_};
+ghost use Prim.Native.Nat.{_+_, _*_, _≤_, _<_};
+ghost use lib.ListN.{length};
+ghost use Rattle.le.specs.Le.{put};
+ghost use Rattle.state.specs.State.{flagOf, flagByte, stateOfTag, stateTag, failedOfTag, failedTag, slotNumbers, slotTags, slotBytes, slotOf, openBytes, openOf, headerSizes, headerWords, headerTags, headerOf, slotAt, openAt, putSlot, putOpen, putHeader};
+
+// An open of ours that waits for its OKAY.
+pub struct Waiting {
+    pub on: bool,
+    pub slot: usize,
+    pub local: LocalId,
+}
+
+pub struct Header {
+    pub negotiated: Negotiated,
+    // The number that the next channel gets.
+    pub next_local: u32,
+    pub waiting: Waiting,
+    // How many opens of the device's wait.
+    pub queued: usize,
+}
+
+// An open of the device's that waits to be taken. Its destination lies at the start of its share of the open store.
+pub struct PendingOpen {
+    pub remote: RemoteId,
+    pub credit: u32,
+    pub share: usize,
+    pub length: usize,
+}
+
+fn flag(b: u8) -> bool
+    ensures { λ r. ⌜ r ≡ flagOf b ⌝ }
+{
+    b == 1
+}
+
+fn flag_byte(f: bool) -> u8
+    ensures { λ r. ⌜ r ≡ flagByte f ⌝ }
+{
+    if f {
+        return 1;
+    }
+    0
+}
+
+fn state_of(b: u8) -> ChannelState
+    ensures { λ r. ⌜ r ≡ stateOfTag b ⌝ }
+{
+    if b == 0 {
+        return ChannelState::Opening;
+    }
+    if b == 1 {
+        return ChannelState::Open;
+    }
+    ChannelState::Closed
+}
+
+fn state_tag(state: ChannelState) -> u8
+    ensures { λ r. ⌜ r ≡ stateTag state ⌝ }
+{
+    match state {
+        ChannelState::Opening => 0,
+        ChannelState::Open => 1,
+        ChannelState::Closed => 2,
+    }
+}
+
+fn failed_of(b: u8) -> Failed
+    ensures { λ r. ⌜ r ≡ failedOfTag b ⌝ }
+{
+    if b == 0 {
+        return Failed::No;
+    }
+    if b == 1 {
+        return Failed::By(ChannelFault::RxOverflow);
+    }
+    if b == 2 {
+        return Failed::By(ChannelFault::ShortReadyPayload);
+    }
+    Failed::By(ChannelFault::UnexpectedCommand)
+}
+
+fn fault_tag(fault: ChannelFault) -> u8
+    ensures { λ r. ⌜ r ≡ failedTag (Failed.By fault) ⌝ }
+{
+    match fault {
+        ChannelFault::RxOverflow => 1,
+        ChannelFault::ShortReadyPayload => 2,
+        ChannelFault::UnexpectedCommand => 3,
+    }
+}
+
+fn failed_tag(failed: Failed) -> u8
+    ensures { λ r. ⌜ r ≡ failedTag failed ⌝ }
+{
+    match failed {
+        Failed::No => 0,
+        Failed::By(fault) => fault_tag(fault),
+    }
+}
+
+// The slot that 53 bytes stand for.
+fn slot_of(p: &[u8]) -> ChannelSlot
+    requires { ⌜ 53 ≤ length (now p) ⌝ }
+    ensures { λ r. ⌜ r ≡ slotOf (now (p .entry)) ⌝ }
+{
+    ChannelSlot {
+        filled: flag(p[48]),
+        local: LocalId(le::get_u32(p, 0)),
+        remote: RemoteId(le::get_u32(p, 4)),
+        has_remote: flag(p[49]),
+        state: state_of(p[51]),
+        wrte_acked: flag(p[50]),
+        send_budget: le::get_i64(p, 8),
+        unacked: le::get_usize(p, 16),
+        settled: le::get_usize(p, 24),
+        head: le::get_usize(p, 32),
+        buffered: le::get_usize(p, 40),
+        failed: failed_of(p[52]),
+    }
+}
+
+fn fill_numbers(p: &mut [u8], s: ChannelSlot)
+    requires { ⌜ 53 ≤ length (now p) ⌝ }
+    ensures { λ _. ⌜ now (p .exit) ≡ put (now (p .entry)) 0 (slotNumbers s) ⌝ }
+{
+    le::put_u32(p, 0, s.local.0);
+    le::put_u32(p, 4, s.remote.0);
+    le::put_i64(p, 8, s.send_budget);
+    le::put_usize(p, 16, s.unacked);
+    le::put_usize(p, 24, s.settled);
+    le::put_usize(p, 32, s.head);
+    le::put_usize(p, 40, s.buffered);
+}
+
+fn fill_tags(p: &mut [u8], s: ChannelSlot)
+    requires { ⌜ 53 ≤ length (now p) ⌝ }
+    ensures { λ _. ⌜ now (p .exit) ≡ put (now (p .entry)) 48 (slotTags s) ⌝ }
+{
+    let state = s.state;
+    let failed = s.failed;
+    le::put_u8(p, 48, flag_byte(s.filled));
+    le::put_u8(p, 49, flag_byte(s.has_remote));
+    le::put_u8(p, 50, flag_byte(s.wrte_acked));
+    le::put_u8(p, 51, state_tag(state));
+    le::put_u8(p, 52, failed_tag(failed));
+}
+
+fn fill_slot(p: &mut [u8], s: ChannelSlot)
+    requires { ⌜ 53 ≤ length (now p) ⌝ }
+    ensures { λ _. ⌜ now (p .exit) ≡ put (now (p .entry)) 0 (slotBytes s) ⌝ }
+{
+    fill_numbers(p, s);
+    fill_tags(p, s);
+}
+
+// The slot at place i.
+pub fn slot_at(state: &[u8], i: usize) -> ChannelSlot
+    requires { ⌜ (i < 64) × (4986 ≤ length (now state)) ⌝ }
+    ensures { λ r. ⌜ r ≡ slotAt (now (state .entry)) i ⌝ }
+{
+    let at = 58 + i * 53;
+    let end = at + 53;
+    slot_of(&state[at..end])
+}
+
+pub fn put_slot(state: &mut [u8], i: usize, s: ChannelSlot)
+    requires { ⌜ (i < 64) × (4986 ≤ length (now state)) ⌝ }
+    ensures { λ _. ⌜ now (state .exit) ≡ putSlot (now (state .entry)) i s ⌝ }
+{
+    let at = 58 + i * 53;
+    let end = at + 53;
+    fill_slot(&mut state[at..end], s);
+}
+
+// The waiting open that 24 bytes stand for.
+fn open_of(p: &[u8]) -> PendingOpen
+    requires { ⌜ 24 ≤ length (now p) ⌝ }
+    ensures { λ r. ⌜ r ≡ openOf (now (p .entry)) ⌝ }
+{
+    PendingOpen {
+        remote: RemoteId(le::get_u32(p, 0)),
+        credit: le::get_u32(p, 4),
+        share: le::get_usize(p, 8),
+        length: le::get_usize(p, 16),
+    }
+}
+
+fn fill_open(p: &mut [u8], q: PendingOpen)
+    requires { ⌜ 24 ≤ length (now p) ⌝ }
+    ensures { λ _. ⌜ now (p .exit) ≡ put (now (p .entry)) 0 (openBytes q) ⌝ }
+{
+    le::put_u32(p, 0, q.remote.0);
+    le::put_u32(p, 4, q.credit);
+    le::put_usize(p, 8, q.share);
+    le::put_usize(p, 16, q.length);
+}
+
+// The waiting open at place i.
+pub fn open_at(state: &[u8], i: usize) -> PendingOpen
+    requires { ⌜ (i < 64) × (4986 ≤ length (now state)) ⌝ }
+    ensures { λ r. ⌜ r ≡ openAt (now (state .entry)) i ⌝ }
+{
+    let at = 3450 + i * 24;
+    let end = at + 24;
+    open_of(&state[at..end])
+}
+
+pub fn put_open(state: &mut [u8], i: usize, q: PendingOpen)
+    requires { ⌜ (i < 64) × (4986 ≤ length (now state)) ⌝ }
+    ensures { λ _. ⌜ now (state .exit) ≡ putOpen (now (state .entry)) i q ⌝ }
+{
+    let at = 3450 + i * 24;
+    let end = at + 24;
+    fill_open(&mut state[at..end], q);
+}
+
+pub fn header_of(state: &[u8]) -> Header
+    requires { ⌜ 58 ≤ length (now state) ⌝ }
+    ensures { λ r. ⌜ r ≡ headerOf (now (state .entry)) ⌝ }
+{
+    let config = ConnectionConfig {
+        channels: le::get_usize(state, 0),
+        max_payload: le::get_u32(state, 32),
+        max_rx_per_channel: le::get_usize(state, 8),
+        initial_ack_bytes: le::get_u32(state, 36),
+    };
+    let negotiated = Negotiated {
+        max_payload: le::get_u32(state, 40),
+        protocol_version: le::get_u32(state, 44),
+        config,
+        delayed_ack: flag(state[56]),
+    };
+    let waiting = Waiting {
+        on: flag(state[57]),
+        slot: le::get_usize(state, 16),
+        local: LocalId(le::get_u32(state, 52)),
+    };
+    Header {
+        negotiated,
+        next_local: le::get_u32(state, 48),
+        waiting,
+        queued: le::get_usize(state, 24),
+    }
+}
+
+fn put_sizes(state: &mut [u8], h: Header)
+    requires { ⌜ 58 ≤ length (now state) ⌝ }
+    ensures { λ _. ⌜ now (state .exit) ≡ put (now (state .entry)) 0 (headerSizes h) ⌝ }
+{
+    let negotiated = h.negotiated;
+    let config = negotiated.config;
+    let waiting = h.waiting;
+    le::put_usize(state, 0, config.channels);
+    le::put_usize(state, 8, config.max_rx_per_channel);
+    le::put_usize(state, 16, waiting.slot);
+    le::put_usize(state, 24, h.queued);
+}
+
+fn put_words(state: &mut [u8], h: Header)
+    requires { ⌜ 58 ≤ length (now state) ⌝ }
+    ensures { λ _. ⌜ now (state .exit) ≡ put (now (state .entry)) 32 (headerWords h) ⌝ }
+{
+    let negotiated = h.negotiated;
+    let config = negotiated.config;
+    let waiting = h.waiting;
+    le::put_u32(state, 32, config.max_payload);
+    le::put_u32(state, 36, config.initial_ack_bytes);
+    le::put_u32(state, 40, negotiated.max_payload);
+    le::put_u32(state, 44, negotiated.protocol_version);
+    le::put_u32(state, 48, h.next_local);
+    le::put_u32(state, 52, waiting.local.0);
+}
+
+fn put_tags(state: &mut [u8], h: Header)
+    requires { ⌜ 58 ≤ length (now state) ⌝ }
+    ensures { λ _. ⌜ now (state .exit) ≡ put (now (state .entry)) 56 (headerTags h) ⌝ }
+{
+    let negotiated = h.negotiated;
+    let waiting = h.waiting;
+    le::put_u8(state, 56, flag_byte(negotiated.delayed_ack));
+    le::put_u8(state, 57, flag_byte(waiting.on));
+}
+
+pub fn put_header(state: &mut [u8], h: Header)
+    requires { ⌜ 58 ≤ length (now state) ⌝ }
+    ensures { λ _. ⌜ now (state .exit) ≡ putHeader (now (state .entry)) h ⌝ }
+{
+    put_sizes(state, h);
+    put_words(state, h);
+    put_tags(state, h);
+}
