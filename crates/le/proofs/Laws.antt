@@ -4,7 +4,7 @@ use mathlib.Core.Logic.{_⊎_, ⊎-elim}
 use mathlib.Core.Bool.{true, false}
 use mathlib.Core.List.{List, [], _∷_, _++_}
 use Prim.Native.Nat.{ℕ, zero, suc, _+_, _-_, _*_, _/_, _%_, _^_, _≤_, _<_}
-use native.Mathlib.Nat.{zero-add, pow-suc}
+use native.Mathlib.Nat.{zero-add, pow-suc, one-le-pow}
 use native.Mathlib.Omega.{arith}
 use lib.Dec.{T, ltb}
 use lib.IntN.{ℤ, pos, negsuc, natAbs, _-ℤ_}
@@ -50,6 +50,21 @@ numOf-small (b ∷ l) h =
     let lt : b < 256 = h 0 in
     let e : 256 ^ suc (length l) ≡ 256 ^ length l * 256 = pow-suc 256 (length l) in
     rw e (omega arith)
+
+-- and so is one of at most k
+pub numOf-take : (k : ℕ) (l : List ℕ) → Bytes l → numOf (take k l) < 256 ^ k
+unfolding numOf
+numOf-take zero l h = omega arith
+numOf-take (suc k) [] h = one-le-pow (suc k) 256 (omega arith)
+numOf-take (suc k) (b ∷ l) h =
+    let i = numOf-take k l (λ j. h (suc j)) in
+    let lt : b < 256 = h 0 in
+    let e : 256 ^ suc k ≡ 256 ^ k * 256 = pow-suc 256 k in
+    rw e (omega arith)
+
+pub numOf-part : (k : ℕ) (l : List ℕ) (at : ℕ) → Bytes l → numOf (part l at k) < 256 ^ k
+unfolding part
+numOf-part k l at h = numOf-take k (drop at l) (bytes-drop at l h)
 
 -- a number, written in k bytes and read again
 pub write-read : (k x : ℕ) → x < 256 ^ k → numOf (bytesOf k x) ≡ x

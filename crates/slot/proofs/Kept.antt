@@ -51,7 +51,7 @@ sound s cap small e =
       settled-cap = leb-true _ _ (e₁ .1);
       held-cap = leb-true _ _ (e₂ .1);
       run-fits = leb-true _ _ (e₃ .1);
-      cap-small = small
+      cap-small = small;
     }
 
 pub sound-holds : (s : ChannelSlot) (cap : ℕ) → SlotOk s cap → slotOk s cap ≡ true
@@ -72,7 +72,7 @@ same-sound s t cap e f g ok =
       settled-cap = omega arith;
       held-cap = omega arith;
       run-fits = omega arith;
-      cap-small = omega arith
+      cap-small = omega arith;
     }
 
 -- ---- new slots
@@ -127,7 +127,7 @@ buffered-sound s p n u h ok =
       settled-cap = omega arith;
       held-cap = omega arith;
       run-fits = r;
-      cap-small = ok .cap-small
+      cap-small = ok .cap-small;
     }
 
 pub wrote-sound : (s : ChannelSlot) (p : RxPolicy) (n : ℕ) → SlotOk s (p .«rx_cap») → SlotOk (wroteOf s p n .slot) (p .«rx_cap»)
@@ -157,7 +157,7 @@ settled-by s n cap h z ok (Len k) =
       settled-cap = omega arith;
       held-cap = omega arith;
       run-fits = ok .run-fits;
-      cap-small = ok .cap-small
+      cap-small = ok .cap-small;
     }
 
 -- settling never sets aside more than the cap: with nothing set aside, what is buffered is held
@@ -184,7 +184,7 @@ took-sound s room cap ok =
       settled-cap = omega arith;
       held-cap = omega arith;
       run-fits = r;
-      cap-small = ok .cap-small
+      cap-small = ok .cap-small;
     }))
     (λ t. let n = min room (s .settled) in
     let r = head-taken (2 * cap) (s .head) (s .buffered) n (omega arith) (ok .run-fits) in
@@ -193,7 +193,7 @@ took-sound s room cap ok =
       settled-cap = omega arith;
       held-cap = omega arith;
       run-fits = r;
-      cap-small = ok .cap-small
+      cap-small = ok .cap-small;
     }))
 
 -- data is within the reader's room and within what is buffered, and leaves a sound slot

@@ -1,17 +1,16 @@
 -- The fields of a record's bytes, put one behind the other. Assumes nothing.
 use mathlib.Core.Path.{_≡_, refl, sym, ap, _∙_}
-use mathlib.Core.List.{List, [], _∷_, _++_}
-use Prim.Native.Nat.{ℕ, _+_, _-_, _*_, _≤_, _<_}
+use mathlib.Core.List.{List, [], _∷_, append-nil}
+use Prim.Native.Nat.{ℕ, _+_, _-_, _≤_}
 use native.Mathlib.Omega.{arith}
-use lib.ListN.{length, take, drop, length-append, drop-of-length-le}
-use mathlib.Core.List.{append-nil}
+use lib.ListN.{length, take, drop, drop-of-length-le}
 use borrow.Rule.Slice.PartMut.{putMid}
-use Rattle.le.specs.Le.{numOf, bytesOf, signed, unsigned, part, put}
-use Rattle.le.proofs.Parts.{put-seq, put-put, length-part, lent-part, lent-back}
+use Rattle.le.specs.Le.{bytesOf, unsigned, part, put}
+use Rattle.le.proofs.Parts.{put-seq, length-part, lent-part, lent-back}
 use Rattle.slot.specs.declared.ChannelSlot.{ChannelSlot}
 use Rattle.state.specs.declared.Header.{Header}
 use Rattle.state.specs.declared.PendingOpen.{PendingOpen}
-use Rattle.state.specs.State.{flagByte, stateTag, failedTag, slotNumbers, slotTags, slotBytes, openBytes, headerSizes, headerWords, headerTags, headerBytes, putSlot, putOpen, putHeader}
+use Rattle.state.specs.State.{flagByte, stateTag, failedTag, slotNumbers, slotTags, slotBytes, openBytes, headerSizes, headerWords, headerTags, headerBytes, putHeader}
 
 pub numbers-put : (d : List ℕ) (s : ChannelSlot) → 53 ≤ length d
     → put (put (put (put (put (put (put d 0 (bytesOf 4 (s .local .0))) 4 (bytesOf 4 (s .remote .0))) 8 (bytesOf 8 (unsigned 63 (s .«send_budget»)))) 16 (bytesOf 8 (s .unacked))) 24 (bytesOf 8 (s .settled))) 32 (bytesOf 8 (s .head))) 40 (bytesOf 8 (s .buffered)) ≡ put d 0 (slotNumbers s)

@@ -1,1 +1,4 @@
+pub mod ChangeLaws
 pub mod Fields
+pub mod RowLaws
+pub mod StateLaws

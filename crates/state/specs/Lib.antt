@@ -1,2 +1,3 @@
+pub mod Change
 pub mod Rows
 pub mod State

@@ -78,7 +78,7 @@ slotOf l =
       settled = numOf (part l 24 8);
       head = numOf (part l 32 8);
       buffered = numOf (part l 40 8);
-      failed = failedOfTag (getD l 52 0)
+      failed = failedOfTag (getD l 52 0);
     }
 
 -- flags are 0 or 1, tags are in range
@@ -117,21 +117,21 @@ unfoldable pub headerOf : List ℕ → Header
 headerOf l =
     record {
       negotiated =
-        record {
-          «max_payload» = numOf (part l 40 4);
-          «protocol_version» = numOf (part l 44 4);
-          config =
-            record {
-              channels = numOf (part l 0 8);
-              «max_payload» = numOf (part l 32 4);
-              «max_rx_per_channel» = numOf (part l 8 8);
-              «initial_ack_bytes» = numOf (part l 36 4)
-            };
-          «delayed_ack» = flagOf (getD l 56 0)
-        };
+          record {
+            «max_payload» = numOf (part l 40 4);
+            «protocol_version» = numOf (part l 44 4);
+            config =
+                record {
+                  channels = numOf (part l 0 8);
+                  «max_payload» = numOf (part l 32 4);
+                  «max_rx_per_channel» = numOf (part l 8 8);
+                  «initial_ack_bytes» = numOf (part l 36 4);
+                };
+            «delayed_ack» = flagOf (getD l 56 0);
+          };
       «next_local» = numOf (part l 48 4);
       waiting = record { on = flagOf (getD l 57 0); slot = numOf (part l 16 8); local = record { 0 = numOf (part l 52 4) } };
-      queued = numOf (part l 24 8)
+      queued = numOf (part l 24 8);
     }
 
 -- ---- the whole: header, 64 slots, 64 waiting opens: 4,986 bytes

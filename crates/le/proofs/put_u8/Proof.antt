@@ -3,8 +3,6 @@ use Rattle.le.proofs.Laws.{put-byte}
 use borrow.Author.Needs.{needs}
 use Rattle.le.proofs.put_u8.Statement.{statement}
 use Rattle.le.proofs.put_u8.Tie as tie
-use Rattle.le.proofs.put_u8.Reads as reads
-use Rattle.le.proofs.put_u8.Lts as lts
 
 slice-write-s : tie.Need-slice-write-s
 slice-write-s c = search needs

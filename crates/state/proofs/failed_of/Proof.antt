@@ -1,9 +1,6 @@
 use borrow.Author.Tests.{eq-eqb, ne-eqb}
-use Rattle.state.specs.State.{failedOfTag}
 use Rattle.state.proofs.failed_of.Statement.{statement}
 use Rattle.state.proofs.failed_of.Tie as tie
-use Rattle.state.proofs.failed_of.Reads as reads
-use Rattle.state.proofs.failed_of.Lts as lts
 
 returns : tie.Need-returns
 returns c = rw (eq-eqb (c .before .args .b) 0 (c .if1 .taken))

@@ -5,11 +5,6 @@ use Rattle.state.proofs.Fields.{numbers-put}
 use borrow.Author.Needs.{needs}
 use Rattle.state.proofs.fill_numbers.Statement.{statement}
 use Rattle.state.proofs.fill_numbers.Tie as tie
-use Rattle.state.proofs.fill_numbers.Reads as reads
-use Rattle.state.proofs.fill_numbers.Lts as lts
-use Rattle.le.proofs.put_i64.Reads as put-i64-reads
-use Rattle.le.proofs.put_u32.Reads as put-u32-reads
-use Rattle.le.proofs.put_usize.Reads as put-usize-reads
 
 budget-fits : (c : tie.Start) → SFits w64 (c .args .s .«send_budget»)
 budget-fits c = search needs

@@ -2,10 +2,6 @@ use Rattle.state.proofs.Fields.{open-put}
 use borrow.Author.Needs.{needs}
 use Rattle.state.proofs.fill_open.Statement.{statement}
 use Rattle.state.proofs.fill_open.Tie as tie
-use Rattle.state.proofs.fill_open.Reads as reads
-use Rattle.state.proofs.fill_open.Lts as lts
-use Rattle.le.proofs.put_u32.Reads as put-u32-reads
-use Rattle.le.proofs.put_usize.Reads as put-usize-reads
 
 put-u32-requires : tie.Need-put-u32-requires
 put-u32-requires c κs = search needs

@@ -2,10 +2,6 @@ use Rattle.state.proofs.Fields.{slot-put}
 use borrow.Author.Needs.{needs}
 use Rattle.state.proofs.fill_slot.Statement.{statement}
 use Rattle.state.proofs.fill_slot.Tie as tie
-use Rattle.state.proofs.fill_slot.Reads as reads
-use Rattle.state.proofs.fill_slot.Lts as lts
-use Rattle.state.proofs.fill_numbers.Reads as fill-numbers-reads
-use Rattle.state.proofs.fill_tags.Reads as fill-tags-reads
 
 fill-numbers-requires : tie.Need-fill-numbers-requires
 fill-numbers-requires c κs = search needs

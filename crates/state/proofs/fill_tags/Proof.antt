@@ -2,12 +2,6 @@ use Rattle.state.proofs.Fields.{tags-put}
 use borrow.Author.Needs.{needs}
 use Rattle.state.proofs.fill_tags.Statement.{statement}
 use Rattle.state.proofs.fill_tags.Tie as tie
-use Rattle.state.proofs.fill_tags.Reads as reads
-use Rattle.state.proofs.fill_tags.Lts as lts
-use Rattle.le.proofs.put_u8.Reads as put-u8-reads
-use Rattle.state.proofs.failed_tag.Reads as failed-tag-reads
-use Rattle.state.proofs.flag_byte.Reads as flag-byte-reads
-use Rattle.state.proofs.state_tag.Reads as state-tag-reads
 
 flag-byte-requires : tie.Need-flag-byte-requires
 flag-byte-requires c κs = search needs

@@ -2,11 +2,6 @@ use Rattle.state.specs.State.{headerOf}
 use borrow.Author.Needs.{needs}
 use Rattle.state.proofs.header_of.Statement.{statement}
 use Rattle.state.proofs.header_of.Tie as tie
-use Rattle.state.proofs.header_of.Reads as reads
-use Rattle.state.proofs.header_of.Lts as lts
-use Rattle.le.proofs.get_u32.Reads as get-u32-reads
-use Rattle.le.proofs.get_usize.Reads as get-usize-reads
-use Rattle.state.proofs.flag.Reads as flag-reads
 
 get-usize-requires : tie.Need-get-usize-requires
 get-usize-requires c κs = search needs

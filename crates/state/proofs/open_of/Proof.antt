@@ -2,10 +2,6 @@ use Rattle.state.specs.State.{openOf}
 use borrow.Author.Needs.{needs}
 use Rattle.state.proofs.open_of.Statement.{statement}
 use Rattle.state.proofs.open_of.Tie as tie
-use Rattle.state.proofs.open_of.Reads as reads
-use Rattle.state.proofs.open_of.Lts as lts
-use Rattle.le.proofs.get_u32.Reads as get-u32-reads
-use Rattle.le.proofs.get_usize.Reads as get-usize-reads
 
 get-u32-requires : tie.Need-get-u32-requires
 get-u32-requires c κs = search needs

@@ -2,11 +2,6 @@ use Rattle.state.proofs.Fields.{header-put}
 use borrow.Author.Needs.{needs}
 use Rattle.state.proofs.put_header.Statement.{statement}
 use Rattle.state.proofs.put_header.Tie as tie
-use Rattle.state.proofs.put_header.Reads as reads
-use Rattle.state.proofs.put_header.Lts as lts
-use Rattle.state.proofs.put_sizes.Reads as put-sizes-reads
-use Rattle.state.proofs.put_tags.Reads as put-tags-reads
-use Rattle.state.proofs.put_words.Reads as put-words-reads
 
 put-sizes-requires : tie.Need-put-sizes-requires
 put-sizes-requires c κs = search needs

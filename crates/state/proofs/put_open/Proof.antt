@@ -5,9 +5,6 @@ use Rattle.state.proofs.Fields.{length-open, put-lent}
 use borrow.Author.Needs.{needs}
 use Rattle.state.proofs.put_open.Statement.{statement}
 use Rattle.state.proofs.put_open.Tie as tie
-use Rattle.state.proofs.put_open.Reads as reads
-use Rattle.state.proofs.put_open.Lts as lts
-use Rattle.state.proofs.fill_open.Reads as fill-open-reads
 
 mul-at : tie.Need-mul-at
 mul-at c = search needs

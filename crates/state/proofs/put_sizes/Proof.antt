@@ -2,9 +2,6 @@ use Rattle.state.proofs.Fields.{sizes-put}
 use borrow.Author.Needs.{needs}
 use Rattle.state.proofs.put_sizes.Statement.{statement}
 use Rattle.state.proofs.put_sizes.Tie as tie
-use Rattle.state.proofs.put_sizes.Reads as reads
-use Rattle.state.proofs.put_sizes.Lts as lts
-use Rattle.le.proofs.put_usize.Reads as put-usize-reads
 
 put-usize-requires : tie.Need-put-usize-requires
 put-usize-requires c κs = search needs

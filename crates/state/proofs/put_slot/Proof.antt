@@ -5,9 +5,6 @@ use Rattle.state.proofs.Fields.{length-slot, put-lent}
 use borrow.Author.Needs.{needs}
 use Rattle.state.proofs.put_slot.Statement.{statement}
 use Rattle.state.proofs.put_slot.Tie as tie
-use Rattle.state.proofs.put_slot.Reads as reads
-use Rattle.state.proofs.put_slot.Lts as lts
-use Rattle.state.proofs.fill_slot.Reads as fill-slot-reads
 
 mul-at : tie.Need-mul-at
 mul-at c = search needs

@@ -2,9 +2,6 @@ use Rattle.state.proofs.Fields.{words-put}
 use borrow.Author.Needs.{needs}
 use Rattle.state.proofs.put_words.Statement.{statement}
 use Rattle.state.proofs.put_words.Tie as tie
-use Rattle.state.proofs.put_words.Reads as reads
-use Rattle.state.proofs.put_words.Lts as lts
-use Rattle.le.proofs.put_u32.Reads as put-u32-reads
 
 put-u32-requires : tie.Need-put-u32-requires
 put-u32-requires c κs = search needs

@@ -4,9 +4,6 @@ use Rattle.le.proofs.Parts.{lent-part}
 use borrow.Author.Needs.{needs}
 use Rattle.state.proofs.slot_at.Statement.{statement}
 use Rattle.state.proofs.slot_at.Tie as tie
-use Rattle.state.proofs.slot_at.Reads as reads
-use Rattle.state.proofs.slot_at.Lts as lts
-use Rattle.state.proofs.slot_of.Reads as slot-of-reads
 
 mul-at : tie.Need-mul-at
 mul-at c = search needs

@@ -1,0 +1,515 @@
+-- Laws of a state's bytes: what is put is read back, the rest stays, and bytes that are a state's are the layout of their
+-- reading. Assumes nothing.
+use mathlib.Core.Path.{_≡_, refl, sym, ap, _∙_}
+use mathlib.Core.Bool.{Bool, true, false}
+use mathlib.Core.List.{List, [], _∷_, _++_, append-assoc}
+use Prim.Native.Nat.{ℕ, zero, suc, _+_, _*_, _%_, _^_, _≤_, _<_}
+use native.Mathlib.Omega.{arith}
+use lib.Dec.{ltb}
+use lib.Signed.{mag}
+use lib.ListN.{length, take, drop, getD, set, length-append, length-take, length-drop, take-append-drop}
+use lib.Seq.{take-all, drop-at, drop-cons, drop-drop, take-add}
+use borrow.Author.Tests.{ltb-true, ltb-false, leb-true, le-leb}
+use Rattle.le.specs.Le.{numOf, bytesOf, unsigned, part, put, Bytes}
+use Rattle.le.proofs.Laws.{bytes-drop, bytes-take, read-write-part, write-read, signed-unsigned, unsigned-signed, signed-small, unsigned-small, numOf-part}
+use Rattle.le.proofs.Parts.{by-test, part-join, length-put, part-put-same, part-put-below, part-put-above}
+use Rattle.config.proofs.Laws.{and-true}
+use Rattle.slot.specs.declared.ChannelFault.the-variants.{RxOverflow, ShortReadyPayload, UnexpectedCommand}
+use Rattle.slot.specs.declared.ChannelSlot.{ChannelSlot}
+use Rattle.slot.specs.declared.ChannelState.{ChannelState}
+use Rattle.slot.specs.declared.ChannelState.the-variants.{Opening, Open, Closed}
+use Rattle.slot.specs.declared.Failed.{Failed}
+use Rattle.slot.specs.declared.Failed.the-variants.{No, By}
+use Rattle.state.specs.declared.Header.{Header}
+use Rattle.state.specs.declared.PendingOpen.{PendingOpen}
+use Rattle.state.specs.Rows.{flat, rows, allIs}
+use Rattle.state.specs.State.{Connection, flagOf, flagByte, stateOfTag, stateTag, failedOfTag, failedTag, slotNumbers, slotTags, slotBytes, slotOf, isSlot, openBytes, openOf, headerSizes, headerWords, headerTags, headerBytes, headerOf, layout, stateOf, isState, slotAt, openAt, putSlot, putOpen, putHeader, withSlot, withHeader, withOpen}
+use Rattle.state.proofs.Fields.{length-slot, length-open, length-header}
+use Rattle.state.proofs.RowLaws.{put-at, put-row, length-flat, length-rows, row-at, flat-rows, Every, rows-flat, rows-fit, all-flat}
+
+-- ---- flags and tags, both ways
+
+-- one byte
+one : (l : List ℕ) (a : ℕ) → a + 1 ≤ length l → part l a 1 ≡ getD l a 0 ∷ []
+unfolding part
+one l a h = rw (drop-cons l a 0 (omega arith))
+
+flag-same : (v : ℕ) → v ≤ 1 → bytesOf 1 (flagByte (flagOf v)) ≡ v ∷ []
+unfolding bytesOf
+flag-same zero h = refl
+flag-same (suc zero) h = refl
+flag-same (suc (suc v)) h = absurd (omega arith)
+
+state-same : (v : ℕ) → v ≤ 2 → bytesOf 1 (stateTag (stateOfTag v)) ≡ v ∷ []
+unfolding bytesOf
+state-same zero h = refl
+state-same (suc zero) h = refl
+state-same (suc (suc zero)) h = refl
+state-same (suc (suc (suc v))) h = absurd (omega arith)
+
+failed-same : (v : ℕ) → v ≤ 3 → bytesOf 1 (failedTag (failedOfTag v)) ≡ v ∷ []
+unfolding bytesOf
+failed-same zero h = refl
+failed-same (suc zero) h = refl
+failed-same (suc (suc zero)) h = refl
+failed-same (suc (suc (suc zero))) h = refl
+failed-same (suc (suc (suc (suc v)))) h = absurd (omega arith)
+
+flag-back : (l : List ℕ) (a : ℕ) → a + 1 ≤ length l → getD l a 0 ≤ 1 → bytesOf 1 (flagByte (flagOf (getD l a 0))) ≡ part l a 1
+flag-back l a h k = flag-same (getD l a 0) k ∙ sym (one l a h)
+
+flag-forth : (f : Bool) → flagOf (flagByte f % 256) ≡ f
+flag-forth true = refl
+flag-forth false = refl
+
+state-forth-tag : (s : ChannelState) → stateOfTag (stateTag s % 256) ≡ s
+state-forth-tag Opening = refl
+state-forth-tag Open = refl
+state-forth-tag Closed = refl
+
+failed-forth : (f : Failed) → failedOfTag (failedTag f % 256) ≡ f
+failed-forth No = refl
+failed-forth (By RxOverflow) = refl
+failed-forth (By ShortReadyPayload) = refl
+failed-forth (By UnexpectedCommand) = refl
+
+flag-le : (f : Bool) → flagByte f % 256 ≤ 1
+flag-le true = omega arith
+flag-le false = omega arith
+
+state-le : (s : ChannelState) → stateTag s % 256 ≤ 2
+state-le Opening = omega arith
+state-le Open = omega arith
+state-le Closed = omega arith
+
+failed-le : (f : Failed) → failedTag f % 256 ≤ 3
+failed-le No = omega arith
+failed-le (By RxOverflow) = omega arith
+failed-le (By ShortReadyPayload) = omega arith
+failed-le (By UnexpectedCommand) = omega arith
+
+part-start : (l : List ℕ) (n : ℕ) → part l 0 n ≡ take n l
+unfolding part
+part-start l n = refl
+
+-- ---- a slot's bytes, read and written again
+
+record SlotTests (l : List ℕ) : Type 0 where
+  filled : getD l 48 0 ≤ 1
+  remote : getD l 49 0 ≤ 1
+  acked : getD l 50 0 ≤ 1
+  state : getD l 51 0 ≤ 2
+  failed : getD l 52 0 ≤ 3
+
+slot-tests : (l : List ℕ) → isSlot l ≡ true → SlotTests l
+unfolding isSlot
+slot-tests l e =
+    let e₄ = and-true _ _ e in
+    let e₃ = and-true _ _ (e₄ .0) in
+    let e₂ = and-true _ _ (e₃ .0) in
+    let e₁ = and-true _ _ (e₂ .0) in
+    record { filled = leb-true _ _ (e₁ .0); remote = leb-true _ _ (e₁ .1); acked = leb-true _ _ (e₂ .1); state = leb-true _ _ (e₃ .1); failed = leb-true _ _ (e₄ .1) }
+
+slot-back : (l : List ℕ) → Bytes l → 53 ≤ length l → isSlot l ≡ true → slotBytes (slotOf l) ≡ take 53 l
+unfolding slotBytes slotNumbers slotTags slotOf
+slot-back l b h t =
+    let k = slot-tests l t in
+    rw (
+      read-write-part l 0 4 b (omega arith),
+      read-write-part l 4 4 b (omega arith),
+      unsigned-signed 63 (numOf (part l 8 8)) (numOf-part 8 l 8 b),
+      read-write-part l 8 8 b (omega arith),
+      read-write-part l 16 8 b (omega arith),
+      read-write-part l 24 8 b (omega arith),
+      read-write-part l 32 8 b (omega arith),
+      read-write-part l 40 8 b (omega arith),
+      flag-back l 48 (omega arith) (k .filled),
+      flag-back l 49 (omega arith) (k .remote),
+      flag-back l 50 (omega arith) (k .acked),
+      state-same (getD l 51 0) (k .state) ∙ sym (one l 51 (omega arith)),
+      failed-same (getD l 52 0) (k .failed) ∙ sym (one l 52 (omega arith)),
+      part-join l 0 4 4,
+      part-join l 0 8 8,
+      part-join l 0 16 8,
+      part-join l 0 24 8,
+      part-join l 0 32 8,
+      part-join l 0 40 8,
+      part-join l 48 1 1,
+      part-join l 48 2 1,
+      part-join l 48 3 1,
+      part-join l 48 4 1,
+      part-join l 0 48 5,
+    )
+    (part-start l 53)
+
+-- what fits its bytes is read back
+pub record SlotFits (s : ChannelSlot) : Type 0 where
+  pub local : s .local .0 < 2 ^ 32
+  pub remote : s .remote .0 < 2 ^ 32
+  pub budget : mag (s .«send_budget») < 2 ^ 63
+  pub unacked : s .unacked < 2 ^ 64
+  pub settled : s .settled < 2 ^ 64
+  pub head : s .head < 2 ^ 64
+  pub buffered : s .buffered < 2 ^ 64
+
+pub slot-forth : (s : ChannelSlot) → SlotFits s → slotOf (slotBytes s) ≡ s
+unfolding slotOf slotBytes slotNumbers slotTags bytesOf part
+slot-forth s f =
+    rw (
+      flag-forth (s .filled),
+      flag-forth (s .«has_remote»),
+      flag-forth (s .«wrte_acked»),
+      state-forth-tag (s .state),
+      failed-forth (s .failed),
+      write-read 4 (s .local .0) (f .local),
+      write-read 4 (s .remote .0) (f .remote),
+      write-read 8 (unsigned 63 (s .«send_budget»)) (unsigned-small 63 (s .«send_budget») (f .budget)),
+      signed-unsigned 63 (s .«send_budget») (f .budget),
+      write-read 8 (s .unacked) (f .unacked),
+      write-read 8 (s .settled) (f .settled),
+      write-read 8 (s .head) (f .head),
+      write-read 8 (s .buffered) (f .buffered),
+    )
+
+pub slot-is : (s : ChannelSlot) → isSlot (slotBytes s) ≡ true
+unfolding isSlot slotBytes slotNumbers slotTags bytesOf
+slot-is s =
+    rw (
+      le-leb (flagByte (s .filled) % 256) 1 (flag-le (s .filled)),
+      le-leb (flagByte (s .«has_remote») % 256) 1 (flag-le (s .«has_remote»)),
+      le-leb (flagByte (s .«wrte_acked») % 256) 1 (flag-le (s .«wrte_acked»)),
+      le-leb (stateTag (s .state) % 256) 2 (state-le (s .state)),
+      le-leb (failedTag (s .failed) % 256) 3 (failed-le (s .failed)),
+    )
+
+-- ---- a waiting open's bytes
+
+pub record OpenFits (q : PendingOpen) : Type 0 where
+  pub remote : q .remote .0 < 2 ^ 32
+  pub credit : q .credit < 2 ^ 32
+  pub share : q .share < 2 ^ 64
+  pub length : q .length < 2 ^ 64
+
+pub open-forth : (q : PendingOpen) → OpenFits q → openOf (openBytes q) ≡ q
+unfolding openOf openBytes bytesOf part
+open-forth q f =
+    rw (
+      write-read 4 (q .remote .0) (f .remote),
+      write-read 4 (q .credit) (f .credit),
+      write-read 8 (q .share) (f .share),
+      write-read 8 (q .length) (f .length),
+    )
+
+open-back : (l : List ℕ) → Bytes l → 24 ≤ length l → openBytes (openOf l) ≡ take 24 l
+unfolding openBytes openOf
+open-back l b h =
+    rw (
+      read-write-part l 0 4 b (omega arith),
+      read-write-part l 4 4 b (omega arith),
+      read-write-part l 8 8 b (omega arith),
+      read-write-part l 16 8 b (omega arith),
+      part-join l 0 4 4,
+      part-join l 0 8 8,
+      part-join l 0 16 8,
+    )
+    (part-start l 24)
+
+-- ---- the header's bytes
+
+pub record HeaderFits (h : Header) : Type 0 where
+  pub channels : h .negotiated .config .channels < 2 ^ 64
+  pub rx : h .negotiated .config .«max_rx_per_channel» < 2 ^ 64
+  pub place : h .waiting .slot < 2 ^ 64
+  pub queued : h .queued < 2 ^ 64
+  pub payload : h .negotiated .config .«max_payload» < 2 ^ 32
+  pub initial : h .negotiated .config .«initial_ack_bytes» < 2 ^ 32
+  pub most : h .negotiated .«max_payload» < 2 ^ 32
+  pub version : h .negotiated .«protocol_version» < 2 ^ 32
+  pub next : h .«next_local» < 2 ^ 32
+  pub local : h .waiting .local .0 < 2 ^ 32
+
+pub header-forth : (h : Header) (r : List ℕ) → HeaderFits h → headerOf (headerBytes h ++ r) ≡ h
+unfolding headerOf headerBytes headerSizes headerWords headerTags bytesOf part
+header-forth h r f =
+    rw (
+      flag-forth (h .negotiated .«delayed_ack»),
+      flag-forth (h .waiting .on),
+      write-read 8 (h .negotiated .config .channels) (f .channels),
+      write-read 8 (h .negotiated .config .«max_rx_per_channel») (f .rx),
+      write-read 8 (h .waiting .slot) (f .place),
+      write-read 8 (h .queued) (f .queued),
+      write-read 4 (h .negotiated .config .«max_payload») (f .payload),
+      write-read 4 (h .negotiated .config .«initial_ack_bytes») (f .initial),
+      write-read 4 (h .negotiated .«max_payload») (f .most),
+      write-read 4 (h .negotiated .«protocol_version») (f .version),
+      write-read 4 (h .«next_local») (f .next),
+      write-read 4 (h .waiting .local .0) (f .local),
+    )
+
+header-back : (l : List ℕ) → Bytes l → 58 ≤ length l → getD l 56 0 ≤ 1 → getD l 57 0 ≤ 1 → headerBytes (headerOf l) ≡ take 58 l
+unfolding headerBytes headerSizes headerWords headerTags headerOf
+header-back l b h s t =
+    rw (
+      read-write-part l 0 8 b (omega arith),
+      read-write-part l 8 8 b (omega arith),
+      read-write-part l 16 8 b (omega arith),
+      read-write-part l 24 8 b (omega arith),
+      read-write-part l 32 4 b (omega arith),
+      read-write-part l 36 4 b (omega arith),
+      read-write-part l 40 4 b (omega arith),
+      read-write-part l 44 4 b (omega arith),
+      read-write-part l 48 4 b (omega arith),
+      read-write-part l 52 4 b (omega arith),
+      flag-back l 56 (omega arith) s,
+      flag-back l 57 (omega arith) t,
+      part-join l 0 8 8,
+      part-join l 0 16 8,
+      part-join l 0 24 8,
+      part-join l 32 4 4,
+      part-join l 32 8 4,
+      part-join l 32 12 4,
+      part-join l 32 16 4,
+      part-join l 32 20 4,
+      part-join l 56 1 1,
+      part-join l 0 32 24,
+      part-join l 0 56 2,
+    )
+    (part-start l 58)
+
+header-flags : (h : Header) (r : List ℕ) → (getD (headerBytes h ++ r) 56 0 ≤ 1) × (getD (headerBytes h ++ r) 57 0 ≤ 1)
+unfolding headerBytes headerSizes headerWords headerTags bytesOf
+header-flags h r = (flag-le (h .negotiated .«delayed_ack»), flag-le (h .waiting .on))
+
+-- ---- the whole
+
+-- what the test of the bytes says
+pub record StateTests (b : List ℕ) : Type 0 where
+  pub long : 4986 ≤ length b
+  pub delayed : getD b 56 0 ≤ 1
+  pub waits : getD b 57 0 ≤ 1
+  pub slots : allIs 53 isSlot 64 (drop 58 b) ≡ true
+
+pub state-tests : (b : List ℕ) → isState b ≡ true → StateTests b
+unfolding isState
+state-tests b e =
+    let e₃ = and-true _ _ e in
+    let e₂ = and-true _ _ (e₃ .0) in
+    let e₁ = and-true _ _ (e₂ .0) in
+    record { long = leb-true _ _ (e₁ .0); delayed = leb-true _ _ (e₁ .1); waits = leb-true _ _ (e₂ .1); slots = e₃ .1 }
+
+row-whole : (size : ℕ) (l : List ℕ) → size ≤ length l → length (take size l) ≡ size
+row-whole size l h = simp length-take (omega arith)
+
+slot-row-back : (l : List ℕ) → Bytes l → 53 ≤ length l → isSlot (take 53 l) ≡ true → slotBytes (slotOf (take 53 l)) ≡ take 53 l
+slot-row-back l b h t =
+    let n = row-whole 53 l h in
+    slot-back (take 53 l) (bytes-take 53 l b) (omega arith) t ∙ take-all 53 (take 53 l) (omega arith)
+
+abbrev anyBytes : List ℕ → Bool
+anyBytes l = true
+
+all-any : (size n : ℕ) (l : List ℕ) → allIs size anyBytes n l ≡ true
+unfolding allIs
+all-any size zero l = refl
+all-any size (suc n) l = all-any size n (drop size l)
+
+open-row-back : (l : List ℕ) → Bytes l → 24 ≤ length l → anyBytes (take 24 l) ≡ true → openBytes (openOf (take 24 l)) ≡ take 24 l
+open-row-back l b h t =
+    let n = row-whole 24 l h in
+    open-back (take 24 l) (bytes-take 24 l b) (omega arith) ∙ take-all 24 (take 24 l) (omega arith)
+
+-- bytes that are a state's are the layout of their reading
+pub state-back : (b : List ℕ) → Bytes b → isState b ≡ true → layout (stateOf b) ≡ take 4986 b
+unfolding layout stateOf
+state-back b y e =
+    let k = state-tests b e in
+    let long = k .long in
+    let s : flat slotBytes (rows 53 slotOf 64 (drop 58 b)) ≡ take 3392 (drop 58 b) =
+    flat-rows 53 slotBytes slotOf isSlot slot-row-back 64 (drop 58 b) (bytes-drop 58 b y) (simp length-drop (omega arith)) (k .slots) in
+    let q : flat openBytes (rows 24 openOf 64 (drop 3450 b)) ≡ take 1536 (drop 3450 b) =
+    flat-rows 24 openBytes openOf anyBytes open-row-back 64 (drop 3450 b) (bytes-drop 3450 b y) (simp length-drop (omega arith)) (all-any 24 64 (drop 3450 b)) in
+    rw (header-back b y (omega arith) (k .delayed) (k .waits), s, q)
+    (ap (λ (l : List ℕ). l ++ take 1536 (drop 3450 b)) (sym (take-add 58 3392 b)) ∙ sym (take-add 3450 1536 b))
+
+pub state-split : (b : List ℕ) → Bytes b → isState b ≡ true → layout (stateOf b) ++ drop 4986 b ≡ b
+state-split b y e = rw (state-back b y e) (take-append-drop 4986 b)
+
+-- all 64 of each
+pub record Full (c : Connection) : Type 0 where
+  pub slots : length (c .slots) ≡ 64
+  pub opens : length (c .opens) ≡ 64
+
+pub state-full : (b : List ℕ) → Full (stateOf b)
+unfolding stateOf
+state-full b = record { slots = length-rows 53 slotOf 64 (drop 58 b); opens = length-rows 24 openOf 64 (drop 3450 b) }
+
+-- every number fits its bytes
+pub record Fits (c : Connection) : Type 0 where
+  pub header : HeaderFits (c .header)
+  pub full : Full c
+  pub slots : Every SlotFits (c .slots)
+  pub opens : Every OpenFits (c .opens)
+
+-- a state that fits is read back from its bytes
+pub state-forth : (c : Connection) (r : List ℕ) → Fits c → stateOf (layout c ++ r) ≡ c
+unfolding stateOf layout
+state-forth c r f =
+    let h = headerBytes (c .header) in
+    let x = flat slotBytes (c .slots) in
+    let q = flat openBytes (c .opens) in
+    let n = length-header (c .header) in
+    let m = length-flat 53 slotBytes length-slot (c .slots) in
+    let a = f .full .slots in
+    let b = f .full .opens in
+    let hx : length (h ++ x) ≡ 3450 = simp length-append (omega arith) in
+    let g1 : h ++ x ++ q ++ r ≡ h ++ (x ++ (q ++ r)) = simp append-assoc in
+    let g2 : h ++ x ++ q ++ r ≡ h ++ x ++ (q ++ r) = simp append-assoc in
+    let e1 : headerOf (h ++ x ++ q ++ r) ≡ c .header = rw g1 (header-forth (c .header) (x ++ (q ++ r)) (f .header)) in
+    let d2 : drop 58 (h ++ x ++ q ++ r) ≡ x ++ (q ++ r) = rw g1 (drop-at h (x ++ (q ++ r)) 58 n) in
+    let d3 : drop 3450 (h ++ x ++ q ++ r) ≡ q ++ r = rw g2 (drop-at (h ++ x) (q ++ r) 3450 hx) in
+    let e2 : rows 53 slotOf 64 (x ++ (q ++ r)) ≡ c .slots = rw a at (rows-flat 53 slotBytes slotOf SlotFits length-slot slot-forth (c .slots) (q ++ r) (f .slots)) in
+    let e3 : rows 24 openOf 64 (q ++ r) ≡ c .opens = rw b at (rows-flat 24 openBytes openOf OpenFits length-open open-forth (c .opens) r (f .opens)) in
+    rw (e1, d2, d3, e2, e3)
+
+-- what bytes stand for fits
+slot-fits : (l : List ℕ) → Bytes l → SlotFits (slotOf l)
+unfolding slotOf
+slot-fits l y =
+    record {
+      local = numOf-part 4 l 0 y;
+      remote = numOf-part 4 l 4 y;
+      budget = signed-small 63 (numOf (part l 8 8)) (numOf-part 8 l 8 y);
+      unacked = numOf-part 8 l 16 y;
+      settled = numOf-part 8 l 24 y;
+      head = numOf-part 8 l 32 y;
+      buffered = numOf-part 8 l 40 y;
+    }
+
+open-fits : (l : List ℕ) → Bytes l → OpenFits (openOf l)
+unfolding openOf
+open-fits l y = record { remote = numOf-part 4 l 0 y; credit = numOf-part 4 l 4 y; share = numOf-part 8 l 8 y; length = numOf-part 8 l 16 y }
+
+header-fits : (l : List ℕ) → Bytes l → HeaderFits (headerOf l)
+unfolding headerOf
+header-fits l y =
+    record {
+      channels = numOf-part 8 l 0 y;
+      rx = numOf-part 8 l 8 y;
+      place = numOf-part 8 l 16 y;
+      queued = numOf-part 8 l 24 y;
+      payload = numOf-part 4 l 32 y;
+      initial = numOf-part 4 l 36 y;
+      most = numOf-part 4 l 40 y;
+      version = numOf-part 4 l 44 y;
+      next = numOf-part 4 l 48 y;
+      local = numOf-part 4 l 52 y;
+    }
+
+pub state-fits : (b : List ℕ) → Bytes b → Fits (stateOf b)
+unfolding stateOf
+state-fits b y =
+    record {
+      header = header-fits b y;
+      full = state-full b;
+      slots = rows-fit 53 slotOf SlotFits slot-fits 64 (drop 58 b) (bytes-drop 58 b y);
+      opens = rows-fit 24 openOf OpenFits open-fits 64 (drop 3450 b) (bytes-drop 3450 b y);
+    }
+
+-- ---- one record put into a state's bytes
+
+pub put-slot-layout : (c : Connection) (r : List ℕ) (i : ℕ) (s : ChannelSlot) → i < length (c .slots) → putSlot (layout c ++ r) i s ≡ layout (withSlot c i s) ++ r
+unfolding putSlot layout
+put-slot-layout c r i s h =
+    let f = headerBytes (c .header) in
+    let q = flat openBytes (c .opens) in
+    let g : (x : List ChannelSlot) → f ++ flat slotBytes x ++ q ++ r ≡ f ++ flat slotBytes x ++ (q ++ r) = λ x. append-assoc (f ++ flat slotBytes x) q r in
+    let n = length-header (c .header) in
+    rw (g (c .slots), g (set (c .slots) i s)) (put-row 53 slotBytes length-slot f (c .slots) (q ++ r) i (58 + i * 53) s h (omega arith))
+
+pub put-header-layout : (c : Connection) (r : List ℕ) (h : Header) → putHeader (layout c ++ r) h ≡ layout (withHeader c h) ++ r
+unfolding putHeader layout
+put-header-layout c r h =
+    let x = flat slotBytes (c .slots) in
+    let q = flat openBytes (c .opens) in
+    let g : (f : List ℕ) → f ++ x ++ q ++ r ≡ f ++ (x ++ q ++ r) = λ f. simp append-assoc in
+    rw (g (headerBytes (c .header)), g (headerBytes h)) (put-at [] (headerBytes (c .header)) (x ++ q ++ r) (headerBytes h) 0 refl (length-header (c .header) ∙ sym (length-header h)))
+
+pub put-open-layout : (c : Connection) (r : List ℕ) (i : ℕ) (q : PendingOpen) → length (c .slots) ≡ 64 → i < length (c .opens) → putOpen (layout c ++ r) i q ≡ layout (withOpen c i q) ++ r
+unfolding putOpen layout
+put-open-layout c r i q n h =
+    let f = headerBytes (c .header) ++ flat slotBytes (c .slots) in
+    let a = length-header (c .header) in
+    let b = length-flat 53 slotBytes length-slot (c .slots) in
+    let m : length f ≡ 3450 = simp length-append (omega arith) in
+    put-row 24 openBytes length-open f (c .opens) r i (3450 + i * 24) q h (omega arith)
+
+-- ---- what the code reads is the state's
+
+slot-part : (b : List ℕ) (i : ℕ) → part (drop 58 b) (i * 53) 53 ≡ part b (58 + i * 53) 53
+unfolding part
+slot-part b i = rw drop-drop
+
+open-part : (b : List ℕ) (i : ℕ) → part (drop 3450 b) (i * 24) 24 ≡ part b (3450 + i * 24) 24
+unfolding part
+open-part b i = rw drop-drop
+
+pub slot-in : (b : List ℕ) (i : ℕ) (d : ChannelSlot) → i < 64 → getD (stateOf b .slots) i d ≡ slotAt b i
+unfolding stateOf slotAt
+slot-in b i d h = row-at 53 slotOf d 64 i (drop 58 b) h ∙ ap slotOf (slot-part b i)
+
+pub open-in : (b : List ℕ) (i : ℕ) (d : PendingOpen) → i < 64 → getD (stateOf b .opens) i d ≡ openAt b i
+unfolding stateOf openAt
+open-in b i d h = row-at 24 openOf d 64 i (drop 3450 b) h ∙ ap openOf (open-part b i)
+
+pub header-in : (b : List ℕ) → stateOf b .header ≡ headerOf b
+unfolding stateOf
+header-in b = refl
+
+-- a state's bytes pass the test
+pub layout-is-state : (c : Connection) (r : List ℕ) → Full c → isState (layout c ++ r) ≡ true
+unfolding isState layout
+layout-is-state c r f =
+    let h = headerBytes (c .header) in
+    let x = flat slotBytes (c .slots) in
+    let q = flat openBytes (c .opens) in
+    let n = length-header (c .header) in
+    let m = length-flat 53 slotBytes length-slot (c .slots) in
+    let k = length-flat 24 openBytes length-open (c .opens) in
+    let a = f .slots in
+    let b = f .opens in
+    let long : 4986 ≤ length (h ++ x ++ q ++ r) = simp length-append (omega arith) in
+    let g : h ++ x ++ q ++ r ≡ h ++ (x ++ (q ++ r)) = simp append-assoc in
+    let d : drop 58 (h ++ x ++ q ++ r) ≡ x ++ (q ++ r) = rw g (drop-at h (x ++ (q ++ r)) 58 n) in
+    let s : allIs 53 isSlot 64 (x ++ (q ++ r)) ≡ true = rw a at (all-flat 53 slotBytes isSlot length-slot slot-is (c .slots) (q ++ r)) in
+    let z = rw (← g) at (header-flags (c .header) (x ++ (q ++ r))) in
+    rw (le-leb 4986 (length (h ++ x ++ q ++ r)) long, le-leb (getD (h ++ x ++ q ++ r) 56 0) 1 (z .0), le-leb (getD (h ++ x ++ q ++ r) 57 0) 1 (z .1), d) s
+
+-- ---- what is put is read back, and the others stay
+
+module _ (b : List ℕ) (i : ℕ) (s : ChannelSlot) (h : i < 64) (k : 4986 ≤ length b) where
+  pub put-slot-length : length (putSlot b i s) ≡ length b
+  unfolding putSlot
+  put-slot-length = let n = length-slot s in length-put b (58 + i * 53) (slotBytes s) (omega arith)
+
+  pub put-slot-same : SlotFits s → slotAt (putSlot b i s) i ≡ s
+  unfolding slotAt putSlot
+  put-slot-same f =
+      let n = length-slot s in
+      let e : part (put b (58 + i * 53) (slotBytes s)) (58 + i * 53) 53 ≡ slotBytes s = rw n at (part-put-same b (58 + i * 53) (slotBytes s) (omega arith)) in
+      rw e (slot-forth s f)
+
+  pub put-slot-other : (j : ℕ) → j < 64 → (j ≡ i → ⊥) → slotAt (putSlot b i s) j ≡ slotAt b j
+  unfolding slotAt putSlot
+  put-slot-other j g ne =
+      let n = length-slot s in
+      by-test (ltb j i)
+      (λ t. rw (part-put-below b (58 + i * 53) (slotBytes s) (58 + j * 53) 53 (omega arith) (omega (arith, ltb-true))))
+      (λ t. by-test (ltb i j)
+      (λ u. rw (part-put-above b (58 + i * 53) (slotBytes s) (58 + j * 53) 53 (omega arith) (omega (arith, ltb-true))))
+      (λ u. absurd (ne (omega (arith, ltb-false)))))
+
+  pub put-slot-opens : (j : ℕ) → j < 64 → openAt (putSlot b i s) j ≡ openAt b j
+  unfolding openAt putSlot
+  put-slot-opens j g =
+      let n = length-slot s in
+      rw (part-put-above b (58 + i * 53) (slotBytes s) (3450 + j * 24) 24 (omega arith) (omega arith))
