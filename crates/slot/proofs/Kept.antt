@@ -1,15 +1,15 @@
 -- No function on a slot breaks what its numbers of received bytes satisfy. Assumes nothing.
-use mathlib.Core.Path.{_≡_, refl, sym, ap, subst, _∙_}
-use mathlib.Core.Bool.{Bool, true, false, cond, _&&_}
+use mathlib.Core.Path.{_≡_, refl}
+use mathlib.Core.Bool.{Bool, true, false, cond}
 use mathlib.Core.List.{List}
-use Prim.Native.Nat.{ℕ, _+_, _-_, _*_, _≤_, _<_, min}
+use Prim.Native.Nat.{ℕ, _+_, _-_, _*_, _≤_, min}
 use native.Mathlib.Omega.{arith}
 use lib.Dec.{ltb, leb, eqb}
 use borrow.Author.Tests.{ltb-false, leb-true, le-leb, eqb-true}
 use Rattle.le.proofs.Parts.{by-test}
 use Rattle.config.specs.declared.negotiated.RxPolicy.{RxPolicy}
 use Rattle.config.proofs.Laws.{and-true}
-use Rattle.rx_store.specs.RxStore.{Room, appendedHead, takenHead}
+use Rattle.rx_store.specs.RxStore.{Room}
 use Rattle.rx_store.proofs.Laws.{head-appended, head-taken}
 use Rattle.slot.specs.declared.ids.LocalId.{LocalId}
 use Rattle.slot.specs.declared.ids.RemoteId.{RemoteId}
@@ -30,7 +30,7 @@ use Rattle.slot.specs.declared.Budget.{Budget}
 use Rattle.slot.specs.declared.Budget.the-variants.{Bytes, Nothing as NoBudget}
 use Rattle.slot.specs.declared.Settled.{Settled}
 use Rattle.slot.specs.declared.Wrote.{Wrote}
-use Rattle.slot.specs.Slot.{openingSlot, acceptedSlot, openedOf, openedBy, readyOf, readyBy, creditOf, heldOf, isOpening, acksNow, bufferedWith, wroteOf, deliveredOf, ackLenOf, settledBy, settledSome, settledOf, takeLen, tookOf, takenOf, hasData, isClosed, errorOf, budgetOf, reservedBy, reservedOf, spentOf, refundedOf, closedSlot, failedSlot, withNumbers, slotOk, SlotOk}
+use Rattle.slot.specs.Slot.{openingSlot, acceptedSlot, openedOf, openedBy, readyOf, readyBy, creditOf, heldOf, isOpening, acksNow, bufferedWith, wroteOf, deliveredOf, ackLenOf, settledBy, settledSome, settledOf, takeLen, tookOf, takenOf, hasData, isClosed, budgetOf, reservedBy, reservedOf, spentOf, refundedOf, closedSlot, failedSlot, slotOk, SlotOk}
 use Rattle.slot.proofs.Laws.{take-held, take-room}
 
 -- what holds of both ways of a choice holds of the choice

@@ -137,7 +137,7 @@ pub fn parse_ready_credit(payload: &[u8]) -> Credit
     Credit::Of(le::get_i32(payload, 0))
 }
 
-fn is_opening(state: ChannelState) -> bool
+pub fn is_opening(state: ChannelState) -> bool
     ensures { λ r. ⌜ r ≡ isOpening state ⌝ }
 {
     match state {
@@ -147,7 +147,7 @@ fn is_opening(state: ChannelState) -> bool
     }
 }
 
-fn is_closed(state: ChannelState) -> bool
+pub fn is_closed(state: ChannelState) -> bool
     ensures { λ r. ⌜ r ≡ isClosed state ⌝ }
 {
     match state {

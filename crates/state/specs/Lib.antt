@@ -1,3 +1,4 @@
 pub mod Change
 pub mod Rows
 pub mod State
+pub mod Valid

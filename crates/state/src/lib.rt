@@ -1,6 +1,8 @@
 // The lent state, worked on in place: a header of 58 bytes, 64 slots of 53, 64 waiting opens of 24 (docs/LAYOUT.md).
 // The header is read and written by value; a slot or a waiting open is read where it lies, and the one that changed is
 // stored.
+pub mod valid;
+
 use config::ConnectionConfig;
 use config::negotiated::Negotiated;
 use slot::ChannelFault;
@@ -111,7 +113,7 @@ fn failed_tag(failed: Failed) -> u8
 }
 
 // The slot that 53 bytes stand for.
-fn slot_of(p: &[u8]) -> ChannelSlot
+pub(crate) fn slot_of(p: &[u8]) -> ChannelSlot
     requires { ⌜ 53 ≤ length (now p) ⌝ }
     ensures { λ r. ⌜ r ≡ slotOf (now (p .entry)) ⌝ }
 {

@@ -1,0 +1,226 @@
+-- Laws of what makes a state whole. Assumes nothing.
+use mathlib.Core.Path.{_≡_, refl, sym, ap, _∙_}
+use mathlib.Core.Bool.{Bool, true, false, not, cond, _&&_}
+use mathlib.Core.List.{List, [], _∷_}
+use Prim.Native.Nat.{ℕ, zero, suc, _+_, _-_, _*_, _≤_, _<_}
+use native.Mathlib.Numerals.{add-one}
+use native.Mathlib.Omega.{arith}
+use lib.Dec.{ltb}
+use lib.ListN.{length, take, drop, getD, length-take, drop-of-length-le}
+use lib.Seq.{drop-cons, drop-drop, getD-take}
+use borrow.Author.Tests.{lt-ltb, le-ltb, le-leb, leb-true}
+use Rattle.le.specs.Le.{part}
+use Rattle.config.proofs.Laws.{and-true, within}
+use Rattle.config.specs.Config.{capOf}
+use Rattle.slot.specs.declared.ChannelSlot.{ChannelSlot}
+use Rattle.slot.proofs.Laws.{cond-true, cond-false}
+use Rattle.state.specs.declared.Header.{Header}
+use Rattle.state.specs.declared.PendingOpen.{PendingOpen}
+use Rattle.state.specs.Rows.{rows, allIs}
+use Rattle.state.specs.State.{slotOf, isSlot, openOf, headerOf, stateOf, isState, slotAt, openAt}
+use Rattle.state.specs.Valid.{filledOk, slotFine, slotsFine, rowFine, rowsFine, openFine, opensFine, waitingFine, headerFine, filledAt, HeaderOk, restWhole, whole, isWhole}
+use Rattle.state.proofs.StateLaws.{slot-in, open-in, state-full}
+
+-- ---- tests in a row
+
+pub and-goes : (a b r : Bool) → a ≡ true → r ≡ b → r ≡ (a && b)
+and-goes true b r e f = f
+and-goes false b r e f = let z : true ≡ false = cc in cc
+
+pub and-stops : (a b : Bool) → a ≡ false → false ≡ (a && b)
+and-stops true b e = cc
+and-stops false b e = refl
+
+and-ends : (a b : Bool) → b ≡ false → false ≡ (a && b)
+and-ends true b e = sym e
+and-ends false b e = refl
+
+-- three tests: all go, the first stops, the second stops
+pub three-go : (a b c r : Bool) → a ≡ true → b ≡ true → r ≡ c → r ≡ ((a && b) && c)
+three-go a b c r e f g = and-goes (a && b) c r (sym (and-goes a b true e (sym f))) g
+
+pub first-stops : (a b c : Bool) → a ≡ false → false ≡ ((a && b) && c)
+first-stops a b c e = and-stops (a && b) c (sym (and-stops a b e))
+
+second-stops : (a b c : Bool) → b ≡ false → false ≡ ((a && b) && c)
+second-stops a b c e = and-stops (a && b) c (sym (and-ends a b e))
+
+-- ---- one row
+
+module _ (channels cap i : ℕ) (l : List ℕ) (s : ChannelSlot) (same : s ≡ slotOf l) where
+  pub row-filled : (r : Bool) → isSlot l ≡ true → s .filled ≡ true → i < channels → r ≡ filledOk s cap → r ≡ rowFine channels cap i l
+  unfolding rowFine slotFine
+  row-filled r t f h e =
+      let g = slotOf l in
+      let k : g .filled ≡ true = ap (λ (x : ChannelSlot). x .filled) (sym same) ∙ f in
+      and-goes (isSlot l) _ r t
+      (and-goes (ltb i channels) (filledOk g cap) r (lt-ltb i channels h) (e ∙ ap (λ (x : ChannelSlot). filledOk x cap) same)
+      ∙ sym (cond-true (g .filled) (ltb i channels && filledOk g cap) true k))
+
+  pub row-beyond : isSlot l ≡ true → s .filled ≡ true → channels ≤ i → false ≡ rowFine channels cap i l
+  unfolding rowFine slotFine
+  row-beyond t f h =
+      let g = slotOf l in
+      let k : g .filled ≡ true = ap (λ (x : ChannelSlot). x .filled) (sym same) ∙ f in
+      and-goes (isSlot l) _ false t
+      (and-stops (ltb i channels) (filledOk g cap) (le-ltb i channels h) ∙ sym (cond-true (g .filled) (ltb i channels && filledOk g cap) true k))
+
+  pub row-empty : isSlot l ≡ true → s .filled ≡ false → true ≡ rowFine channels cap i l
+  unfolding rowFine slotFine
+  row-empty t f =
+      let g = slotOf l in
+      let k : g .filled ≡ false = ap (λ (x : ChannelSlot). x .filled) (sym same) ∙ f in
+      and-goes (isSlot l) _ true t (sym (cond-false (g .filled) (ltb i channels && filledOk g cap) true k))
+
+-- ---- the rows, in one pass
+
+rows-next : (i : ℕ) (l : List ℕ) → drop 53 (drop (i * 53) l) ≡ drop ((i + 1) * 53) l
+rows-next i l = let e : i * 53 + 53 ≡ (i + 1) * 53 = omega arith in rw (drop-drop, e)
+
+module _ (channels cap i : ℕ) (b : List ℕ) where
+  abbrev here : List ℕ
+  here = part b (58 + i * 53) 53
+
+  here-is : take 53 (drop (i * 53) (drop 58 b)) ≡ part b (58 + i * 53) 53
+  unfolding part
+  here-is = rw drop-drop
+
+  pub rows-step : i < 64 → rowFine channels cap i (part b (58 + i * 53) 53) ≡ true
+      → rowsFine channels cap i (64 - i) (drop (i * 53) (drop 58 b)) ≡ rowsFine channels cap (i + 1) (64 - (i + 1)) (drop ((i + 1) * 53) (drop 58 b))
+  unfolding rowsFine
+  rows-step h t =
+      let e : 64 - i ≡ suc (64 - (i + 1)) = omega arith in
+      rw (e, here-is, t, rows-next i (drop 58 b), add-one)
+
+  pub rows-stop : i < 64 → rowFine channels cap i (part b (58 + i * 53) 53) ≡ false → rowsFine channels cap i (64 - i) (drop (i * 53) (drop 58 b)) ≡ false
+  unfolding rowsFine
+  rows-stop h t = let e : 64 - i ≡ suc (64 - (i + 1)) = omega arith in rw (e, here-is, t)
+
+  pub rows-end : 64 ≤ i → rowsFine channels cap i (64 - i) (drop (i * 53) (drop 58 b)) ≡ true
+  unfolding rowsFine
+  rows-end h = let e : 64 - i ≡ 0 = omega arith in rw e
+
+-- one pass is both tests
+and-both : (a b c d : Bool) → ((a && b) && (c && d)) ≡ ((a && c) && (b && d))
+and-both true b true d = refl
+and-both true true false d = refl
+and-both true false false d = refl
+and-both false b c d = refl
+
+pub one-pass : (channels cap i n : ℕ) (l : List ℕ) → rowsFine channels cap i n l ≡ (allIs 53 isSlot n l && slotsFine channels cap i (rows 53 slotOf n l))
+unfolding rowsFine rowFine slotsFine allIs rows
+one-pass channels cap i zero l = refl
+one-pass channels cap i (suc n) l =
+    let r = one-pass channels cap (suc i) n (drop 53 l) in
+    let a = isSlot (take 53 l) in
+    let s = slotFine channels cap i (slotOf (take 53 l)) in
+    ap (λ (x : Bool). (a && s) && x) r
+    ∙ and-both a s (allIs 53 isSlot n (drop 53 l)) (slotsFine channels cap (suc i) (rows 53 slotOf n (drop 53 l)))
+    ∙ ap (λ (x : Bool). x && (s && slotsFine channels cap (suc i) (rows 53 slotOf n (drop 53 l)))) (cond-and a (allIs 53 isSlot n (drop 53 l)))
+  where
+    cond-and : (x y : Bool) → (x && y) ≡ cond x y false
+    cond-and true y = refl
+    cond-and false y = refl
+
+-- ---- the waiting opens, one at a time
+
+abbrev noOpen : PendingOpen
+noOpen = record { remote = record { 0 = 0 }; credit = 0; share = 0; length = 0 }
+
+module _ (b : List ℕ) (n i : ℕ) where
+  module _ (h : i < n) (k : n ≤ 64) where
+    open-here : drop i (take n (stateOf b .opens)) ≡ openAt b i ∷ drop (suc i) (take n (stateOf b .opens))
+    open-here =
+        let l = stateOf b .opens in
+        let z = state-full b .opens in
+        let m : i < length (take n l) = simp length-take (omega arith) in
+        drop-cons (take n l) i noOpen m
+        ∙ ap (λ (q : PendingOpen). q ∷ drop (suc i) (take n l)) (getD-take n l i noOpen h ∙ open-in b i noOpen (omega arith))
+
+    module _ (channels payload : ℕ) where
+      pub opens-step : openFine channels payload (openAt b i) ≡ true
+          → opensFine channels payload (drop i (take n (stateOf b .opens))) ≡ opensFine channels payload (drop (i + 1) (take n (stateOf b .opens)))
+      unfolding opensFine
+      opens-step t = rw (open-here, t, add-one)
+
+      pub opens-stop : openFine channels payload (openAt b i) ≡ false → opensFine channels payload (drop i (take n (stateOf b .opens))) ≡ false
+      unfolding opensFine
+      opens-stop t = rw (open-here, t)
+
+  pub opens-end : (channels payload : ℕ) → n ≤ i → opensFine channels payload (drop i (take n (stateOf b .opens))) ≡ true
+  unfolding opensFine
+  opens-end channels payload h =
+      let m : length (take n (stateOf b .opens)) ≤ i = simp length-take (omega arith) in
+      rw (drop-of-length-le (take n (stateOf b .opens)) m)
+
+-- ---- the open that waits for its OKAY
+
+filled-getD : (ss : List ChannelSlot) (i : ℕ) (d : ChannelSlot) → i < length ss → filledAt ss i ≡ getD ss i d .filled
+unfolding filledAt
+filled-getD [] i d h = absurd (omega arith)
+filled-getD (s ∷ ss) zero d h = refl
+filled-getD (s ∷ ss) (suc i) d h = filled-getD ss i d (omega arith)
+
+pub filled-at : (b : List ℕ) (i : ℕ) → i < 64 → filledAt (stateOf b .slots) i ≡ slotAt b i .filled
+filled-at b i h =
+    let d = slotAt b 0 in
+    let n = state-full b .slots in
+    filled-getD (stateOf b .slots) i d (omega arith) ∙ ap (λ (s : ChannelSlot). s .filled) (slot-in b i d h)
+
+module _ (h : Header) (b : List ℕ) where
+  pub waits-in : (s : ChannelSlot) → h .waiting .on ≡ true → h .waiting .slot < h .negotiated .config .channels → h .negotiated .config .channels ≤ 64
+      → s ≡ slotAt b (h .waiting .slot) → not (s .filled) ≡ waitingFine h (filledAt (stateOf b .slots) (h .waiting .slot))
+  unfolding waitingFine
+  waits-in s t k c e =
+      let i = h .waiting .slot in
+      let f = filled-at b i (omega arith) in
+      and-goes (ltb i (h .negotiated .config .channels)) (not (filledAt (stateOf b .slots) i)) (not (s .filled)) (lt-ltb i _ k)
+      (ap (λ (x : ChannelSlot). not (x .filled)) e ∙ ap not (sym f))
+      ∙ sym (cond-true (h .waiting .on) _ true t)
+
+  pub waits-out : h .waiting .on ≡ true → h .negotiated .config .channels ≤ h .waiting .slot → false ≡ waitingFine h (filledAt (stateOf b .slots) (h .waiting .slot))
+  unfolding waitingFine
+  waits-out t k =
+      and-stops (ltb (h .waiting .slot) (h .negotiated .config .channels)) _ (le-ltb _ _ k) ∙ sym (cond-true (h .waiting .on) _ true t)
+
+  pub waits-not : h .waiting .on ≡ false → true ≡ waitingFine h (filledAt (stateOf b .slots) (h .waiting .slot))
+  unfolding waitingFine
+  waits-not t = sym (cond-false (h .waiting .on) _ true t)
+
+-- ---- the whole
+
+pub rest-waits : (h : Header) (b : List ℕ) → waitingFine h (filledAt (stateOf b .slots) (h .waiting .slot)) ≡ false → false ≡ restWhole h b
+unfolding restWhole
+rest-waits h b e =
+    second-stops (rowsFine (h .negotiated .config .channels) (capOf (h .negotiated .config)) 0 64 (drop 58 b))
+    (waitingFine h (filledAt (stateOf b .slots) (h .waiting .slot)))
+    (opensFine (h .negotiated .config .channels) (h .negotiated .config .«max_payload») (take (h .queued) (stateOf b .opens)))
+    e
+
+pub header-ok : (h : Header) → headerFine h ≡ true → HeaderOk h
+unfolding headerFine
+header-ok h e =
+    let e₄ = and-true _ _ e in
+    let e₃ = and-true _ _ (e₄ .0) in
+    let e₂ = and-true _ _ (e₃ .0) in
+    let e₁ = and-true _ _ (e₂ .0) in
+    record { within = within (h .negotiated .config) (e₁ .0); queue-fits = leb-true _ _ (e₄ .1) }
+
+together : (a s w o : Bool) → (((a && s) && w) && o) ≡ (a && ((s && w) && o))
+together true s w o = refl
+together false s w o = refl
+
+pub rest-is-whole : (b : List ℕ) → 4986 ≤ length b → getD b 56 0 ≤ 1 → getD b 57 0 ≤ 1 → headerFine (headerOf b) ≡ true → restWhole (headerOf b) b ≡ isWhole b
+unfolding restWhole isWhole isState whole stateOf
+rest-is-whole b l f g h =
+    let k = headerOf b in
+    let n = k .negotiated .config .channels in
+    let cap = capOf (k .negotiated .config) in
+    rw (one-pass n cap 0 64 (drop 58 b), le-leb 4986 (length b) l, le-leb (getD b 56 0) 1 f, le-leb (getD b 57 0) 1 g, h)
+    (together (allIs 53 isSlot 64 (drop 58 b)) (slotsFine n cap 0 (rows 53 slotOf 64 (drop 58 b)))
+    (waitingFine k (filledAt (rows 53 slotOf 64 (drop 58 b)) (k .waiting .slot)))
+    (opensFine n (k .negotiated .config .«max_payload») (take (k .queued) (rows 24 openOf 64 (drop 3450 b)))))
+
+pub header-not-whole : (b : List ℕ) → headerFine (headerOf b) ≡ false → false ≡ isWhole b
+unfolding isWhole whole stateOf
+header-not-whole b h = and-ends (isState b) _ (rw h)
