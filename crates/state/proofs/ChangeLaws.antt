@@ -31,11 +31,11 @@ put-opens-layout c r qs f h =
     let n = f .slots in
     let k = f .opens in
     let a = length-header (c .header) in
-    let b = length-flat 53 slotBytes length-slot (c .slots) in
+    let b = length-flat 49 slotBytes length-slot (c .slots) in
     let x = length-flat 24 openBytes length-open (c .opens) in
     let y = length-flat 24 openBytes length-open qs in
-    let m : length p ≡ 3450 = simp length-append (omega arith) in
-    put-at p (flat openBytes (c .opens)) r (flat openBytes qs) 3450 m (omega arith)
+    let m : length p ≡ 3194 = simp length-append (omega arith) in
+    put-at p (flat openBytes (c .opens)) r (flat openBytes qs) 3194 m (omega arith)
 
 pub change-layout : (c : Connection) (r : List ℕ) (x : Change) → Full c → Within x → putChange (layout c ++ r) x ≡ layout (changed c x) ++ r
 change-layout c r (slotTo i s) f w = put-slot-layout c r i s (rw (f .slots) w)
@@ -49,10 +49,10 @@ changes-layout c r [] f w = refl
 changes-layout c r (x ∷ xs) f w = rw (change-layout c r x f (w .0)) (changes-layout (changed c x) r xs (changed-full c x f (w .0)) (w .1))
 
 -- the same of bytes that are a state's: what a call's exported function says of its state
-pub changes-bytes : (b : List ℕ) (xs : List Change) → Bytes b → isState b ≡ true → Every Within xs → putAll b xs ≡ layout (changedAll (stateOf b) xs) ++ drop 4986 b
+pub changes-bytes : (b : List ℕ) (xs : List Change) → Bytes b → isState b ≡ true → Every Within xs → putAll b xs ≡ layout (changedAll (stateOf b) xs) ++ drop 4730 b
 changes-bytes b xs y t w =
     ap (λ (l : List ℕ). putAll l xs) (sym (state-split b y t))
-    ∙ changes-layout (stateOf b) (drop 4986 b) xs (state-full b) w
+    ∙ changes-layout (stateOf b) (drop 4730 b) xs (state-full b) w
 
 -- a change fits where what it puts does
 abbrev pub ChangeFits : Change → Type 0

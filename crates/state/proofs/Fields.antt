@@ -10,9 +10,9 @@ use Rattle.le.proofs.Parts.{put-seq, length-part, lent-part, lent-back}
 use Rattle.slot.specs.declared.ChannelSlot.{ChannelSlot}
 use Rattle.state.specs.declared.Header.{Header}
 use Rattle.state.specs.declared.PendingOpen.{PendingOpen}
-use Rattle.state.specs.State.{flagByte, stateTag, failedTag, slotNumbers, slotTags, slotBytes, openBytes, headerSizes, headerWords, headerTags, headerBytes, putHeader}
+use Rattle.state.specs.State.{flagByte, stateTag, failedTag, slotNumbers, tagOf, slotBytes, openBytes, headerSizes, headerWords, headerTags, headerBytes, putHeader}
 
-pub numbers-put : (d : List ℕ) (s : ChannelSlot) → 53 ≤ length d
+pub numbers-put : (d : List ℕ) (s : ChannelSlot) → 49 ≤ length d
     → put (put (put (put (put (put (put d 0 (bytesOf 4 (s .local .0))) 4 (bytesOf 4 (s .remote .0))) 8 (bytesOf 8 (unsigned 63 (s .«send_budget»)))) 16 (bytesOf 8 (s .unacked))) 24 (bytesOf 8 (s .settled))) 32 (bytesOf 8 (s .head))) 40 (bytesOf 8 (s .buffered)) ≡ put d 0 (slotNumbers s)
 unfolding slotNumbers bytesOf
 numbers-put d s h =
@@ -20,21 +20,13 @@ numbers-put d s h =
     (bytesOf 4 (s .remote .0) ∷ bytesOf 8 (unsigned 63 (s .«send_budget»)) ∷ bytesOf 8 (s .unacked) ∷ bytesOf 8 (s .settled) ∷ bytesOf 8 (s .head) ∷ bytesOf 8 (s .buffered) ∷ [])
     (omega arith)
 
-pub tags-put : (d : List ℕ) (s : ChannelSlot) → 53 ≤ length d
-    → put (put (put (put (put d 48 (bytesOf 1 (flagByte (s .filled)))) 49 (bytesOf 1 (flagByte (s .«has_remote»)))) 50 (bytesOf 1 (flagByte (s .«wrte_acked»)))) 51 (bytesOf 1 (stateTag (s .state)))) 52 (bytesOf 1 (failedTag (s .failed))) ≡ put d 48 (slotTags s)
-unfolding slotTags bytesOf
-tags-put d s h =
-    put-seq d 48 (bytesOf 1 (flagByte (s .filled)))
-    (bytesOf 1 (flagByte (s .«has_remote»)) ∷ bytesOf 1 (flagByte (s .«wrte_acked»)) ∷ bytesOf 1 (stateTag (s .state)) ∷ bytesOf 1 (failedTag (s .failed)) ∷ [])
-    (omega arith)
-
-pub length-slot : (s : ChannelSlot) → length (slotBytes s) ≡ 53
-unfolding slotBytes slotNumbers slotTags bytesOf
+pub length-slot : (s : ChannelSlot) → length (slotBytes s) ≡ 49
+unfolding slotBytes slotNumbers bytesOf
 length-slot s = refl
 
-pub slot-put : (d : List ℕ) (s : ChannelSlot) → 53 ≤ length d → put (put d 0 (slotNumbers s)) 48 (slotTags s) ≡ put d 0 (slotBytes s)
-unfolding slotBytes slotNumbers slotTags bytesOf
-slot-put d s h = put-seq d 0 (slotNumbers s) (slotTags s ∷ []) (omega arith)
+pub slot-put : (d : List ℕ) (s : ChannelSlot) → 49 ≤ length d → put (put d 0 (slotNumbers s)) 48 (bytesOf 1 (tagOf s)) ≡ put d 0 (slotBytes s)
+unfolding slotBytes slotNumbers bytesOf
+slot-put d s h = put-seq d 0 (slotNumbers s) (bytesOf 1 (tagOf s) ∷ []) (omega arith)
 
 pub length-open : (q : PendingOpen) → length (openBytes q) ≡ 24
 unfolding openBytes bytesOf

@@ -3,7 +3,7 @@
 use mathlib.Core.Path.{_≡_, refl, sym, ap, _∙_}
 use mathlib.Core.Bool.{Bool, true, false}
 use mathlib.Core.List.{List, [], _∷_, _++_, append-assoc}
-use Prim.Native.Nat.{ℕ, zero, suc, _+_, _*_, _%_, _^_, _≤_, _<_}
+use Prim.Native.Nat.{ℕ, zero, suc, _+_, _*_, _/_, _%_, _^_, _≤_, _<_}
 use native.Mathlib.Omega.{arith}
 use lib.Dec.{ltb}
 use lib.Signed.{mag}
@@ -23,7 +23,7 @@ use Rattle.slot.specs.declared.Failed.the-variants.{No, By}
 use Rattle.state.specs.declared.Header.{Header}
 use Rattle.state.specs.declared.PendingOpen.{PendingOpen}
 use Rattle.state.specs.Rows.{flat, rows, allIs}
-use Rattle.state.specs.State.{Connection, flagOf, flagByte, stateOfTag, stateTag, failedOfTag, failedTag, slotNumbers, slotTags, slotBytes, slotOf, isSlot, openBytes, openOf, headerSizes, headerWords, headerTags, headerBytes, headerOf, layout, stateOf, isState, slotAt, openAt, putSlot, putOpen, putHeader, withSlot, withHeader, withOpen}
+use Rattle.state.specs.State.{Connection, flagOf, flagByte, stateOfTag, stateTag, failedOfTag, failedTag, slotNumbers, tagOf, slotBytes, slotOf, isTag, isSlot, openBytes, openOf, headerSizes, headerWords, headerTags, headerBytes, headerOf, layout, stateOf, isState, slotAt, openAt, putSlot, putOpen, putHeader, withSlot, withHeader, withOpen}
 use Rattle.state.proofs.Fields.{length-slot, length-open, length-header}
 use Rattle.state.proofs.RowLaws.{put-at, put-row, length-flat, length-rows, row-at, flat-rows, Every, rows-flat, rows-fit, all-flat}
 
@@ -34,26 +34,27 @@ one : (l : List ℕ) (a : ℕ) → a + 1 ≤ length l → part l a 1 ≡ getD l 
 unfolding part
 one l a h = rw (drop-cons l a 0 (omega arith))
 
+flag-num : (v : ℕ) → v ≤ 1 → flagByte (flagOf v) ≡ v
+flag-num zero h = refl
+flag-num (suc zero) h = refl
+flag-num (suc (suc v)) h = absurd (omega arith)
+
 flag-same : (v : ℕ) → v ≤ 1 → bytesOf 1 (flagByte (flagOf v)) ≡ v ∷ []
 unfolding bytesOf
-flag-same zero h = refl
-flag-same (suc zero) h = refl
-flag-same (suc (suc v)) h = absurd (omega arith)
+flag-same v h = let e : v % 256 ≡ v = omega arith in rw (flag-num v h, e)
 
-state-same : (v : ℕ) → v ≤ 2 → bytesOf 1 (stateTag (stateOfTag v)) ≡ v ∷ []
-unfolding bytesOf
-state-same zero h = refl
-state-same (suc zero) h = refl
-state-same (suc (suc zero)) h = refl
-state-same (suc (suc (suc v))) h = absurd (omega arith)
+state-num : (v : ℕ) → v ≤ 2 → stateTag (stateOfTag v) ≡ v
+state-num zero h = refl
+state-num (suc zero) h = refl
+state-num (suc (suc zero)) h = refl
+state-num (suc (suc (suc v))) h = absurd (omega arith)
 
-failed-same : (v : ℕ) → v ≤ 3 → bytesOf 1 (failedTag (failedOfTag v)) ≡ v ∷ []
-unfolding bytesOf
-failed-same zero h = refl
-failed-same (suc zero) h = refl
-failed-same (suc (suc zero)) h = refl
-failed-same (suc (suc (suc zero))) h = refl
-failed-same (suc (suc (suc (suc v)))) h = absurd (omega arith)
+failed-num : (v : ℕ) → v ≤ 3 → failedTag (failedOfTag v) ≡ v
+failed-num zero h = refl
+failed-num (suc zero) h = refl
+failed-num (suc (suc zero)) h = refl
+failed-num (suc (suc (suc zero))) h = refl
+failed-num (suc (suc (suc (suc v)))) h = absurd (omega arith)
 
 flag-back : (l : List ℕ) (a : ℕ) → a + 1 ≤ length l → getD l a 0 ≤ 1 → bytesOf 1 (flagByte (flagOf (getD l a 0))) ≡ part l a 1
 flag-back l a h k = flag-same (getD l a 0) k ∙ sym (one l a h)
@@ -62,31 +63,74 @@ flag-forth : (f : Bool) → flagOf (flagByte f % 256) ≡ f
 flag-forth true = refl
 flag-forth false = refl
 
-state-forth-tag : (s : ChannelState) → stateOfTag (stateTag s % 256) ≡ s
-state-forth-tag Opening = refl
-state-forth-tag Open = refl
-state-forth-tag Closed = refl
+flag-is : (f : Bool) → flagOf (flagByte f) ≡ f
+flag-is true = refl
+flag-is false = refl
 
-failed-forth : (f : Failed) → failedOfTag (failedTag f % 256) ≡ f
-failed-forth No = refl
-failed-forth (By RxOverflow) = refl
-failed-forth (By ShortReadyPayload) = refl
-failed-forth (By UnexpectedCommand) = refl
+state-is : (s : ChannelState) → stateOfTag (stateTag s) ≡ s
+state-is Opening = refl
+state-is Open = refl
+state-is Closed = refl
 
-flag-le : (f : Bool) → flagByte f % 256 ≤ 1
+failed-is : (f : Failed) → failedOfTag (failedTag f) ≡ f
+failed-is No = refl
+failed-is (By RxOverflow) = refl
+failed-is (By ShortReadyPayload) = refl
+failed-is (By UnexpectedCommand) = refl
+
+flag-le : (f : Bool) → flagByte f ≤ 1
 flag-le true = omega arith
 flag-le false = omega arith
 
-state-le : (s : ChannelState) → stateTag s % 256 ≤ 2
+flag-byte-le : (f : Bool) → flagByte f % 256 ≤ 1
+flag-byte-le true = omega arith
+flag-byte-le false = omega arith
+
+state-le : (s : ChannelState) → stateTag s ≤ 2
 state-le Opening = omega arith
 state-le Open = omega arith
 state-le Closed = omega arith
 
-failed-le : (f : Failed) → failedTag f % 256 ≤ 3
+failed-le : (f : Failed) → failedTag f ≤ 3
 failed-le No = omega arith
 failed-le (By RxOverflow) = omega arith
 failed-le (By ShortReadyPayload) = omega arith
 failed-le (By UnexpectedCommand) = omega arith
+
+-- five numbers in one byte, and out of it again
+record Tag (f r a s x t : ℕ) : Type 0 where
+  small : t ≤ 127
+  one-byte : t % 256 ≡ t
+  filled : t % 2 ≡ f
+  remote : t / 2 % 2 ≡ r
+  acked : t / 2 / 2 % 2 ≡ a
+  state : t / 2 / 2 / 2 % 4 ≡ s
+  failed : t / 2 / 2 / 2 / 4 ≡ x
+
+tag-parts : (f r a s x : ℕ) → f ≤ 1 → r ≤ 1 → a ≤ 1 → s ≤ 2 → x ≤ 3 → Tag f r a s x (f + 2 * r + 4 * a + 8 * s + 32 * x)
+tag-parts f r a s x hf hr ha hs hx =
+    let t = f + 2 * r + 4 * a + 8 * s + 32 * x in
+    let d1 : t / 2 ≡ r + 2 * a + 4 * s + 16 * x = omega arith in
+    let d2 : (r + 2 * a + 4 * s + 16 * x) / 2 ≡ a + 2 * s + 8 * x = omega arith in
+    let d3 : (a + 2 * s + 8 * x) / 2 ≡ s + 4 * x = omega arith in
+    record {
+      small = omega arith;
+      one-byte = omega arith;
+      filled = omega arith;
+      remote = rw d1 (omega arith);
+      acked = rw (d1, d2) (omega arith);
+      state = rw (d1, d2, d3) (omega arith);
+      failed = rw (d1, d2, d3) (omega arith)
+    }
+
+tag-whole : (t : ℕ) → t ≤ 127 → t % 2 + 2 * (t / 2 % 2) + 4 * (t / 2 / 2 % 2) + 8 * (t / 2 / 2 / 2 % 4) + 32 * (t / 2 / 2 / 2 / 4) ≡ t
+tag-whole t h = omega arith
+
+slot-tag : (s : ChannelSlot) → Tag (flagByte (s .filled)) (flagByte (s .«has_remote»)) (flagByte (s .«wrte_acked»)) (stateTag (s .state)) (failedTag (s .failed)) (tagOf s)
+unfolding tagOf
+slot-tag s =
+    tag-parts (flagByte (s .filled)) (flagByte (s .«has_remote»)) (flagByte (s .«wrte_acked»)) (stateTag (s .state)) (failedTag (s .failed))
+    (flag-le (s .filled)) (flag-le (s .«has_remote»)) (flag-le (s .«wrte_acked»)) (state-le (s .state)) (failed-le (s .failed))
 
 part-start : (l : List ℕ) (n : ℕ) → part l 0 n ≡ take n l
 unfolding part
@@ -94,26 +138,36 @@ part-start l n = refl
 
 -- ---- a slot's bytes, read and written again
 
-record SlotTests (l : List ℕ) : Type 0 where
-  filled : getD l 48 0 ≤ 1
-  remote : getD l 49 0 ≤ 1
-  acked : getD l 50 0 ≤ 1
-  state : getD l 51 0 ≤ 2
-  failed : getD l 52 0 ≤ 3
+pub record SlotTests (t : ℕ) : Type 0 where
+  pub small : t ≤ 127
+  pub state : t / 2 / 2 / 2 % 4 ≤ 2
 
-slot-tests : (l : List ℕ) → isSlot l ≡ true → SlotTests l
-unfolding isSlot
-slot-tests l e =
-    let e₄ = and-true _ _ e in
-    let e₃ = and-true _ _ (e₄ .0) in
-    let e₂ = and-true _ _ (e₃ .0) in
-    let e₁ = and-true _ _ (e₂ .0) in
-    record { filled = leb-true _ _ (e₁ .0); remote = leb-true _ _ (e₁ .1); acked = leb-true _ _ (e₂ .1); state = leb-true _ _ (e₃ .1); failed = leb-true _ _ (e₄ .1) }
+pub slot-tests : (l : List ℕ) → isSlot l ≡ true → SlotTests (getD l 48 0)
+unfolding isSlot isTag
+slot-tests l e = let e₁ = and-true _ _ e in record { small = leb-true _ _ (e₁ .0); state = leb-true _ _ (e₁ .1) }
 
-slot-back : (l : List ℕ) → Bytes l → 53 ≤ length l → isSlot l ≡ true → slotBytes (slotOf l) ≡ take 53 l
-unfolding slotBytes slotNumbers slotTags slotOf
-slot-back l b h t =
-    let k = slot-tests l t in
+tag-back : (l : List ℕ) → isSlot l ≡ true → tagOf (slotOf l) ≡ getD l 48 0
+unfolding tagOf slotOf
+tag-back l e =
+    let t = getD l 48 0 in
+    let k = slot-tests l e in
+    let h = k .small in
+    rw (
+      flag-num (t % 2) (omega arith),
+      flag-num (t / 2 % 2) (omega arith),
+      flag-num (t / 2 / 2 % 2) (omega arith),
+      state-num (t / 2 / 2 / 2 % 4) (k .state),
+      failed-num (t / 2 / 2 / 2 / 4) (omega arith),
+    )
+    (tag-whole t h)
+
+byte-back : (l : List ℕ) (a v : ℕ) → Bytes l → a + 1 ≤ length l → v ≡ getD l a 0 → bytesOf 1 v ≡ part l a 1
+unfolding bytesOf
+byte-back l a v y h e = let lt = y a in let m : v % 256 ≡ getD l a 0 = omega arith in rw m (sym (one l a h))
+
+numbers-back : (l : List ℕ) → Bytes l → 48 ≤ length l → slotNumbers (slotOf l) ≡ part l 0 48
+unfolding slotNumbers slotOf
+numbers-back l b h =
     rw (
       read-write-part l 0 4 b (omega arith),
       read-write-part l 4 4 b (omega arith),
@@ -123,25 +177,18 @@ slot-back l b h t =
       read-write-part l 24 8 b (omega arith),
       read-write-part l 32 8 b (omega arith),
       read-write-part l 40 8 b (omega arith),
-      flag-back l 48 (omega arith) (k .filled),
-      flag-back l 49 (omega arith) (k .remote),
-      flag-back l 50 (omega arith) (k .acked),
-      state-same (getD l 51 0) (k .state) ∙ sym (one l 51 (omega arith)),
-      failed-same (getD l 52 0) (k .failed) ∙ sym (one l 52 (omega arith)),
       part-join l 0 4 4,
       part-join l 0 8 8,
       part-join l 0 16 8,
       part-join l 0 24 8,
       part-join l 0 32 8,
       part-join l 0 40 8,
-      part-join l 48 1 1,
-      part-join l 48 2 1,
-      part-join l 48 3 1,
-      part-join l 48 4 1,
-      part-join l 0 48 5,
     )
-    (part-start l 53)
 
+slot-back : (l : List ℕ) → Bytes l → 49 ≤ length l → isSlot l ≡ true → slotBytes (slotOf l) ≡ take 49 l
+unfolding slotBytes
+slot-back l b h t =
+    rw (numbers-back l b (omega arith), byte-back l 48 (tagOf (slotOf l)) b (omega arith) (tag-back l t), part-join l 0 48 1) (part-start l 49)
 -- what fits its bytes is read back
 pub record SlotFits (s : ChannelSlot) : Type 0 where
   pub local : s .local .0 < 2 ^ 32
@@ -153,14 +200,21 @@ pub record SlotFits (s : ChannelSlot) : Type 0 where
   pub buffered : s .buffered < 2 ^ 64
 
 pub slot-forth : (s : ChannelSlot) → SlotFits s → slotOf (slotBytes s) ≡ s
-unfolding slotOf slotBytes slotNumbers slotTags bytesOf part
+unfolding slotOf slotBytes slotNumbers bytesOf part
 slot-forth s f =
+    let k = slot-tag s in
     rw (
-      flag-forth (s .filled),
-      flag-forth (s .«has_remote»),
-      flag-forth (s .«wrte_acked»),
-      state-forth-tag (s .state),
-      failed-forth (s .failed),
+      k .one-byte,
+      k .filled,
+      k .remote,
+      k .acked,
+      k .state,
+      k .failed,
+      flag-is (s .filled),
+      flag-is (s .«has_remote»),
+      flag-is (s .«wrte_acked»),
+      state-is (s .state),
+      failed-is (s .failed),
       write-read 4 (s .local .0) (f .local),
       write-read 4 (s .remote .0) (f .remote),
       write-read 8 (unsigned 63 (s .«send_budget»)) (unsigned-small 63 (s .«send_budget») (f .budget)),
@@ -172,15 +226,10 @@ slot-forth s f =
     )
 
 pub slot-is : (s : ChannelSlot) → isSlot (slotBytes s) ≡ true
-unfolding isSlot slotBytes slotNumbers slotTags bytesOf
+unfolding isSlot isTag slotBytes slotNumbers bytesOf
 slot-is s =
-    rw (
-      le-leb (flagByte (s .filled) % 256) 1 (flag-le (s .filled)),
-      le-leb (flagByte (s .«has_remote») % 256) 1 (flag-le (s .«has_remote»)),
-      le-leb (flagByte (s .«wrte_acked») % 256) 1 (flag-le (s .«wrte_acked»)),
-      le-leb (stateTag (s .state) % 256) 2 (state-le (s .state)),
-      le-leb (failedTag (s .failed) % 256) 3 (failed-le (s .failed)),
-    )
+    let k = slot-tag s in
+    rw (k .one-byte, k .state, le-leb (tagOf s) 127 (k .small), le-leb (stateTag (s .state)) 2 (state-le (s .state)))
 
 -- ---- a waiting open's bytes
 
@@ -278,16 +327,16 @@ header-back l b h s t =
 
 header-flags : (h : Header) (r : List ℕ) → (getD (headerBytes h ++ r) 56 0 ≤ 1) × (getD (headerBytes h ++ r) 57 0 ≤ 1)
 unfolding headerBytes headerSizes headerWords headerTags bytesOf
-header-flags h r = (flag-le (h .negotiated .«delayed_ack»), flag-le (h .waiting .on))
+header-flags h r = (flag-byte-le (h .negotiated .«delayed_ack»), flag-byte-le (h .waiting .on))
 
 -- ---- the whole
 
 -- what the test of the bytes says
 pub record StateTests (b : List ℕ) : Type 0 where
-  pub long : 4986 ≤ length b
+  pub long : 4730 ≤ length b
   pub delayed : getD b 56 0 ≤ 1
   pub waits : getD b 57 0 ≤ 1
-  pub slots : allIs 53 isSlot 64 (drop 58 b) ≡ true
+  pub slots : allIs 49 isSlot 64 (drop 58 b) ≡ true
 
 pub state-tests : (b : List ℕ) → isState b ≡ true → StateTests b
 unfolding isState
@@ -300,10 +349,10 @@ state-tests b e =
 row-whole : (size : ℕ) (l : List ℕ) → size ≤ length l → length (take size l) ≡ size
 row-whole size l h = simp length-take (omega arith)
 
-slot-row-back : (l : List ℕ) → Bytes l → 53 ≤ length l → isSlot (take 53 l) ≡ true → slotBytes (slotOf (take 53 l)) ≡ take 53 l
+slot-row-back : (l : List ℕ) → Bytes l → 49 ≤ length l → isSlot (take 49 l) ≡ true → slotBytes (slotOf (take 49 l)) ≡ take 49 l
 slot-row-back l b h t =
-    let n = row-whole 53 l h in
-    slot-back (take 53 l) (bytes-take 53 l b) (omega arith) t ∙ take-all 53 (take 53 l) (omega arith)
+    let n = row-whole 49 l h in
+    slot-back (take 49 l) (bytes-take 49 l b) (omega arith) t ∙ take-all 49 (take 49 l) (omega arith)
 
 abbrev anyBytes : List ℕ → Bool
 anyBytes l = true
@@ -319,20 +368,20 @@ open-row-back l b h t =
     open-back (take 24 l) (bytes-take 24 l b) (omega arith) ∙ take-all 24 (take 24 l) (omega arith)
 
 -- bytes that are a state's are the layout of their reading
-pub state-back : (b : List ℕ) → Bytes b → isState b ≡ true → layout (stateOf b) ≡ take 4986 b
+pub state-back : (b : List ℕ) → Bytes b → isState b ≡ true → layout (stateOf b) ≡ take 4730 b
 unfolding layout stateOf
 state-back b y e =
     let k = state-tests b e in
     let long = k .long in
-    let s : flat slotBytes (rows 53 slotOf 64 (drop 58 b)) ≡ take 3392 (drop 58 b) =
-    flat-rows 53 slotBytes slotOf isSlot slot-row-back 64 (drop 58 b) (bytes-drop 58 b y) (simp length-drop (omega arith)) (k .slots) in
-    let q : flat openBytes (rows 24 openOf 64 (drop 3450 b)) ≡ take 1536 (drop 3450 b) =
-    flat-rows 24 openBytes openOf anyBytes open-row-back 64 (drop 3450 b) (bytes-drop 3450 b y) (simp length-drop (omega arith)) (all-any 24 64 (drop 3450 b)) in
+    let s : flat slotBytes (rows 49 slotOf 64 (drop 58 b)) ≡ take 3136 (drop 58 b) =
+    flat-rows 49 slotBytes slotOf isSlot slot-row-back 64 (drop 58 b) (bytes-drop 58 b y) (simp length-drop (omega arith)) (k .slots) in
+    let q : flat openBytes (rows 24 openOf 64 (drop 3194 b)) ≡ take 1536 (drop 3194 b) =
+    flat-rows 24 openBytes openOf anyBytes open-row-back 64 (drop 3194 b) (bytes-drop 3194 b y) (simp length-drop (omega arith)) (all-any 24 64 (drop 3194 b)) in
     rw (header-back b y (omega arith) (k .delayed) (k .waits), s, q)
-    (ap (λ (l : List ℕ). l ++ take 1536 (drop 3450 b)) (sym (take-add 58 3392 b)) ∙ sym (take-add 3450 1536 b))
+    (ap (λ (l : List ℕ). l ++ take 1536 (drop 3194 b)) (sym (take-add 58 3136 b)) ∙ sym (take-add 3194 1536 b))
 
-pub state-split : (b : List ℕ) → Bytes b → isState b ≡ true → layout (stateOf b) ++ drop 4986 b ≡ b
-state-split b y e = rw (state-back b y e) (take-append-drop 4986 b)
+pub state-split : (b : List ℕ) → Bytes b → isState b ≡ true → layout (stateOf b) ++ drop 4730 b ≡ b
+state-split b y e = rw (state-back b y e) (take-append-drop 4730 b)
 
 -- all 64 of each
 pub record Full (c : Connection) : Type 0 where
@@ -341,7 +390,7 @@ pub record Full (c : Connection) : Type 0 where
 
 pub state-full : (b : List ℕ) → Full (stateOf b)
 unfolding stateOf
-state-full b = record { slots = length-rows 53 slotOf 64 (drop 58 b); opens = length-rows 24 openOf 64 (drop 3450 b) }
+state-full b = record { slots = length-rows 49 slotOf 64 (drop 58 b); opens = length-rows 24 openOf 64 (drop 3194 b) }
 
 -- every number fits its bytes
 pub record Fits (c : Connection) : Type 0 where
@@ -358,16 +407,16 @@ state-forth c r f =
     let x = flat slotBytes (c .slots) in
     let q = flat openBytes (c .opens) in
     let n = length-header (c .header) in
-    let m = length-flat 53 slotBytes length-slot (c .slots) in
+    let m = length-flat 49 slotBytes length-slot (c .slots) in
     let a = f .full .slots in
     let b = f .full .opens in
-    let hx : length (h ++ x) ≡ 3450 = simp length-append (omega arith) in
+    let hx : length (h ++ x) ≡ 3194 = simp length-append (omega arith) in
     let g1 : h ++ x ++ q ++ r ≡ h ++ (x ++ (q ++ r)) = simp append-assoc in
     let g2 : h ++ x ++ q ++ r ≡ h ++ x ++ (q ++ r) = simp append-assoc in
     let e1 : headerOf (h ++ x ++ q ++ r) ≡ c .header = rw g1 (header-forth (c .header) (x ++ (q ++ r)) (f .header)) in
     let d2 : drop 58 (h ++ x ++ q ++ r) ≡ x ++ (q ++ r) = rw g1 (drop-at h (x ++ (q ++ r)) 58 n) in
-    let d3 : drop 3450 (h ++ x ++ q ++ r) ≡ q ++ r = rw g2 (drop-at (h ++ x) (q ++ r) 3450 hx) in
-    let e2 : rows 53 slotOf 64 (x ++ (q ++ r)) ≡ c .slots = rw a at (rows-flat 53 slotBytes slotOf SlotFits length-slot slot-forth (c .slots) (q ++ r) (f .slots)) in
+    let d3 : drop 3194 (h ++ x ++ q ++ r) ≡ q ++ r = rw g2 (drop-at (h ++ x) (q ++ r) 3194 hx) in
+    let e2 : rows 49 slotOf 64 (x ++ (q ++ r)) ≡ c .slots = rw a at (rows-flat 49 slotBytes slotOf SlotFits length-slot slot-forth (c .slots) (q ++ r) (f .slots)) in
     let e3 : rows 24 openOf 64 (q ++ r) ≡ c .opens = rw b at (rows-flat 24 openBytes openOf OpenFits length-open open-forth (c .opens) r (f .opens)) in
     rw (e1, d2, d3, e2, e3)
 
@@ -411,8 +460,8 @@ state-fits b y =
     record {
       header = header-fits b y;
       full = state-full b;
-      slots = rows-fit 53 slotOf SlotFits slot-fits 64 (drop 58 b) (bytes-drop 58 b y);
-      opens = rows-fit 24 openOf OpenFits open-fits 64 (drop 3450 b) (bytes-drop 3450 b y);
+      slots = rows-fit 49 slotOf SlotFits slot-fits 64 (drop 58 b) (bytes-drop 58 b y);
+      opens = rows-fit 24 openOf OpenFits open-fits 64 (drop 3194 b) (bytes-drop 3194 b y);
     }
 
 -- ---- one record put into a state's bytes
@@ -424,7 +473,7 @@ put-slot-layout c r i s h =
     let q = flat openBytes (c .opens) in
     let g : (x : List ChannelSlot) → f ++ flat slotBytes x ++ q ++ r ≡ f ++ flat slotBytes x ++ (q ++ r) = λ x. append-assoc (f ++ flat slotBytes x) q r in
     let n = length-header (c .header) in
-    rw (g (c .slots), g (set (c .slots) i s)) (put-row 53 slotBytes length-slot f (c .slots) (q ++ r) i (58 + i * 53) s h (omega arith))
+    rw (g (c .slots), g (set (c .slots) i s)) (put-row 49 slotBytes length-slot f (c .slots) (q ++ r) i (58 + i * 49) s h (omega arith))
 
 pub put-header-layout : (c : Connection) (r : List ℕ) (h : Header) → putHeader (layout c ++ r) h ≡ layout (withHeader c h) ++ r
 unfolding putHeader layout
@@ -439,27 +488,27 @@ unfolding putOpen layout
 put-open-layout c r i q n h =
     let f = headerBytes (c .header) ++ flat slotBytes (c .slots) in
     let a = length-header (c .header) in
-    let b = length-flat 53 slotBytes length-slot (c .slots) in
-    let m : length f ≡ 3450 = simp length-append (omega arith) in
-    put-row 24 openBytes length-open f (c .opens) r i (3450 + i * 24) q h (omega arith)
+    let b = length-flat 49 slotBytes length-slot (c .slots) in
+    let m : length f ≡ 3194 = simp length-append (omega arith) in
+    put-row 24 openBytes length-open f (c .opens) r i (3194 + i * 24) q h (omega arith)
 
 -- ---- what the code reads is the state's
 
-slot-part : (b : List ℕ) (i : ℕ) → part (drop 58 b) (i * 53) 53 ≡ part b (58 + i * 53) 53
+slot-part : (b : List ℕ) (i : ℕ) → part (drop 58 b) (i * 49) 49 ≡ part b (58 + i * 49) 49
 unfolding part
 slot-part b i = rw drop-drop
 
-open-part : (b : List ℕ) (i : ℕ) → part (drop 3450 b) (i * 24) 24 ≡ part b (3450 + i * 24) 24
+open-part : (b : List ℕ) (i : ℕ) → part (drop 3194 b) (i * 24) 24 ≡ part b (3194 + i * 24) 24
 unfolding part
 open-part b i = rw drop-drop
 
 pub slot-in : (b : List ℕ) (i : ℕ) (d : ChannelSlot) → i < 64 → getD (stateOf b .slots) i d ≡ slotAt b i
 unfolding stateOf slotAt
-slot-in b i d h = row-at 53 slotOf d 64 i (drop 58 b) h ∙ ap slotOf (slot-part b i)
+slot-in b i d h = row-at 49 slotOf d 64 i (drop 58 b) h ∙ ap slotOf (slot-part b i)
 
 pub open-in : (b : List ℕ) (i : ℕ) (d : PendingOpen) → i < 64 → getD (stateOf b .opens) i d ≡ openAt b i
 unfolding stateOf openAt
-open-in b i d h = row-at 24 openOf d 64 i (drop 3450 b) h ∙ ap openOf (open-part b i)
+open-in b i d h = row-at 24 openOf d 64 i (drop 3194 b) h ∙ ap openOf (open-part b i)
 
 pub header-in : (b : List ℕ) → stateOf b .header ≡ headerOf b
 unfolding stateOf
@@ -473,29 +522,29 @@ layout-is-state c r f =
     let x = flat slotBytes (c .slots) in
     let q = flat openBytes (c .opens) in
     let n = length-header (c .header) in
-    let m = length-flat 53 slotBytes length-slot (c .slots) in
+    let m = length-flat 49 slotBytes length-slot (c .slots) in
     let k = length-flat 24 openBytes length-open (c .opens) in
     let a = f .slots in
     let b = f .opens in
-    let long : 4986 ≤ length (h ++ x ++ q ++ r) = simp length-append (omega arith) in
+    let long : 4730 ≤ length (h ++ x ++ q ++ r) = simp length-append (omega arith) in
     let g : h ++ x ++ q ++ r ≡ h ++ (x ++ (q ++ r)) = simp append-assoc in
     let d : drop 58 (h ++ x ++ q ++ r) ≡ x ++ (q ++ r) = rw g (drop-at h (x ++ (q ++ r)) 58 n) in
-    let s : allIs 53 isSlot 64 (x ++ (q ++ r)) ≡ true = rw a at (all-flat 53 slotBytes isSlot length-slot slot-is (c .slots) (q ++ r)) in
+    let s : allIs 49 isSlot 64 (x ++ (q ++ r)) ≡ true = rw a at (all-flat 49 slotBytes isSlot length-slot slot-is (c .slots) (q ++ r)) in
     let z = rw (← g) at (header-flags (c .header) (x ++ (q ++ r))) in
-    rw (le-leb 4986 (length (h ++ x ++ q ++ r)) long, le-leb (getD (h ++ x ++ q ++ r) 56 0) 1 (z .0), le-leb (getD (h ++ x ++ q ++ r) 57 0) 1 (z .1), d) s
+    rw (le-leb 4730 (length (h ++ x ++ q ++ r)) long, le-leb (getD (h ++ x ++ q ++ r) 56 0) 1 (z .0), le-leb (getD (h ++ x ++ q ++ r) 57 0) 1 (z .1), d) s
 
 -- ---- what is put is read back, and the others stay
 
-module _ (b : List ℕ) (i : ℕ) (s : ChannelSlot) (h : i < 64) (k : 4986 ≤ length b) where
+module _ (b : List ℕ) (i : ℕ) (s : ChannelSlot) (h : i < 64) (k : 4730 ≤ length b) where
   pub put-slot-length : length (putSlot b i s) ≡ length b
   unfolding putSlot
-  put-slot-length = let n = length-slot s in length-put b (58 + i * 53) (slotBytes s) (omega arith)
+  put-slot-length = let n = length-slot s in length-put b (58 + i * 49) (slotBytes s) (omega arith)
 
   pub put-slot-same : SlotFits s → slotAt (putSlot b i s) i ≡ s
   unfolding slotAt putSlot
   put-slot-same f =
       let n = length-slot s in
-      let e : part (put b (58 + i * 53) (slotBytes s)) (58 + i * 53) 53 ≡ slotBytes s = rw n at (part-put-same b (58 + i * 53) (slotBytes s) (omega arith)) in
+      let e : part (put b (58 + i * 49) (slotBytes s)) (58 + i * 49) 49 ≡ slotBytes s = rw n at (part-put-same b (58 + i * 49) (slotBytes s) (omega arith)) in
       rw e (slot-forth s f)
 
   pub put-slot-other : (j : ℕ) → j < 64 → (j ≡ i → ⊥) → slotAt (putSlot b i s) j ≡ slotAt b j
@@ -503,13 +552,13 @@ module _ (b : List ℕ) (i : ℕ) (s : ChannelSlot) (h : i < 64) (k : 4986 ≤ l
   put-slot-other j g ne =
       let n = length-slot s in
       by-test (ltb j i)
-      (λ t. rw (part-put-below b (58 + i * 53) (slotBytes s) (58 + j * 53) 53 (omega arith) (omega (arith, ltb-true))))
+      (λ t. rw (part-put-below b (58 + i * 49) (slotBytes s) (58 + j * 49) 49 (omega arith) (omega (arith, ltb-true))))
       (λ t. by-test (ltb i j)
-      (λ u. rw (part-put-above b (58 + i * 53) (slotBytes s) (58 + j * 53) 53 (omega arith) (omega (arith, ltb-true))))
+      (λ u. rw (part-put-above b (58 + i * 49) (slotBytes s) (58 + j * 49) 49 (omega arith) (omega (arith, ltb-true))))
       (λ u. absurd (ne (omega (arith, ltb-false)))))
 
   pub put-slot-opens : (j : ℕ) → j < 64 → openAt (putSlot b i s) j ≡ openAt b j
   unfolding openAt putSlot
   put-slot-opens j g =
       let n = length-slot s in
-      rw (part-put-above b (58 + i * 53) (slotBytes s) (3450 + j * 24) 24 (omega arith) (omega arith))
+      rw (part-put-above b (58 + i * 49) (slotBytes s) (3194 + j * 24) 24 (omega arith) (omega arith))

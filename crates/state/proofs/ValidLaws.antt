@@ -2,22 +2,24 @@
 use mathlib.Core.Path.{_≡_, refl, sym, ap, _∙_}
 use mathlib.Core.Bool.{Bool, true, false, not, cond, _&&_}
 use mathlib.Core.List.{List, [], _∷_}
-use Prim.Native.Nat.{ℕ, zero, suc, _+_, _-_, _*_, _≤_, _<_}
+use Prim.Native.Nat.{ℕ, zero, suc, _+_, _-_, _*_, _/_, _%_, _≤_, _<_}
 use native.Mathlib.Numerals.{add-one}
 use native.Mathlib.Omega.{arith}
-use lib.Dec.{ltb}
+use lib.Dec.{ltb, leb, eqb}
 use lib.ListN.{length, take, drop, getD, length-take, drop-of-length-le}
 use lib.Seq.{drop-cons, drop-drop, getD-take}
-use borrow.Author.Tests.{lt-ltb, le-ltb, le-leb, leb-true}
+use borrow.Author.Tests.{eq-eqb, ne-eqb, lt-ltb, le-ltb, le-leb, leb-true}
 use Rattle.le.specs.Le.{part}
+use Rattle.le.proofs.Parts.{by-test}
 use Rattle.config.proofs.Laws.{and-true, within}
 use Rattle.config.specs.Config.{capOf}
 use Rattle.slot.specs.declared.ChannelSlot.{ChannelSlot}
 use Rattle.slot.proofs.Laws.{cond-true, cond-false}
+use Rattle.slot.specs.Slot.{isOpening, isFailed, slotOk}
 use Rattle.state.specs.declared.Header.{Header}
 use Rattle.state.specs.declared.PendingOpen.{PendingOpen}
 use Rattle.state.specs.Rows.{rows, allIs}
-use Rattle.state.specs.State.{slotOf, isSlot, openOf, headerOf, stateOf, isState, slotAt, openAt}
+use Rattle.state.specs.State.{Connection, flagOf, stateOfTag, failedOfTag, slotOf, isTag, isSlot, openOf, headerOf, stateOf, isState, slotAt, openAt}
 use Rattle.state.specs.Valid.{filledOk, slotFine, slotsFine, rowFine, rowsFine, openFine, opensFine, waitingFine, headerFine, filledAt, HeaderOk, restWhole, whole, isWhole}
 use Rattle.state.proofs.StateLaws.{slot-in, open-in, state-full}
 
@@ -45,58 +47,125 @@ first-stops a b c e = and-stops (a && b) c (sym (and-stops a b e))
 second-stops : (a b c : Bool) → b ≡ false → false ≡ ((a && b) && c)
 second-stops a b c e = and-stops (a && b) c (sym (and-ends a b e))
 
--- ---- one row
+second-of-four : (a b c d : Bool) → b ≡ false → (((a && b) && c) && d) ≡ false
+second-of-four a b c d e = sym (and-stops ((a && b) && c) d (sym (second-stops a b c e)))
 
-module _ (channels cap i : ℕ) (l : List ℕ) (s : ChannelSlot) (same : s ≡ slotOf l) where
-  pub row-filled : (r : Bool) → isSlot l ≡ true → s .filled ≡ true → i < channels → r ≡ filledOk s cap → r ≡ rowFine channels cap i l
-  unfolding rowFine slotFine
-  row-filled r t f h e =
-      let g = slotOf l in
-      let k : g .filled ≡ true = ap (λ (x : ChannelSlot). x .filled) (sym same) ∙ f in
-      and-goes (isSlot l) _ r t
-      (and-goes (ltb i channels) (filledOk g cap) r (lt-ltb i channels h) (e ∙ ap (λ (x : ChannelSlot). filledOk x cap) same)
-      ∙ sym (cond-true (g .filled) (ltb i channels && filledOk g cap) true k))
+-- ---- one row, by its tag
 
-  pub row-beyond : isSlot l ≡ true → s .filled ≡ true → channels ≤ i → false ≡ rowFine channels cap i l
-  unfolding rowFine slotFine
-  row-beyond t f h =
-      let g = slotOf l in
-      let k : g .filled ≡ true = ap (λ (x : ChannelSlot). x .filled) (sym same) ∙ f in
-      and-goes (isSlot l) _ false t
-      (and-stops (ltb i channels) (filledOk g cap) (le-ltb i channels h) ∙ sym (cond-true (g .filled) (ltb i channels && filledOk g cap) true k))
+failed-some : (x : ℕ) → 1 ≤ x → isFailed (failedOfTag x) ≡ true
+unfolding isFailed
+failed-some x h =
+    rw (ne-eqb x 0 (λ e. omega arith))
+    (by-test (eqb x 1) (λ t. rw t) (λ t. rw t (by-test (eqb x 2) (λ u. rw u) (λ u. rw u))))
 
-  pub row-empty : isSlot l ≡ true → s .filled ≡ false → true ≡ rowFine channels cap i l
-  unfolding rowFine slotFine
-  row-empty t f =
-      let g = slotOf l in
-      let k : g .filled ≡ false = ap (λ (x : ChannelSlot). x .filled) (sym same) ∙ f in
-      and-goes (isSlot l) _ true t (sym (cond-false (g .filled) (ltb i channels && filledOk g cap) true k))
+-- the state of a filled slot's tag is not opening
+state-some : (x : ℕ) → 1 ≤ x → isOpening (stateOfTag x) ≡ false
+unfolding isOpening
+state-some x h = rw (ne-eqb x 0 (λ e. omega arith)) (by-test (eqb x 1) (λ t. rw t) (λ t. rw t))
+
+and-id : (x : Bool) → (x && true) ≡ x
+and-id true = refl
+and-id false = refl
+
+third-stops : (a b c d : Bool) → c ≡ false → (((a && b) && c) && d) ≡ false
+third-stops a b c d e = sym (and-stops ((a && b) && c) d (sym (and-ends (a && b) c e)))
+
+module _ (l : List ℕ) (cap : ℕ) where
+  filled-unknown : flagOf (getD l 48 0 / 2 % 2) ≡ false → filledOk (slotOf l) cap ≡ false
+  unfolding filledOk slotOf
+  filled-unknown e =
+      third-stops (not (isOpening (slotOf l .state))) (not (isFailed (slotOf l .failed))) (flagOf (getD l 48 0 / 2 % 2)) (slotOk (slotOf l) cap) e
+
+  filled-opening : isOpening (stateOfTag (getD l 48 0 / 2 / 2 / 2 % 4)) ≡ true → filledOk (slotOf l) cap ≡ false
+  unfolding filledOk slotOf
+  filled-opening e = rw e
+
+  filled-failed : isFailed (failedOfTag (getD l 48 0 / 2 / 2 / 2 / 4)) ≡ true → filledOk (slotOf l) cap ≡ false
+  unfolding filledOk slotOf
+  filled-failed e =
+      second-of-four (not (isOpening (slotOf l .state))) (not (isFailed (slotOf l .failed))) (slotOf l .«has_remote») (slotOk (slotOf l) cap) (ap not e)
+
+  filled-fine : (r : Bool) → isOpening (stateOfTag (getD l 48 0 / 2 / 2 / 2 % 4)) ≡ false → isFailed (failedOfTag (getD l 48 0 / 2 / 2 / 2 / 4)) ≡ false
+      → flagOf (getD l 48 0 / 2 % 2) ≡ true → r ≡ slotOk (slotOf l) cap → r ≡ filledOk (slotOf l) cap
+  unfolding filledOk slotOf
+  filled-fine r o f k e =
+      and-goes _ (slotOk (slotOf l) cap) r (sym (three-go (not (isOpening (slotOf l .state))) (not (isFailed (slotOf l .failed))) (slotOf l .«has_remote») true (ap not o) (ap not f) (sym k))) e
+
+module _ (channels cap i : ℕ) (l : List ℕ) where
+  -- an empty slot: the tag alone
+  pub row-empty : (r : Bool) → getD l 48 0 % 2 ≡ 0 → r ≡ isTag (getD l 48 0) → r ≡ rowFine channels cap i l
+  unfolding rowFine slotFine slotOf isSlot
+  row-empty r e k =
+      let f : flagOf (getD l 48 0 % 2) ≡ false = ne-eqb (getD l 48 0 % 2) 1 (λ x. omega arith) in
+      k ∙ sym (ap (λ (x : Bool). isTag (getD l 48 0) && x) (cond-false (flagOf (getD l 48 0 % 2)) _ true f) ∙ and-id (isTag (getD l 48 0)))
+
+  filled-row : getD l 48 0 % 2 ≡ 1 → rowFine channels cap i l ≡ (isTag (getD l 48 0) && (ltb i channels && filledOk (slotOf l) cap))
+  unfolding rowFine slotFine slotOf isSlot
+  filled-row e =
+      let f : flagOf (getD l 48 0 % 2) ≡ true = eq-eqb (getD l 48 0 % 2) 1 e in
+      ap (λ (x : Bool). isTag (getD l 48 0) && x) (cond-true (flagOf (getD l 48 0 % 2)) _ true f)
+
+  broken : getD l 48 0 % 2 ≡ 1 → filledOk (slotOf l) cap ≡ false → false ≡ rowFine channels cap i l
+  broken e k =
+      rw (filled-row e) (and-ends (isTag (getD l 48 0)) (ltb i channels && filledOk (slotOf l) cap) (sym (and-ends (ltb i channels) (filledOk (slotOf l) cap) k)))
+
+  -- a filled slot without its remote number, one that is still opening, and one with a fault or a state that is none
+  pub row-unknown : getD l 48 0 % 2 ≡ 1 → (getD l 48 0 % 4 ≡ 3 → ⊥) → false ≡ rowFine channels cap i l
+  row-unknown e n = broken e (filled-unknown l cap (ne-eqb (getD l 48 0 / 2 % 2) 1 (λ x. n (omega arith))))
+
+  pub row-opening : getD l 48 0 % 2 ≡ 1 → getD l 48 0 < 8 → false ≡ rowFine channels cap i l
+  unfolding isOpening
+  row-opening e n = let z : getD l 48 0 / 2 / 2 / 2 % 4 ≡ 0 = omega arith in broken e (filled-opening l cap (rw z))
+
+  pub row-failed : getD l 48 0 % 2 ≡ 1 → 23 < getD l 48 0 → false ≡ rowFine channels cap i l
+  unfolding isTag
+  row-failed e n =
+      by-test (isTag (getD l 48 0))
+      (λ t. let k = and-true (leb (getD l 48 0) 127) (leb (getD l 48 0 / 2 / 2 / 2 % 4) 2) t in
+      let b : getD l 48 0 / 2 / 2 / 2 % 4 ≤ 2 = leb-true _ _ (k .1) in
+      broken e (filled-failed l cap (failed-some (getD l 48 0 / 2 / 2 / 2 / 4) (omega arith))))
+      (λ t. rw (filled-row e) (and-stops (isTag (getD l 48 0)) _ t))
+
+  -- a filled slot that is whole but for its numbers, below channels or not
+  pub row-filled : (r : Bool) → getD l 48 0 % 4 ≡ 3 → 8 ≤ getD l 48 0 → getD l 48 0 ≤ 23 → i < channels → r ≡ slotOk (slotOf l) cap → r ≡ rowFine channels cap i l
+  unfolding isTag isFailed
+  row-filled r e a b h k =
+      let t = getD l 48 0 in
+      let z : t / 2 / 2 / 2 / 4 ≡ 0 = omega arith in
+      let o : isTag t ≡ true = rw (le-leb t 127 (omega arith), le-leb (t / 2 / 2 / 2 % 4) 2 (omega arith)) in
+      let g : r ≡ filledOk (slotOf l) cap =
+      filled-fine l cap r (state-some (t / 2 / 2 / 2 % 4) (omega arith)) (rw z) (eq-eqb (t / 2 % 2) 1 (omega arith)) k in
+      rw (filled-row (omega arith)) (and-goes (isTag t) _ r o (and-goes (ltb i channels) (filledOk (slotOf l) cap) r (lt-ltb i channels h) g))
+
+  pub row-beyond : getD l 48 0 % 4 ≡ 3 → channels ≤ i → false ≡ rowFine channels cap i l
+  row-beyond e h =
+      rw (filled-row (omega arith)) (and-ends (isTag (getD l 48 0)) _ (sym (and-stops (ltb i channels) (filledOk (slotOf l) cap) (le-ltb i channels h))))
 
 -- ---- the rows, in one pass
 
-rows-next : (i : ℕ) (l : List ℕ) → drop 53 (drop (i * 53) l) ≡ drop ((i + 1) * 53) l
-rows-next i l = let e : i * 53 + 53 ≡ (i + 1) * 53 = omega arith in rw (drop-drop, e)
+rows-next : (i : ℕ) (l : List ℕ) → drop 49 (drop (i * 49) l) ≡ drop ((i + 1) * 49) l
+rows-next i l = let e : i * 49 + 49 ≡ (i + 1) * 49 = omega arith in rw (drop-drop, e)
 
 module _ (channels cap i : ℕ) (b : List ℕ) where
   abbrev here : List ℕ
-  here = part b (58 + i * 53) 53
+  here = part b (58 + i * 49) 49
 
-  here-is : take 53 (drop (i * 53) (drop 58 b)) ≡ part b (58 + i * 53) 53
+  here-is : take 49 (drop (i * 49) (drop 58 b)) ≡ part b (58 + i * 49) 49
   unfolding part
   here-is = rw drop-drop
 
-  pub rows-step : i < 64 → rowFine channels cap i (part b (58 + i * 53) 53) ≡ true
-      → rowsFine channels cap i (64 - i) (drop (i * 53) (drop 58 b)) ≡ rowsFine channels cap (i + 1) (64 - (i + 1)) (drop ((i + 1) * 53) (drop 58 b))
+  pub rows-step : i < 64 → rowFine channels cap i (part b (58 + i * 49) 49) ≡ true
+      → rowsFine channels cap i (64 - i) (drop (i * 49) (drop 58 b)) ≡ rowsFine channels cap (i + 1) (64 - (i + 1)) (drop ((i + 1) * 49) (drop 58 b))
   unfolding rowsFine
   rows-step h t =
       let e : 64 - i ≡ suc (64 - (i + 1)) = omega arith in
       rw (e, here-is, t, rows-next i (drop 58 b), add-one)
 
-  pub rows-stop : i < 64 → rowFine channels cap i (part b (58 + i * 53) 53) ≡ false → rowsFine channels cap i (64 - i) (drop (i * 53) (drop 58 b)) ≡ false
+  pub rows-stop : i < 64 → rowFine channels cap i (part b (58 + i * 49) 49) ≡ false → rowsFine channels cap i (64 - i) (drop (i * 49) (drop 58 b)) ≡ false
   unfolding rowsFine
   rows-stop h t = let e : 64 - i ≡ suc (64 - (i + 1)) = omega arith in rw (e, here-is, t)
 
-  pub rows-end : 64 ≤ i → rowsFine channels cap i (64 - i) (drop (i * 53) (drop 58 b)) ≡ true
+  pub rows-end : 64 ≤ i → rowsFine channels cap i (64 - i) (drop (i * 49) (drop 58 b)) ≡ true
   unfolding rowsFine
   rows-end h = let e : 64 - i ≡ 0 = omega arith in rw e
 
@@ -107,16 +176,16 @@ and-both true true false d = refl
 and-both true false false d = refl
 and-both false b c d = refl
 
-pub one-pass : (channels cap i n : ℕ) (l : List ℕ) → rowsFine channels cap i n l ≡ (allIs 53 isSlot n l && slotsFine channels cap i (rows 53 slotOf n l))
+pub one-pass : (channels cap i n : ℕ) (l : List ℕ) → rowsFine channels cap i n l ≡ (allIs 49 isSlot n l && slotsFine channels cap i (rows 49 slotOf n l))
 unfolding rowsFine rowFine slotsFine allIs rows
 one-pass channels cap i zero l = refl
 one-pass channels cap i (suc n) l =
-    let r = one-pass channels cap (suc i) n (drop 53 l) in
-    let a = isSlot (take 53 l) in
-    let s = slotFine channels cap i (slotOf (take 53 l)) in
+    let r = one-pass channels cap (suc i) n (drop 49 l) in
+    let a = isSlot (take 49 l) in
+    let s = slotFine channels cap i (slotOf (take 49 l)) in
     ap (λ (x : Bool). (a && s) && x) r
-    ∙ and-both a s (allIs 53 isSlot n (drop 53 l)) (slotsFine channels cap (suc i) (rows 53 slotOf n (drop 53 l)))
-    ∙ ap (λ (x : Bool). x && (s && slotsFine channels cap (suc i) (rows 53 slotOf n (drop 53 l)))) (cond-and a (allIs 53 isSlot n (drop 53 l)))
+    ∙ and-both a s (allIs 49 isSlot n (drop 49 l)) (slotsFine channels cap (suc i) (rows 49 slotOf n (drop 49 l)))
+    ∙ ap (λ (x : Bool). x && (s && slotsFine channels cap (suc i) (rows 49 slotOf n (drop 49 l)))) (cond-and a (allIs 49 isSlot n (drop 49 l)))
   where
     cond-and : (x y : Bool) → (x && y) ≡ cond x y false
     cond-and true y = refl
@@ -210,16 +279,16 @@ together : (a s w o : Bool) → (((a && s) && w) && o) ≡ (a && ((s && w) && o)
 together true s w o = refl
 together false s w o = refl
 
-pub rest-is-whole : (b : List ℕ) → 4986 ≤ length b → getD b 56 0 ≤ 1 → getD b 57 0 ≤ 1 → headerFine (headerOf b) ≡ true → restWhole (headerOf b) b ≡ isWhole b
+pub rest-is-whole : (b : List ℕ) → 4730 ≤ length b → getD b 56 0 ≤ 1 → getD b 57 0 ≤ 1 → headerFine (headerOf b) ≡ true → restWhole (headerOf b) b ≡ isWhole b
 unfolding restWhole isWhole isState whole stateOf
 rest-is-whole b l f g h =
     let k = headerOf b in
     let n = k .negotiated .config .channels in
     let cap = capOf (k .negotiated .config) in
-    rw (one-pass n cap 0 64 (drop 58 b), le-leb 4986 (length b) l, le-leb (getD b 56 0) 1 f, le-leb (getD b 57 0) 1 g, h)
-    (together (allIs 53 isSlot 64 (drop 58 b)) (slotsFine n cap 0 (rows 53 slotOf 64 (drop 58 b)))
-    (waitingFine k (filledAt (rows 53 slotOf 64 (drop 58 b)) (k .waiting .slot)))
-    (opensFine n (k .negotiated .config .«max_payload») (take (k .queued) (rows 24 openOf 64 (drop 3450 b)))))
+    rw (one-pass n cap 0 64 (drop 58 b), le-leb 4730 (length b) l, le-leb (getD b 56 0) 1 f, le-leb (getD b 57 0) 1 g, h)
+    (together (allIs 49 isSlot 64 (drop 58 b)) (slotsFine n cap 0 (rows 49 slotOf 64 (drop 58 b)))
+    (waitingFine k (filledAt (rows 49 slotOf 64 (drop 58 b)) (k .waiting .slot)))
+    (opensFine n (k .negotiated .config .«max_payload») (take (k .queued) (rows 24 openOf 64 (drop 3194 b)))))
 
 pub header-not-whole : (b : List ℕ) → headerFine (headerOf b) ≡ false → false ≡ isWhole b
 unfolding isWhole whole stateOf

@@ -19,7 +19,7 @@ pub data Change : Type 0 where
 
 -- all waiting opens, in place
 unfoldable pub putOpens : List ℕ → List PendingOpen → List ℕ
-putOpens b qs = put b 3450 (flat openBytes qs)
+putOpens b qs = put b 3194 (flat openBytes qs)
 
 abbrev pub withOpens : Connection → List PendingOpen → Connection
 withOpens c qs = record { header = c .header; slots = c .slots; opens = qs }

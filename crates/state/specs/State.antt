@@ -1,5 +1,5 @@
 -- A connection's state, and its bytes (docs/LAYOUT.md). Assumes nothing.
-use Prim.Native.Nat.{ℕ, _+_, _*_}
+use Prim.Native.Nat.{ℕ, _+_, _*_, _/_, _%_}
 use mathlib.Core.Bool.{Bool, true, false, cond, _&&_}
 use mathlib.Core.List.{List, _++_}
 use lib.Dec.{leb, eqb}
@@ -49,42 +49,44 @@ failedTag (By RxOverflow) = 1
 failedTag (By ShortReadyPayload) = 2
 failedTag (By UnexpectedCommand) = 3
 
--- ---- a slot: 53 bytes
+-- ---- a slot: 49 bytes
 
 unfoldable pub slotNumbers : ChannelSlot → List ℕ
 slotNumbers s =
     bytesOf 4 (s .local .0) ++ bytesOf 4 (s .remote .0) ++ bytesOf 8 (unsigned 63 (s .«send_budget»)) ++ bytesOf 8 (s .unacked)
     ++ bytesOf 8 (s .settled) ++ bytesOf 8 (s .head) ++ bytesOf 8 (s .buffered)
 
-unfoldable pub slotTags : ChannelSlot → List ℕ
-slotTags s =
-    bytesOf 1 (flagByte (s .filled)) ++ bytesOf 1 (flagByte (s .«has_remote»)) ++ bytesOf 1 (flagByte (s .«wrte_acked»))
-    ++ bytesOf 1 (stateTag (s .state)) ++ bytesOf 1 (failedTag (s .failed))
+-- flags and tags in one byte: filled, remote number known, last WRTE acknowledged (1 bit each), state (2 bits), fault
+unfoldable pub tagOf : ChannelSlot → ℕ
+tagOf s =
+    flagByte (s .filled) + 2 * flagByte (s .«has_remote») + 4 * flagByte (s .«wrte_acked») + 8 * stateTag (s .state) + 32 * failedTag (s .failed)
 
 unfoldable pub slotBytes : ChannelSlot → List ℕ
-slotBytes s = slotNumbers s ++ slotTags s
+slotBytes s = slotNumbers s ++ bytesOf 1 (tagOf s)
 
 unfoldable pub slotOf : List ℕ → ChannelSlot
 slotOf l =
     record {
-      filled = flagOf (getD l 48 0);
+      filled = flagOf (getD l 48 0 % 2);
       local = record { 0 = numOf (part l 0 4) };
       remote = record { 0 = numOf (part l 4 4) };
-      «has_remote» = flagOf (getD l 49 0);
-      state = stateOfTag (getD l 51 0);
-      «wrte_acked» = flagOf (getD l 50 0);
+      «has_remote» = flagOf (getD l 48 0 / 2 % 2);
+      state = stateOfTag (getD l 48 0 / 2 / 2 / 2 % 4);
+      «wrte_acked» = flagOf (getD l 48 0 / 2 / 2 % 2);
       «send_budget» = signed 63 (numOf (part l 8 8));
       unacked = numOf (part l 16 8);
       settled = numOf (part l 24 8);
       head = numOf (part l 32 8);
       buffered = numOf (part l 40 8);
-      failed = failedOfTag (getD l 52 0);
+      failed = failedOfTag (getD l 48 0 / 2 / 2 / 2 / 4);
     }
 
--- flags are 0 or 1, tags are in range
+-- a tag in range: 7 bits, and one of the three states
+unfoldable pub isTag : ℕ → Bool
+isTag t = leb t 127 && leb (t / 2 / 2 / 2 % 4) 2
+
 unfoldable pub isSlot : List ℕ → Bool
-isSlot l =
-    leb (getD l 48 0) 1 && leb (getD l 49 0) 1 && leb (getD l 50 0) 1 && leb (getD l 51 0) 2 && leb (getD l 52 0) 3
+isSlot l = isTag (getD l 48 0)
 
 -- ---- a waiting open: 24 bytes
 
@@ -134,32 +136,32 @@ headerOf l =
       queued = numOf (part l 24 8);
     }
 
--- ---- the whole: header, 64 slots, 64 waiting opens: 4,986 bytes
+-- ---- the whole: header, 64 slots, 64 waiting opens: 4,730 bytes
 
 unfoldable pub layout : Connection → List ℕ
 layout c = headerBytes (c .header) ++ flat slotBytes (c .slots) ++ flat openBytes (c .opens)
 
 -- the state that bytes stand for
 unfoldable pub stateOf : List ℕ → Connection
-stateOf b = record { header = headerOf b; slots = rows 53 slotOf 64 (drop 58 b); opens = rows 24 openOf 64 (drop 3450 b) }
+stateOf b = record { header = headerOf b; slots = rows 49 slotOf 64 (drop 58 b); opens = rows 24 openOf 64 (drop 3194 b) }
 
 -- bytes that are a state's: enough of them, flags 0 or 1, tags in range
 unfoldable pub isState : List ℕ → Bool
-isState b = leb 4986 (length b) && leb (getD b 56 0) 1 && leb (getD b 57 0) 1 && allIs 53 isSlot 64 (drop 58 b)
+isState b = leb 4730 (length b) && leb (getD b 56 0) 1 && leb (getD b 57 0) 1 && allIs 49 isSlot 64 (drop 58 b)
 
 -- ---- one record of it, in place
 
 unfoldable pub slotAt : List ℕ → ℕ → ChannelSlot
-slotAt b i = slotOf (part b (58 + i * 53) 53)
+slotAt b i = slotOf (part b (58 + i * 49) 49)
 
 unfoldable pub openAt : List ℕ → ℕ → PendingOpen
-openAt b i = openOf (part b (3450 + i * 24) 24)
+openAt b i = openOf (part b (3194 + i * 24) 24)
 
 unfoldable pub putSlot : List ℕ → ℕ → ChannelSlot → List ℕ
-putSlot b i s = put b (58 + i * 53) (slotBytes s)
+putSlot b i s = put b (58 + i * 49) (slotBytes s)
 
 unfoldable pub putOpen : List ℕ → ℕ → PendingOpen → List ℕ
-putOpen b i q = put b (3450 + i * 24) (openBytes q)
+putOpen b i q = put b (3194 + i * 24) (openBytes q)
 
 unfoldable pub putHeader : List ℕ → Header → List ℕ
 putHeader b h = put b 0 (headerBytes h)

@@ -31,7 +31,7 @@ rowFine channels cap i l = isSlot l && slotFine channels cap i (slotOf l)
 -- n rows from place i on, in one pass
 unfoldable pub rowsFine : ℕ → ℕ → ℕ → ℕ → List ℕ → Bool
 rowsFine channels cap i zero l = true
-rowsFine channels cap i (suc n) l = rowFine channels cap i (take 53 l) && rowsFine channels cap (suc i) n (drop 53 l)
+rowsFine channels cap i (suc n) l = rowFine channels cap i (take 49 l) && rowsFine channels cap (suc i) n (drop 49 l)
 
 -- a waiting open: its destination within max_payload, its share one of the store's
 unfoldable pub openFine : ℕ → ℕ → PendingOpen → Bool

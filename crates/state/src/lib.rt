@@ -1,4 +1,4 @@
-// The lent state, worked on in place: a header of 58 bytes, 64 slots of 53, 64 waiting opens of 24 (docs/LAYOUT.md).
+// The lent state, worked on in place: a header of 58 bytes, 64 slots of 49, 64 waiting opens of 24 (docs/LAYOUT.md).
 // The header is read and written by value; a slot or a waiting open is read where it lies, and the one that changed is
 // stored.
 pub mod valid;
@@ -15,7 +15,7 @@ ghost use mathlib.Core.Path.{_≡_};
 ghost use Prim.Native.Nat.{_+_, _*_, _≤_, _<_};
 ghost use lib.ListN.{length};
 ghost use Rattle.le.specs.Le.{put};
-ghost use Rattle.state.specs.State.{flagOf, flagByte, stateOfTag, stateTag, failedOfTag, failedTag, slotNumbers, slotTags, slotBytes, slotOf, openBytes, openOf, headerSizes, headerWords, headerTags, headerOf, slotAt, openAt, putSlot, putOpen, putHeader};
+ghost use Rattle.state.specs.State.{flagOf, flagByte, stateOfTag, stateTag, failedOfTag, failedTag, slotNumbers, tagOf, slotBytes, slotOf, openBytes, openOf, headerSizes, headerWords, headerTags, headerOf, slotAt, openAt, putSlot, putOpen, putHeader};
 
 // An open of ours that waits for its OKAY.
 pub struct Waiting {
@@ -48,7 +48,7 @@ fn flag(b: u8) -> bool
 }
 
 fn flag_byte(f: bool) -> u8
-    ensures { λ r. ⌜ r ≡ flagByte f ⌝ }
+    ensures { λ r. ⌜ (r ≡ flagByte f) × (r ≤ 1) ⌝ }
 {
     if f {
         return 1;
@@ -69,7 +69,7 @@ fn state_of(b: u8) -> ChannelState
 }
 
 fn state_tag(state: ChannelState) -> u8
-    ensures { λ r. ⌜ r ≡ stateTag state ⌝ }
+    ensures { λ r. ⌜ (r ≡ stateTag state) × (r ≤ 2) ⌝ }
 {
     match state {
         ChannelState::Opening => 0,
@@ -94,7 +94,7 @@ fn failed_of(b: u8) -> Failed
 }
 
 fn fault_tag(fault: ChannelFault) -> u8
-    ensures { λ r. ⌜ r ≡ failedTag (Failed.By fault) ⌝ }
+    ensures { λ r. ⌜ (r ≡ failedTag (Failed.By fault)) × (r ≤ 3) ⌝ }
 {
     match fault {
         ChannelFault::RxOverflow => 1,
@@ -104,7 +104,7 @@ fn fault_tag(fault: ChannelFault) -> u8
 }
 
 fn failed_tag(failed: Failed) -> u8
-    ensures { λ r. ⌜ r ≡ failedTag failed ⌝ }
+    ensures { λ r. ⌜ (r ≡ failedTag failed) × (r ≤ 3) ⌝ }
 {
     match failed {
         Failed::No => 0,
@@ -112,29 +112,30 @@ fn failed_tag(failed: Failed) -> u8
     }
 }
 
-// The slot that 53 bytes stand for.
+// The slot that 49 bytes stand for.
 pub(crate) fn slot_of(p: &[u8]) -> ChannelSlot
-    requires { ⌜ 53 ≤ length (now p) ⌝ }
+    requires { ⌜ 49 ≤ length (now p) ⌝ }
     ensures { λ r. ⌜ r ≡ slotOf (now (p .entry)) ⌝ }
 {
+    let tag = p[48];
     ChannelSlot {
-        filled: flag(p[48]),
+        filled: flag(tag % 2),
         local: LocalId(le::get_u32(p, 0)),
         remote: RemoteId(le::get_u32(p, 4)),
-        has_remote: flag(p[49]),
-        state: state_of(p[51]),
-        wrte_acked: flag(p[50]),
+        has_remote: flag(tag / 2 % 2),
+        state: state_of(tag / 2 / 2 / 2 % 4),
+        wrte_acked: flag(tag / 2 / 2 % 2),
         send_budget: le::get_i64(p, 8),
         unacked: le::get_usize(p, 16),
         settled: le::get_usize(p, 24),
         head: le::get_usize(p, 32),
         buffered: le::get_usize(p, 40),
-        failed: failed_of(p[52]),
+        failed: failed_of(tag / 2 / 2 / 2 / 4),
     }
 }
 
 fn fill_numbers(p: &mut [u8], s: ChannelSlot)
-    requires { ⌜ 53 ≤ length (now p) ⌝ }
+    requires { ⌜ 49 ≤ length (now p) ⌝ }
     ensures { λ _. ⌜ now (p .exit) ≡ put (now (p .entry)) 0 (slotNumbers s) ⌝ }
 {
     le::put_u32(p, 0, s.local.0);
@@ -146,43 +147,39 @@ fn fill_numbers(p: &mut [u8], s: ChannelSlot)
     le::put_usize(p, 40, s.buffered);
 }
 
-fn fill_tags(p: &mut [u8], s: ChannelSlot)
-    requires { ⌜ 53 ≤ length (now p) ⌝ }
-    ensures { λ _. ⌜ now (p .exit) ≡ put (now (p .entry)) 48 (slotTags s) ⌝ }
+fn tag_of(s: ChannelSlot) -> u8
+    ensures { λ r. ⌜ (r ≡ tagOf s) × (r ≤ 127) ⌝ }
 {
     let state = s.state;
     let failed = s.failed;
-    le::put_u8(p, 48, flag_byte(s.filled));
-    le::put_u8(p, 49, flag_byte(s.has_remote));
-    le::put_u8(p, 50, flag_byte(s.wrte_acked));
-    le::put_u8(p, 51, state_tag(state));
-    le::put_u8(p, 52, failed_tag(failed));
+    let flags = flag_byte(s.filled) + 2 * flag_byte(s.has_remote) + 4 * flag_byte(s.wrte_acked);
+    flags + 8 * state_tag(state) + 32 * failed_tag(failed)
 }
 
 fn fill_slot(p: &mut [u8], s: ChannelSlot)
-    requires { ⌜ 53 ≤ length (now p) ⌝ }
+    requires { ⌜ 49 ≤ length (now p) ⌝ }
     ensures { λ _. ⌜ now (p .exit) ≡ put (now (p .entry)) 0 (slotBytes s) ⌝ }
 {
     fill_numbers(p, s);
-    fill_tags(p, s);
+    le::put_u8(p, 48, tag_of(s));
 }
 
 // The slot at place i.
 pub fn slot_at(state: &[u8], i: usize) -> ChannelSlot
-    requires { ⌜ (i < 64) × (4986 ≤ length (now state)) ⌝ }
+    requires { ⌜ (i < 64) × (4730 ≤ length (now state)) ⌝ }
     ensures { λ r. ⌜ r ≡ slotAt (now (state .entry)) i ⌝ }
 {
-    let at = 58 + i * 53;
-    let end = at + 53;
+    let at = 58 + i * 49;
+    let end = at + 49;
     slot_of(&state[at..end])
 }
 
 pub fn put_slot(state: &mut [u8], i: usize, s: ChannelSlot)
-    requires { ⌜ (i < 64) × (4986 ≤ length (now state)) ⌝ }
+    requires { ⌜ (i < 64) × (4730 ≤ length (now state)) ⌝ }
     ensures { λ _. ⌜ now (state .exit) ≡ putSlot (now (state .entry)) i s ⌝ }
 {
-    let at = 58 + i * 53;
-    let end = at + 53;
+    let at = 58 + i * 49;
+    let end = at + 49;
     fill_slot(&mut state[at..end], s);
 }
 
@@ -211,19 +208,19 @@ fn fill_open(p: &mut [u8], q: PendingOpen)
 
 // The waiting open at place i.
 pub fn open_at(state: &[u8], i: usize) -> PendingOpen
-    requires { ⌜ (i < 64) × (4986 ≤ length (now state)) ⌝ }
+    requires { ⌜ (i < 64) × (4730 ≤ length (now state)) ⌝ }
     ensures { λ r. ⌜ r ≡ openAt (now (state .entry)) i ⌝ }
 {
-    let at = 3450 + i * 24;
+    let at = 3194 + i * 24;
     let end = at + 24;
     open_of(&state[at..end])
 }
 
 pub fn put_open(state: &mut [u8], i: usize, q: PendingOpen)
-    requires { ⌜ (i < 64) × (4986 ≤ length (now state)) ⌝ }
+    requires { ⌜ (i < 64) × (4730 ≤ length (now state)) ⌝ }
     ensures { λ _. ⌜ now (state .exit) ≡ putOpen (now (state .entry)) i q ⌝ }
 {
-    let at = 3450 + i * 24;
+    let at = 3194 + i * 24;
     let end = at + 24;
     fill_open(&mut state[at..end], q);
 }

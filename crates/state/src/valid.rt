@@ -5,81 +5,60 @@ use crate::header_of;
 use crate::open_at;
 use crate::slot_at;
 use crate::slot_of;
-use slot::ChannelSlot;
 ghost use mathlib.Core.Path.{_≡_};
 ghost use Prim.Native.Nat.{_+_, _*_, _≤_, _<_};
 ghost use lib.ListN.{length, take, drop};
 ghost use Rattle.le.specs.Le.{part};
-ghost use Rattle.state.specs.State.{isSlot, slotOf, stateOf};
-ghost use Rattle.state.specs.Valid.{filledOk, rowFine, rowsFine, openFine, opensFine, headerFine, waitingFine, filledAt, isWhole, HeaderOk, restWhole};
+ghost use Rattle.state.specs.State.{isTag, stateOf};
+ghost use Rattle.state.specs.Valid.{rowFine, rowsFine, openFine, opensFine, headerFine, waitingFine, filledAt, isWhole, HeaderOk, restWhole};
 
-fn filled_ok(s: ChannelSlot, cap: usize) -> bool
-    requires { ⌜ cap ≤ 16777216 ⌝ }
-    ensures { λ r. ⌜ r ≡ filledOk s cap ⌝ }
+// Whether an empty slot's tag is in range.
+fn is_tag(tag: u8) -> bool
+    ensures { λ r. ⌜ r ≡ isTag tag ⌝ }
 {
-    let state = s.state;
-    if slot::is_opening(state) {
+    if tag > 127 {
         return false;
     }
-    if s.is_failed() {
-        return false;
-    }
-    if s.has_remote {
-        return s.is_sound(cap);
-    }
-    false
+    tag / 2 / 2 / 2 % 4 <= 2
 }
 
-// Whether 53 bytes are those of a slot: flags are 0 or 1, tags are in range.
-fn is_slot(p: &[u8]) -> bool
-    requires { ⌜ 53 ≤ length (now p) ⌝ }
-    ensures { λ r. ⌜ r ≡ isSlot (now (p .entry)) ⌝ }
-{
-    if p[48] > 1 {
-        return false;
-    }
-    if p[49] > 1 {
-        return false;
-    }
-    if p[50] > 1 {
-        return false;
-    }
-    if p[51] > 2 {
-        return false;
-    }
-    p[52] <= 3
-}
-
-// Whether 53 bytes are a slot's that may stand at place i.
+// Whether 49 bytes are a slot's that may stand at place i. A filled one is open or closed, has its remote number and no
+// fault: its tag is 3 modulo 4, from 8 to 23.
 fn row_fine(p: &[u8], i: usize, channels: usize, cap: usize) -> bool
-    requires { ⌜ (53 ≤ length (now p)) × (cap ≤ 16777216) ⌝ }
+    requires { ⌜ (49 ≤ length (now p)) × (cap ≤ 16777216) ⌝ }
     ensures { λ r. ⌜ r ≡ rowFine channels cap i (now (p .entry)) ⌝ }
 {
-    if is_slot(p) {
-        let s = slot_of(p);
-        if s.filled {
-            if i < channels {
-                return filled_ok(s, cap);
-            }
+    let tag = p[48];
+    if tag % 4 == 3 {
+        if tag < 8 {
             return false;
         }
-        return true;
+        if tag > 23 {
+            return false;
+        }
+        if i < channels {
+            return slot_of(p).is_sound(cap);
+        }
+        return false;
+    }
+    if tag % 2 == 0 {
+        return is_tag(tag);
     }
     false
 }
 
 fn row_at_fine(state: &[u8], i: usize, channels: usize, cap: usize) -> bool
-    requires { ⌜ (i < 64) × (4986 ≤ length (now state)) × (cap ≤ 16777216) ⌝ }
-    ensures { λ r. ⌜ r ≡ rowFine channels cap i (part (now (state .entry)) (58 + i * 53) 53) ⌝ }
+    requires { ⌜ (i < 64) × (4730 ≤ length (now state)) × (cap ≤ 16777216) ⌝ }
+    ensures { λ r. ⌜ r ≡ rowFine channels cap i (part (now (state .entry)) (58 + i * 49) 49) ⌝ }
 {
-    let at = 58 + i * 53;
-    let end = at + 53;
+    let at = 58 + i * 49;
+    let end = at + 49;
     row_fine(&state[at..end], i, channels, cap)
 }
 
 // Whether the 64 slots are each a slot that may stand at its place.
 fn slots_fine(state: &[u8], channels: usize, cap: usize) -> bool
-    requires { ⌜ (4986 ≤ length (now state)) × (cap ≤ 16777216) ⌝ }
+    requires { ⌜ (4730 ≤ length (now state)) × (cap ≤ 16777216) ⌝ }
     ensures { λ r. ⌜ r ≡ rowsFine channels cap 0 64 (drop 58 (now (state .entry))) ⌝ }
 {
     let mut i = 0;
@@ -104,7 +83,7 @@ fn open_fine(q: PendingOpen, channels: usize, payload: usize) -> bool
 
 // Whether the first n waiting opens may be ones.
 fn opens_fine(state: &[u8], n: usize, channels: usize, payload: usize) -> bool
-    requires { ⌜ (n ≤ 64) × (4986 ≤ length (now state)) ⌝ }
+    requires { ⌜ (n ≤ 64) × (4730 ≤ length (now state)) ⌝ }
     ensures { λ r. ⌜ r ≡ opensFine channels payload (take n (stateOf (now (state .entry)) .opens)) ⌝ }
 {
     let mut i = 0;
@@ -140,7 +119,7 @@ fn header_fine(h: Header) -> bool
 }
 
 fn waiting_fine(state: &[u8], h: Header) -> bool
-    requires { ⌜ (h .negotiated .config .channels ≤ 64) × (4986 ≤ length (now state)) ⌝ }
+    requires { ⌜ (h .negotiated .config .channels ≤ 64) × (4730 ≤ length (now state)) ⌝ }
     ensures { λ r. ⌜ r ≡ waitingFine h (filledAt (stateOf (now (state .entry)) .slots) (h .waiting .slot)) ⌝ }
 {
     let waiting = h.waiting;
@@ -161,7 +140,7 @@ fn waiting_fine(state: &[u8], h: Header) -> bool
 pub fn is_whole(state: &[u8]) -> bool
     ensures { λ r. ⌜ r ≡ isWhole (now (state .entry)) ⌝ }
 {
-    if state.len() < 4986 {
+    if state.len() < 4730 {
         return false;
     }
     if state[56] > 1 {
@@ -179,7 +158,7 @@ pub fn is_whole(state: &[u8]) -> bool
 
 // Slots, the waiting open and the queue, once the header is fine.
 fn rest_whole(state: &[u8], h: Header) -> bool
-    requires { ⌜ HeaderOk h × (4986 ≤ length (now state)) ⌝ }
+    requires { ⌜ HeaderOk h × (4730 ≤ length (now state)) ⌝ }
     ensures { λ r. ⌜ r ≡ restWhole h (now (state .entry)) ⌝ }
 {
     let negotiated = h.negotiated;

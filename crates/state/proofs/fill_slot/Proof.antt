@@ -2,18 +2,27 @@ use Rattle.state.proofs.Fields.{slot-put}
 use borrow.Author.Needs.{needs}
 use Rattle.state.proofs.fill_slot.Statement.{statement}
 use Rattle.state.proofs.fill_slot.Tie as tie
+use Rattle.state.proofs.fill_slot.Reads as reads
+use Rattle.state.proofs.fill_slot.Lts as lts
+use Rattle.le.proofs.put_u8.Reads as put-u8-reads
+use Rattle.state.proofs.fill_numbers.Reads as fill-numbers-reads
+use Rattle.state.proofs.tag_of.Reads as tag-of-reads
 
 fill-numbers-requires : tie.Need-fill-numbers-requires
 fill-numbers-requires c κs = search needs
 
-fill-tags-requires : tie.Need-fill-tags-requires
-fill-tags-requires c κs = search needs
+tag-of-requires : tie.Need-tag-of-requires
+tag-of-requires c κs = search needs
+
+put-u8-requires : tie.Need-put-u8-requires
+put-u8-requires c κs = search needs
 
 same-length : tie.Need-same-length
 same-length c = search needs
 
 returns : tie.Need-returns
-returns c = cc (slot-put (c .before .before .before .before .before .before .before .before .before .args .p .now) (c .before .before .before .before .before .before .before .before .before .args .s) (c .before .before .before .before .before .before .before .before .before .pre))
+returns c = cc (slot-put (c .before .before .before .before .before .before .before .before .before .before .args .p .now) (c .before .before .before .before .before .before .before .before .before .before .args .s) (c .before .before .before .before .before .before .before .before .before .before .pre))
 
 pub fill-slot-spec : {M : Type 1} → statement M
-fill-slot-spec = tie.close (tie.spec fill-numbers-requires fill-tags-requires same-length returns)
+fill-slot-spec =
+    tie.close (tie.spec fill-numbers-requires tag-of-requires put-u8-requires same-length returns)

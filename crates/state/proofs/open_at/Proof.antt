@@ -28,7 +28,7 @@ open-of-requires c κs = search needs
 
 returns : tie.Need-returns
 unfolding openAt
-returns c = rw (lent-part (c .before .before .before .args .state .now) (3450 + c .before .before .before .args .i * 24) 24) at (c .open-of .ensures)
+returns c = rw (lent-part (c .before .before .before .args .state .now) (3194 + c .before .before .before .args .i * 24) 24) at (c .open-of .ensures)
 
 pub open-at-spec : {M : Type 1} → statement M
 open-at-spec =

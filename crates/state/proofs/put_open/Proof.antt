@@ -32,7 +32,7 @@ same-length c = search needs
 
 returns : tie.Need-returns
 unfolding putOpen
-returns c = put-lent (c .before .before .before .before .before .args .state .now) (3450 + c .before .before .before .before .before .args .i * 24) 24 (openBytes (c .before .before .before .before .before .args .q)) _ (length-open (c .before .before .before .before .before .args .q)) (omega arith) (c .before .before .fill-open .ensures)
+returns c = put-lent (c .before .before .before .before .before .args .state .now) (3194 + c .before .before .before .before .before .args .i * 24) 24 (openBytes (c .before .before .before .before .before .args .q)) _ (length-open (c .before .before .before .before .before .args .q)) (omega arith) (c .before .before .fill-open .ensures)
 
 pub put-open-spec : {M : Type 1} → statement M
 put-open-spec =

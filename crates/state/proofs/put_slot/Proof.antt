@@ -32,7 +32,7 @@ same-length c = search needs
 
 returns : tie.Need-returns
 unfolding putSlot
-returns c = put-lent (c .before .before .before .before .before .args .state .now) (58 + c .before .before .before .before .before .args .i * 53) 53 (slotBytes (c .before .before .before .before .before .args .s)) _ (length-slot (c .before .before .before .before .before .args .s)) (omega arith) (c .before .before .fill-slot .ensures)
+returns c = put-lent (c .before .before .before .before .before .args .state .now) (58 + c .before .before .before .before .before .args .i * 49) 49 (slotBytes (c .before .before .before .before .before .args .s)) _ (length-slot (c .before .before .before .before .before .args .s)) (omega arith) (c .before .before .fill-slot .ensures)
 
 pub put-slot-spec : {M : Type 1} → statement M
 put-slot-spec =

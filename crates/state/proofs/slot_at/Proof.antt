@@ -28,7 +28,7 @@ slot-of-requires c κs = search needs
 
 returns : tie.Need-returns
 unfolding slotAt
-returns c = rw (lent-part (c .before .before .before .args .state .now) (58 + c .before .before .before .args .i * 53) 53) at (c .slot-of .ensures)
+returns c = rw (lent-part (c .before .before .before .args .state .now) (58 + c .before .before .before .args .i * 49) 49) at (c .slot-of .ensures)
 
 pub slot-at-spec : {M : Type 1} → statement M
 slot-at-spec =

@@ -4,9 +4,17 @@ use Rattle.state.specs.State.{slotOf}
 use borrow.Author.Needs.{needs}
 use Rattle.state.proofs.slot_of.Statement.{statement}
 use Rattle.state.proofs.slot_of.Tie as tie
+use Rattle.state.proofs.slot_of.Reads as reads
+use Rattle.state.proofs.slot_of.Lts as lts
+use Rattle.le.proofs.get_i64.Reads as get-i64-reads
+use Rattle.le.proofs.get_u32.Reads as get-u32-reads
+use Rattle.le.proofs.get_usize.Reads as get-usize-reads
+use Rattle.state.proofs.failed_of.Reads as failed-of-reads
+use Rattle.state.proofs.flag.Reads as flag-reads
+use Rattle.state.proofs.state_of.Reads as state-of-reads
 
-shared-slice-read-flag : tie.Need-shared-slice-read-flag
-shared-slice-read-flag c = search needs
+shared-slice-read-tag : tie.Need-shared-slice-read-tag
+shared-slice-read-tag c = search needs
 
 flag-requires : tie.Need-flag-requires
 flag-requires c κs = search needs
@@ -17,20 +25,11 @@ get-u32-requires c κs = search needs
 get-u32-requires-2 : tie.Need-get-u32-requires-2
 get-u32-requires-2 c κs = search needs
 
-shared-slice-read-flag-2 : tie.Need-shared-slice-read-flag-2
-shared-slice-read-flag-2 c = search needs
-
 flag-requires-2 : tie.Need-flag-requires-2
 flag-requires-2 c κs = search needs
 
-shared-slice-read-state-of : tie.Need-shared-slice-read-state-of
-shared-slice-read-state-of c = search needs
-
 state-of-requires : tie.Need-state-of-requires
 state-of-requires c κs = search needs
-
-shared-slice-read-flag-3 : tie.Need-shared-slice-read-flag-3
-shared-slice-read-flag-3 c = search needs
 
 flag-requires-3 : tie.Need-flag-requires-3
 flag-requires-3 c κs = search needs
@@ -50,35 +49,28 @@ get-usize-requires-3 c κs = search needs
 get-usize-requires-4 : tie.Need-get-usize-requires-4
 get-usize-requires-4 c κs = search needs
 
-shared-slice-read-failed-of : tie.Need-shared-slice-read-failed-of
-shared-slice-read-failed-of c = search needs
-
 failed-of-requires : tie.Need-failed-of-requires
 failed-of-requires c κs = search needs
 
 returns : tie.Need-returns
 unfolding slotOf
-returns c = rw (toZ-ofZ {w = w64} {z = c .before .before .before .before .before .before .get-i64 .result} (record { sfits = c .before .before .before .before .before .before .get-i64 .ok })) (cc)
+returns c = rw (toZ-ofZ {w = w64} {z = c .before .before .before .before .before .get-i64 .result} (record { sfits = c .before .before .before .before .before .get-i64 .ok })) (cc)
 
 pub slot-of-spec : {M : Type 1} → statement M
 slot-of-spec =
     tie.close
     (tie.spec
-    shared-slice-read-flag
+    shared-slice-read-tag
     flag-requires
     get-u32-requires
     get-u32-requires-2
-    shared-slice-read-flag-2
     flag-requires-2
-    shared-slice-read-state-of
     state-of-requires
-    shared-slice-read-flag-3
     flag-requires-3
     get-i64-requires
     get-usize-requires
     get-usize-requires-2
     get-usize-requires-3
     get-usize-requires-4
-    shared-slice-read-failed-of
     failed-of-requires
     returns)

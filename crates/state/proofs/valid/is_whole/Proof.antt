@@ -11,21 +11,21 @@ use Rattle.state.proofs.valid.is_whole.Tie as tie
 
 returns : tie.Need-returns
 unfolding isWhole isState
-returns c = rw (lt-leb 4986 (length (c .before .before .args .state .now)) (omega arith))
+returns c = rw (lt-leb 4730 (length (c .before .before .args .state .now)) (omega arith))
 
 shared-slice-read-if2 : tie.Need-shared-slice-read-if2
 shared-slice-read-if2 c = search needs
 
 returns-2 : tie.Need-returns-2
 unfolding isWhole isState
-returns-2 c = rw (le-leb 4986 (length (c .before .before .before .before .args .state .now)) (omega arith), lt-leb (getD (c .before .before .before .before .args .state .now) 56 0) 1 (omega arith))
+returns-2 c = rw (le-leb 4730 (length (c .before .before .before .before .args .state .now)) (omega arith), lt-leb (getD (c .before .before .before .before .args .state .now) 56 0) 1 (omega arith))
 
 shared-slice-read-if3 : tie.Need-shared-slice-read-if3
 shared-slice-read-if3 c = search needs
 
 returns-3 : tie.Need-returns-3
 unfolding isWhole isState
-returns-3 c = rw (le-leb 4986 (length (c .before .before .before .before .before .before .args .state .now)) (omega arith), le-leb (getD (c .before .before .before .before .before .before .args .state .now) 56 0) 1 (omega arith), lt-leb (getD (c .before .before .before .before .before .before .args .state .now) 57 0) 1 (omega arith))
+returns-3 c = rw (le-leb 4730 (length (c .before .before .before .before .before .before .args .state .now)) (omega arith), le-leb (getD (c .before .before .before .before .before .before .args .state .now) 56 0) 1 (omega arith), lt-leb (getD (c .before .before .before .before .before .before .args .state .now) 57 0) 1 (omega arith))
 
 header-of-requires : tie.Need-header-of-requires
 header-of-requires c κs = search needs

@@ -26,7 +26,7 @@ row-fine-requires : tie.Need-row-fine-requires
 row-fine-requires c κs = search needs
 
 returns : tie.Need-returns
-returns c = rw (lent-part (c .before .before .before .args .state .now) (58 + c .before .before .before .args .i * 53) 53) at (c .row-fine .ensures)
+returns c = rw (lent-part (c .before .before .before .args .state .now) (58 + c .before .before .before .args .i * 49) 49) at (c .row-fine .ensures)
 
 pub row-at-fine-spec : {M : Type 1} → statement M
 row-at-fine-spec =

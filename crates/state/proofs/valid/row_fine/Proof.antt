@@ -1,41 +1,57 @@
 use native.Mathlib.Omega.{arith}
-use mathlib.Core.Path.{sym, _∙_}
-use Rattle.state.specs.Valid.{rowFine}
-use Rattle.state.proofs.ValidLaws.{row-filled, row-beyond, row-empty, and-stops}
+use mathlib.Core.Path.{_≡_, refl, sym, ap, _∙_}
+use Rattle.state.proofs.ValidLaws.{row-empty, row-unknown, row-opening, row-failed, row-filled, row-beyond}
+use Rattle.slot.specs.Slot.{slotOk}
 use borrow.Author.Needs.{needs}
 use Rattle.state.proofs.valid.row_fine.Statement.{statement}
 use Rattle.state.proofs.valid.row_fine.Tie as tie
+use Rattle.state.proofs.valid.row_fine.Reads as reads
+use Rattle.state.proofs.valid.row_fine.Lts as lts
+use Rattle.slot.proofs.ChannelSlot.is_sound.Reads as is-sound-reads
+use Rattle.state.proofs.slot_of.Reads as slot-of-reads
+use Rattle.state.proofs.valid.is_tag.Reads as is-tag-reads
 
-is-slot-requires : tie.Need-is-slot-requires
-is-slot-requires c κs = search needs
+shared-slice-read-tag : tie.Need-shared-slice-read-tag
+shared-slice-read-tag c = search needs
+
+returns : tie.Need-returns
+returns c = row-opening (c .before .before .before .before .args .channels) (c .before .before .before .before .args .cap) (c .before .before .before .before .args .i) (c .before .before .before .before .args .p .now) (omega arith) (omega arith)
+
+returns-2 : tie.Need-returns-2
+returns-2 c = row-failed (c .before .before .before .before .before .args .channels) (c .before .before .before .before .before .args .cap) (c .before .before .before .before .before .args .i) (c .before .before .before .before .before .args .p .now) (omega arith) (omega arith)
 
 slot-of-requires : tie.Need-slot-of-requires
 slot-of-requires c κs = search needs
 
-filled-ok-requires : tie.Need-filled-ok-requires
-filled-ok-requires c κs = search needs
-
-returns : tie.Need-returns
-returns c = row-filled (c .before .before .before .before .before .before .before .args .channels) (c .before .before .before .before .before .before .before .args .cap) (c .before .before .before .before .before .before .before .args .i) (c .before .before .before .before .before .before .before .args .p .now) (c .before .before .before .slot-of .result) (c .before .before .before .slot-of .ensures) _ (sym (c .before .before .before .before .before .is-slot .ensures) ∙ c .before .before .before .before .if1 .taken) (c .before .before .if2 .taken) (omega arith) (c .filled-ok .ensures)
-
-returns-2 : tie.Need-returns-2
-returns-2 c = row-beyond (c .before .before .before .before .before .before .args .channels) (c .before .before .before .before .before .before .args .cap) (c .before .before .before .before .before .before .args .i) (c .before .before .before .before .before .before .args .p .now) (c .before .before .slot-of .result) (c .before .before .slot-of .ensures) (sym (c .before .before .before .before .is-slot .ensures) ∙ c .before .before .before .if1 .taken) (c .before .if2 .taken) (omega arith)
+is-sound-requires : tie.Need-is-sound-requires
+is-sound-requires c κs = search needs
 
 returns-3 : tie.Need-returns-3
-returns-3 c = row-empty (c .before .before .before .before .before .args .channels) (c .before .before .before .before .before .args .cap) (c .before .before .before .before .before .args .i) (c .before .before .before .before .before .args .p .now) (c .before .slot-of .result) (c .before .slot-of .ensures) (sym (c .before .before .before .is-slot .ensures) ∙ c .before .before .if1 .taken) (c .if2 .left)
+returns-3 c = row-filled (c .before .before .before .before .before .before .before .before .args .channels) (c .before .before .before .before .before .before .before .before .args .cap) (c .before .before .before .before .before .before .before .before .args .i) (c .before .before .before .before .before .before .before .before .args .p .now) _ (omega arith) (omega arith) (omega arith) (omega arith) (c .is-sound .ensures ∙ ap (λ s. slotOk s (c .before .before .before .before .before .before .before .before .args .cap)) (c .before .slot-of .ensures))
 
 returns-4 : tie.Need-returns-4
-unfolding rowFine
-returns-4 c = and-stops _ _ (sym (c .before .is-slot .ensures) ∙ c .if1 .left)
+returns-4 c = row-beyond (c .before .before .before .before .before .before .args .channels) (c .before .before .before .before .before .before .args .cap) (c .before .before .before .before .before .before .args .i) (c .before .before .before .before .before .before .args .p .now) (omega arith) (omega arith)
+
+is-tag-requires : tie.Need-is-tag-requires
+is-tag-requires c κs = search needs
+
+returns-5 : tie.Need-returns-5
+returns-5 c = row-empty (c .before .before .before .before .before .args .channels) (c .before .before .before .before .before .args .cap) (c .before .before .before .before .before .args .i) (c .before .before .before .before .before .args .p .now) _ (omega arith) (c .is-tag .ensures)
+
+returns-6 : tie.Need-returns-6
+returns-6 c = row-unknown (c .before .before .before .before .args .channels) (c .before .before .before .before .args .cap) (c .before .before .before .before .args .i) (c .before .before .before .before .args .p .now) (omega arith) (c .before .if1 .left)
 
 pub row-fine-spec : {M : Type 1} → statement M
 row-fine-spec =
     tie.close
     (tie.spec
-    is-slot-requires
-    slot-of-requires
-    filled-ok-requires
+    shared-slice-read-tag
     returns
     returns-2
+    slot-of-requires
+    is-sound-requires
     returns-3
-    returns-4)
+    returns-4
+    is-tag-requires
+    returns-5
+    returns-6)

@@ -9,7 +9,7 @@ use Rattle.state.proofs.valid.slots_fine.Statement.{statement}
 use Rattle.state.proofs.valid.slots_fine.Tie as tie
 
 abbrev Inv-loop : tie.InvT-loop
-Inv-loop state channels cap i₀ i = (i ≤ 64) × (rowsFine channels cap 0 64 (drop 58 state) ≡ rowsFine channels cap i (64 - i) (drop (i * 53) (drop 58 state)))
+Inv-loop state channels cap i₀ i = (i ≤ 64) × (rowsFine channels cap 0 64 (drop 58 state) ≡ rowsFine channels cap i (64 - i) (drop (i * 49) (drop 58 state)))
 
 abbrev μ-loop : tie.MeasureT-loop
 μ-loop state channels cap i₀ i = 64 - i

@@ -1,0 +1,19 @@
+use native.Mathlib.Omega.{arith}
+use borrow.Author.Tests.{lt-leb, le-leb}
+use Prim.Native.Nat.{_/_, _%_}
+use Rattle.state.specs.State.{isTag}
+use Rattle.state.proofs.valid.is_tag.Statement.{statement}
+use Rattle.state.proofs.valid.is_tag.Tie as tie
+use Rattle.state.proofs.valid.is_tag.Reads as reads
+use Rattle.state.proofs.valid.is_tag.Lts as lts
+
+returns : tie.Need-returns
+unfolding isTag
+returns c = rw (lt-leb (c .before .args .tag) 127 (omega arith))
+
+returns-2 : tie.Need-returns-2
+unfolding isTag
+returns-2 c = rw (le-leb (c .before .args .tag) 127 (omega arith))
+
+pub is-tag-spec : {M : Type 1} → statement M
+is-tag-spec = tie.close (tie.spec returns returns-2)
