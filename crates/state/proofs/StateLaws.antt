@@ -120,7 +120,7 @@ tag-parts f r a s x hf hr ha hs hx =
       remote = rw d1 (omega arith);
       acked = rw (d1, d2) (omega arith);
       state = rw (d1, d2, d3) (omega arith);
-      failed = rw (d1, d2, d3) (omega arith)
+      failed = rw (d1, d2, d3) (omega arith);
     }
 
 tag-whole : (t : ℕ) → t ≤ 127 → t % 2 + 2 * (t / 2 % 2) + 4 * (t / 2 / 2 % 2) + 8 * (t / 2 / 2 / 2 % 4) + 32 * (t / 2 / 2 / 2 / 4) ≡ t
@@ -189,6 +189,7 @@ slot-back : (l : List ℕ) → Bytes l → 49 ≤ length l → isSlot l ≡ true
 unfolding slotBytes
 slot-back l b h t =
     rw (numbers-back l b (omega arith), byte-back l 48 (tagOf (slotOf l)) b (omega arith) (tag-back l t), part-join l 0 48 1) (part-start l 49)
+
 -- what fits its bytes is read back
 pub record SlotFits (s : ChannelSlot) : Type 0 where
   pub local : s .local .0 < 2 ^ 32

@@ -1,0 +1,51 @@
+use native.Mathlib.Omega.{arith}
+use Rattle.wire.proofs.Laws.{framed}
+use borrow.Author.Needs.{needs}
+use Rattle.wire.proofs.put_frame.Statement.{statement}
+use Rattle.wire.proofs.put_frame.Tie as tie
+
+of-requires : tie.Need-of-requires
+of-requires c κs = search needs
+
+word-requires : tie.Need-word-requires
+word-requires c κs = search needs
+
+cast-t13 : tie.Need-cast-t13
+cast-t13 c = search needs
+
+magic-requires : tie.Need-magic-requires
+magic-requires c κs = search needs
+
+put-at-requires : tie.Need-put-at-requires
+put-at-requires c κs = search needs
+
+add-body : tie.Need-add-body
+add-body c = search needs
+
+copy-at-requires : tie.Need-copy-at-requires
+copy-at-requires c κs = search needs
+
+add-result : tie.Need-add-result
+add-result c = search needs
+
+same-length : tie.Need-same-length
+same-length c = search needs
+
+returns : tie.Need-returns
+returns c =
+    framed _ _ _ _ _ _ _ _ _ _ _ _ _ (omega arith) (c .before .before .before .before .before .before .before .before .before .word .ensures) (c .before .before .before .before .before .before .before .before .before .before .of .ensures) (c .before .before .before .before .before .before .before .before .magic .ensures) (c .before .before .before .before .before .before .put-at .ensures) (c .before .before .copy-at .ensures) (omega arith)
+
+pub put-frame-spec : {M : Type 1} → statement M
+put-frame-spec =
+    tie.close
+    (tie.spec
+    of-requires
+    word-requires
+    cast-t13
+    magic-requires
+    put-at-requires
+    add-body
+    copy-at-requires
+    add-result
+    same-length
+    returns)

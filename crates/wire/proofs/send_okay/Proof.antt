@@ -1,0 +1,49 @@
+use Rattle.wire.proofs.Laws.{delayed-okay, classic-okay}
+use borrow.Author.Needs.{needs}
+use Rattle.wire.proofs.send_okay.Statement.{statement}
+use Rattle.wire.proofs.send_okay.Tie as tie
+
+slice-aggregate-put-u32 : tie.Need-slice-aggregate-put-u32
+slice-aggregate-put-u32 c = search needs
+
+put-u32-requires : tie.Need-put-u32-requires
+put-u32-requires c κs = search needs
+
+slice-aggregate-put-frame : tie.Need-slice-aggregate-put-frame
+slice-aggregate-put-frame c = search needs
+
+put-frame-requires : tie.Need-put-frame-requires
+put-frame-requires c κs = search needs
+
+same-length : tie.Need-same-length
+same-length c = search needs
+
+returns : tie.Need-returns
+returns c =
+    let a = c .before .before .before .before .before .before .before .before .before .before .before .before .args in
+    delayed-okay _ _ _ _ _ (a .len) (a .ids) (a .delayed) _ (c .before .before .before .before .before .before .before .before .if1 .taken) (c .before .before .before .before .before .before .put-u32 .ensures) (c .before .before .put-frame .ensures)
+
+put-empty-requires : tie.Need-put-empty-requires
+put-empty-requires c κs = search needs
+
+same-length-2 : tie.Need-same-length-2
+same-length-2 c = search needs
+
+returns-2 : tie.Need-returns-2
+returns-2 c =
+    let a = c .before .before .before .before .before .before .before .before .args in
+    classic-okay _ _ _ _ (a .len) (a .ids) (a .delayed) _ (c .before .before .before .before .if1 .left) (c .before .before .put-empty .ensures)
+
+pub send-okay-spec : {M : Type 1} → statement M
+send-okay-spec =
+    tie.close
+    (tie.spec
+    slice-aggregate-put-u32
+    put-u32-requires
+    slice-aggregate-put-frame
+    put-frame-requires
+    same-length
+    returns
+    put-empty-requires
+    same-length-2
+    returns-2)
