@@ -1,7 +1,8 @@
 -- Laws of the limits. Assumes nothing.
 use mathlib.Core.Path.{_≡_, refl}
 use mathlib.Core.Bool.{Bool, true, false, _&&_}
-use Prim.Native.Nat.{_+_, _≤_}
+use Prim.Native.Nat.{_+_, _*_, _≤_}
+use native.Mathlib.Nat.{mul-le-mul}
 use native.Mathlib.Omega.{arith}
 use borrow.Author.Tests.{leb-true, le-leb}
 use Rattle.config.specs.declared.ConnectionConfig.{ConnectionConfig}
@@ -64,3 +65,14 @@ sound c w =
 pub ceiling-payload : (c : ConnectionConfig) → ceilingOf c + c .«max_payload» ≡ capOf c + 1
 unfolding capOf ceilingOf
 ceiling-payload c = omega arith
+
+-- no store's length passes 2 ^ 31
+pub rx-store-small : (c : ConnectionConfig) → Within c → c .channels * (2 * capOf c) ≤ 2_147_483_648
+unfolding capOf
+rx-store-small c w =
+    let s : 2 * capOf c ≤ 33_554_432 = omega arith in
+    let z : c .channels * (2 * capOf c) ≤ 64 * 33_554_432 = mul-le-mul (w .most-channels) s in
+    omega arith
+
+pub open-store-small : (c : ConnectionConfig) → Within c → c .channels * c .«max_payload» ≤ 67_108_864
+open-store-small c w = let z : c .channels * c .«max_payload» ≤ 64 * 1_048_576 = mul-le-mul (w .most-channels) (w .most-payload) in omega arith

@@ -1,5 +1,5 @@
 -- A connection's limits (document 01, "Limits" and config.rs). Assumes nothing.
-use Prim.Native.Nat.{ℕ, _+_, _-_, _≤_, min, max}
+use Prim.Native.Nat.{ℕ, _+_, _-_, _*_, _≤_, min, max}
 use mathlib.Core.Bool.{Bool, _&&_}
 use lib.Dec.{leb}
 use Rattle.config.specs.declared.ConnectionConfig.{ConnectionConfig}
@@ -36,3 +36,15 @@ watermarkOf c = min (ceilingOf c) (max (c .«initial_ack_bytes») (c .«max_payl
 -- the smaller of initial_ack_bytes and ceiling
 unfoldable pub openingCredit : ConnectionConfig → ℕ
 openingCredit c = min (ceilingOf c) (c .«initial_ack_bytes»)
+
+-- channels × 2 × cap
+unfoldable pub rxStoreLen : ConnectionConfig → ℕ
+rxStoreLen c = c .channels * (2 * capOf c)
+
+-- channels × max_payload
+unfoldable pub openStoreLen : ConnectionConfig → ℕ
+openStoreLen c = c .channels * c .«max_payload»
+
+-- neither store is under its length: else refusal 8
+unfoldable pub storesFit : ConnectionConfig → ℕ → ℕ → Bool
+storesFit c rx opens = leb (rxStoreLen c) rx && leb (openStoreLen c) opens

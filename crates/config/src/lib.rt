@@ -2,7 +2,7 @@
 pub mod negotiated;
 
 ghost use mathlib.Core.Path.{_≡_};
-ghost use Rattle.config.specs.Config.{withinLimits, Within, capOf, ceilingOf, watermarkOf, openingCredit};
+ghost use Rattle.config.specs.Config.{withinLimits, Within, capOf, ceilingOf, watermarkOf, openingCredit, rxStoreLen, openStoreLen, storesFit};
 
 // Limits of one connection.
 pub struct ConnectionConfig {
@@ -83,5 +83,33 @@ impl ConnectionConfig {
     {
         let ceiling = self.rx_ceiling();
         saturate::least(ceiling, self.initial_ack_bytes as usize) as u32
+    }
+
+    // Bytes of the receive store. Set-aside bytes don't count toward the cap, so a channel's share is two caps.
+    pub fn rx_store_len(self) -> usize
+        requires { ⌜ Within self ⌝ }
+        ensures { λ r. ⌜ r ≡ rxStoreLen self ⌝ }
+    {
+        let share = 2 * self.rx_cap();
+        self.channels * share
+    }
+
+    // Bytes of the open store: a destination's share is the longest payload.
+    pub fn open_store_len(self) -> usize
+        requires { ⌜ Within self ⌝ }
+        ensures { λ r. ⌜ r ≡ openStoreLen self ⌝ }
+    {
+        self.channels * self.max_payload as usize
+    }
+
+    // Whether neither store is under its length.
+    pub fn stores_fit(self, rx: usize, opens: usize) -> bool
+        requires { ⌜ Within self ⌝ }
+        ensures { λ r. ⌜ r ≡ storesFit self rx opens ⌝ }
+    {
+        if rx < self.rx_store_len() {
+            return false;
+        }
+        opens >= self.open_store_len()
     }
 }
