@@ -1,0 +1,50 @@
+-- The channel table (channel_table.rs): the 64 slots of a state, of which the first `channels` are used. Assumes nothing.
+use Prim.Native.Nat.{ℕ, zero, suc, _+_, _%_, max}
+use mathlib.Core.Bool.{Bool, not, cond, _&&_}
+use mathlib.Core.List.{List, [], _∷_}
+use lib.Dec.{eqb, ltb}
+use lib.ListN.{take}
+use Rattle.slot.specs.declared.ChannelSlot.{ChannelSlot}
+use Rattle.state.specs.declared.Header.{Header}
+use Rattle.state.specs.State.{Connection}
+use Rattle.state.specs.Change.{Change, headerTo}
+use Rattle.table.specs.declared.Allocated.{Allocated}
+use Rattle.table.specs.declared.Allocated.the-variants.{Channel, NoFree}
+use Rattle.table.specs.declared.ChannelId.{ChannelId}
+use Rattle.table.specs.declared.Want.{Want}
+use Rattle.table.specs.declared.Want.the-variants.{Empty, Local, Remote}
+
+-- the place of the first element that passes, or the length where none does
+unfoldable pub first : {A : Type 0} → (A → Bool) → List A → ℕ
+first p [] = 0
+first p (x ∷ xs) = cond (p x) 0 (suc (first p xs))
+
+-- a slot with no channel; one whose channel has our number; one whose channel has the device's
+unfoldable pub wantedBy : Want → ChannelSlot → Bool
+wantedBy Empty s = not (s .filled)
+wantedBy (Local n) s = s .filled && eqb (s .local .0) (n .0)
+wantedBy (Remote n) s = s .filled && s .«has_remote» && eqb (s .remote .0) (n .0)
+
+-- the lowest such place below channels, or channels
+unfoldable pub placeOf : Want → Connection → ℕ
+placeOf w c = first (wantedBy w) (take (c .header .negotiated .config .channels) (c .slots))
+
+-- the number after n: a wrapping sum on 32 bits, never 0
+unfoldable pub nextLocal : ℕ → ℕ
+nextLocal n = max ((n + 1) % 0x1_0000_0000) 1
+
+-- a header whose next number has moved on
+abbrev pub numbered : Header → Header
+numbered h = record { negotiated = h .negotiated; «next_local» = nextLocal (h .«next_local»); waiting = h .waiting; queued = h .queued }
+
+-- the lowest empty place and the next number, or none
+unfoldable pub allocated : Connection → Allocated
+allocated c =
+    cond (ltb (placeOf Empty c) (c .header .negotiated .config .channels))
+      (Channel (record { slot = placeOf Empty c; local = record { 0 = c .header .«next_local» } }))
+      NoFree
+
+-- what that changes: the next number, or nothing
+unfoldable pub allocating : Connection → List Change
+allocating c =
+    cond (ltb (placeOf Empty c) (c .header .negotiated .config .channels)) (headerTo (numbered (c .header)) ∷ []) []
