@@ -12,8 +12,9 @@ use Rattle.rx_store.specs.RxStore.{fitsBehind, appendedHead, takenHead}
 use Rattle.saturate.specs.Saturate.{clamp, satSum}
 use Rattle.slot.specs.Numbers.{creditNumber, readiedNumber, decisionNumber, takenNumber, errorNumber}
 use Rattle.slot.specs.Slot.{creditOf, openingSlot, acceptedSlot, isOpening, isClosed, readyBy, readyOf, heldOf, acksNow, bufferedWith, wroteOf, someLen, ackLenOf, hasData, settledBy, settledSome, settledOf, takeLen, tookOf, takenOf, errorOf}
+use Rattle.table.specs.Table.{nextLocal}
 use Rattle.marked.specs.Marked.{Row, table}
 
 pub agrees : map (λ (r : Row). r .given) table ≡ map (λ (r : Row). r .said) table
-unfolding table numOf bytesOf part total sumOf checkFor lettersOf wordOf magicOf commands amongOf commandOf sameBytes afterName isCut onFirst partsOf anySame listed hasFeature messageOf headerBytes payloadOf checkPasses packetOf knownOf namedOf decodeOf numberOf usedOf messageFor frameBytes signed capOf ceilingOf watermarkOf openingCredit fitsBehind appendedHead takenHead clamp satSum creditNumber readiedNumber decisionNumber takenNumber errorNumber creditOf openingSlot acceptedSlot isOpening isClosed readyBy readyOf heldOf acksNow bufferedWith wroteOf someLen ackLenOf hasData settledBy settledSome settledOf takeLen tookOf takenOf errorOf
+unfolding table numOf bytesOf part total sumOf checkFor lettersOf wordOf magicOf commands amongOf commandOf sameBytes afterName isCut onFirst partsOf anySame listed hasFeature messageOf headerBytes payloadOf checkPasses packetOf knownOf namedOf decodeOf numberOf usedOf messageFor frameBytes signed capOf ceilingOf watermarkOf openingCredit fitsBehind appendedHead takenHead clamp satSum creditNumber readiedNumber decisionNumber takenNumber errorNumber creditOf openingSlot acceptedSlot isOpening isClosed readyBy readyOf heldOf acksNow bufferedWith wroteOf someLen ackLenOf hasData settledBy settledSome settledOf takeLen tookOf takenOf errorOf nextLocal
 agrees = refl

@@ -27,6 +27,7 @@ use Rattle.slot.specs.declared.Taken.the-variants.{Data, Nothing as NothingTake
 use Rattle.slot.specs.declared.Wrote.{Wrote}
 use Rattle.slot.specs.Numbers.{creditNumber, readiedNumber, decisionNumber, takenNumber}
 use Rattle.slot.specs.Slot.{creditOf, acceptedSlot, readyOf, wroteOf, settledOf, takenOf}
+use Rattle.table.specs.Table.{nextLocal}
 
 -- a row: the case, what the definitions give, and what the document says
 pub record Row : Type 0 where
@@ -141,6 +142,7 @@ table =
     ∷ row 6 (credit (creditOf (255 ∷ 255 ∷ 255 ∷ 255 ∷ []))) (0 ∷ 1 ∷ 1 ∷ [])
     ∷ row 6 (budget (readyOf channel (255 ∷ 255 ∷ 255 ∷ 255 ∷ []) ten)) (0 ∷ 0 ∷ 0 ∷ [])
     ∷ row 6 (budget (readyOf channel (255 ∷ 255 ∷ 255 ∷ []) ten)) (5 ∷ [])
+    ∷ row 7 (nextLocal 0xffff_ffff ∷ []) (1 ∷ [])
     ∷ row 8 (wrote six) (0 ∷ 6 ∷ [])
     ∷ row 8 (four .slot .unacked ∷ length-of (four .ack)) (2 ∷ 4 ∷ [])
     ∷ row 8 (wrote (wroteOf (four .slot) ten 9)) (11 ∷ 2 ∷ [])

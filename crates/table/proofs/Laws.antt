@@ -1,16 +1,24 @@
 -- Laws of the channel table. Assumes nothing.
-use mathlib.Core.Path.{_≡_, refl, sym, ap, _∙_}
+use mathlib.Core.Path.{_≡_, sym, ap, _∙_}
 use mathlib.Core.Bool.{Bool, true, false, cond}
 use mathlib.Core.List.{List, [], _∷_}
-use Prim.Native.Nat.{ℕ, zero, suc, _+_, _≤_, _<_}
+use Prim.Native.Nat.{ℕ, suc, _+_, _≤_, _<_}
 use native.Mathlib.Numerals.{add-one}
 use native.Mathlib.Omega.{arith}
-use lib.ListN.{length, take, drop, getD, length-take, drop-of-length-le}
+use borrow.Author.Tests.{lt-ltb, le-ltb}
+use lib.ListN.{length, take, drop, length-take, drop-of-length-le}
 use lib.Seq.{drop-cons, getD-take}
 use Rattle.slot.specs.declared.ChannelSlot.{ChannelSlot}
+use Rattle.state.specs.declared.Header.{Header}
 use Rattle.state.specs.State.{stateOf, slotAt}
 use Rattle.state.proofs.StateLaws.{slot-in, state-full}
-use Rattle.table.specs.Table.{first}
+use Rattle.table.specs.declared.Allocated.the-variants.{Channel, NoFree}
+use Rattle.table.specs.declared.Want.the-variants.{Empty}
+use Rattle.table.specs.Table.{first, countOf, placeOf, allocated}
+
+pub bit-small : (t : Bool) → cond t 1 0 ≤ 1
+bit-small true = omega arith
+bit-small false = omega arith
 
 module _ (p : ChannelSlot → Bool) (b : List ℕ) (n i : ℕ) where
   module _ (h : i < n) (k : n ≤ 64) where
@@ -32,8 +40,31 @@ module _ (p : ChannelSlot → Bool) (b : List ℕ) (n i : ℕ) where
     unfolding first
     walk-step t = rw (here, t, add-one) (omega arith)
 
+    -- a count that stands there
+    pub count-step : countOf p (drop i (take n (stateOf b .slots)))
+        ≡ cond (p (slotAt b i)) 1 0 + countOf p (drop (i + 1) (take n (stateOf b .slots)))
+    unfolding countOf
+    count-step = rw (here, add-one)
+
+  walk-over : n ≤ i → drop i (take n (stateOf b .slots)) ≡ []
+  walk-over h =
+      let m : length (take n (stateOf b .slots)) ≤ i = simp length-take (omega arith) in
+      drop-of-length-le (take n (stateOf b .slots)) m
+
+  pub count-end : n ≤ i → countOf p (drop i (take n (stateOf b .slots))) ≡ 0
+  unfolding countOf
+  count-end h = rw (walk-over h)
+
   pub walk-end : n ≤ i → i + first p (drop i (take n (stateOf b .slots))) ≡ i
   unfolding first
-  walk-end h =
-      let m : length (take n (stateOf b .slots)) ≤ i = simp length-take (omega arith) in
-      rw (drop-of-length-le (take n (stateOf b .slots)) m) (omega arith)
+  walk-end h = rw (walk-over h) (omega arith)
+
+-- an empty place below channels is taken, else there is none
+module _ (h : Header) (ss : List ChannelSlot) (i : ℕ) (e : i ≡ placeOf Empty (h .negotiated .config .channels) ss) where
+  pub allocates : i < h .negotiated .config .channels → Channel (record { slot = i; local = record { 0 = h .«next_local» } }) ≡ allocated h ss
+  unfolding allocated
+  allocates k = rw (sym e, lt-ltb i (h .negotiated .config .channels) k)
+
+  pub allocates-none : h .negotiated .config .channels ≤ i → NoFree ≡ allocated h ss
+  unfolding allocated
+  allocates-none k = rw (sym e, le-ltb i (h .negotiated .config .channels) k)

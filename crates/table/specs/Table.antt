@@ -6,8 +6,6 @@ use lib.Dec.{eqb, ltb}
 use lib.ListN.{take}
 use Rattle.slot.specs.declared.ChannelSlot.{ChannelSlot}
 use Rattle.state.specs.declared.Header.{Header}
-use Rattle.state.specs.State.{Connection}
-use Rattle.state.specs.Change.{Change, headerTo}
 use Rattle.table.specs.declared.Allocated.{Allocated}
 use Rattle.table.specs.declared.Allocated.the-variants.{Channel, NoFree}
 use Rattle.table.specs.declared.ChannelId.{ChannelId}
@@ -25,11 +23,20 @@ wantedBy Empty s = not (s .filled)
 wantedBy (Local n) s = s .filled && eqb (s .local .0) (n .0)
 wantedBy (Remote n) s = s .filled && s .«has_remote» && eqb (s .remote .0) (n .0)
 
--- the lowest such place below channels, or channels
-unfoldable pub placeOf : Want → Connection → ℕ
-placeOf w c = first (wantedBy w) (take (c .header .negotiated .config .channels) (c .slots))
+-- the lowest such place below n, or n
+unfoldable pub placeOf : Want → ℕ → List ChannelSlot → ℕ
+placeOf w n ss = first (wantedBy w) (take n ss)
 
--- the number after n: a wrapping sum on 32 bits, never 0
+-- how many elements pass
+unfoldable pub countOf : {A : Type 0} → (A → Bool) → List A → ℕ
+countOf p [] = 0
+countOf p (x ∷ xs) = cond (p x) 1 0 + countOf p xs
+
+-- slots that hold a channel
+unfoldable pub inUse : ℕ → List ChannelSlot → ℕ
+inUse n ss = countOf (λ (s : ChannelSlot). s .filled) (take n ss)
+
+-- the number after n: a wrapping sum on 32 bits, 0 replaced by 1
 unfoldable pub nextLocal : ℕ → ℕ
 nextLocal n = max ((n + 1) % 0x1_0000_0000) 1
 
@@ -38,13 +45,8 @@ abbrev pub numbered : Header → Header
 numbered h = record { negotiated = h .negotiated; «next_local» = nextLocal (h .«next_local»); waiting = h .waiting; queued = h .queued }
 
 -- the lowest empty place and the next number, or none
-unfoldable pub allocated : Connection → Allocated
-allocated c =
-    cond (ltb (placeOf Empty c) (c .header .negotiated .config .channels))
-      (Channel (record { slot = placeOf Empty c; local = record { 0 = c .header .«next_local» } }))
-      NoFree
-
--- what that changes: the next number, or nothing
-unfoldable pub allocating : Connection → List Change
-allocating c =
-    cond (ltb (placeOf Empty c) (c .header .negotiated .config .channels)) (headerTo (numbered (c .header)) ∷ []) []
+unfoldable pub allocated : Header → List ChannelSlot → Allocated
+allocated h ss =
+    cond (ltb (placeOf Empty (h .negotiated .config .channels) ss) (h .negotiated .config .channels))
+    (Channel (record { slot = placeOf Empty (h .negotiated .config .channels) ss; local = record { 0 = h .«next_local» } }))
+    NoFree

@@ -2,13 +2,15 @@
 use slot::ChannelSlot;
 use slot::ids::LocalId;
 use slot::ids::RemoteId;
+use state::Header;
 use state::slot_at;
 ghost use mathlib.Core.Path.{_≡_};
+ghost use mathlib.Core.Bool.{cond};
 ghost use Prim.Native.Nat.{_≤_};
-ghost use lib.ListN.{length, take};
+ghost use lib.ListN.{length};
 ghost use Rattle.state.specs.State.{stateOf};
 ghost use Rattle.table.specs.declared.Want.the-variants.{Local, Remote};
-ghost use Rattle.table.specs.Table.{first, wantedBy, nextLocal};
+ghost use Rattle.table.specs.Table.{wantedBy, placeOf, inUse, nextLocal, numbered, allocated};
 
 // A channel as its holder names it.
 pub struct ChannelId {
@@ -64,12 +66,12 @@ fn is_wanted(s: ChannelSlot, want: Want) -> bool
 // The lowest wanted place below n, or n.
 pub fn place_below(state: &[u8], n: usize, want: Want) -> usize
     requires { ⌜ (n ≤ 64) × (4730 ≤ length (now state)) ⌝ }
-    ensures { λ r. ⌜ r ≡ first (wantedBy want) (take n (stateOf (now (state .entry)) .slots)) ⌝ }
+    ensures { λ r. ⌜ r ≡ placeOf want n (stateOf (now (state .entry)) .slots) ⌝ }
 {
     let mut i = 0;
     while i < n {
-        let s = slot_at(state, i);
-        if is_wanted(s, want) {
+        let found = slot_at(state, i);
+        if is_wanted(found, want) {
             return i;
         }
         i += 1;
@@ -85,4 +87,52 @@ pub fn next_local(n: u32) -> u32
         return 1;
     }
     n + 1
+}
+
+// A header whose next number has moved on.
+pub fn numbered(h: Header) -> Header
+    ensures { λ r. ⌜ r ≡ numbered h ⌝ }
+{
+    let mut moved = h;
+    moved.next_local = next_local(h.next_local);
+    moved
+}
+
+// The lowest empty slot, and the number that its channel gets. The header is left to the caller, who stores it once.
+pub fn allocate(state: &[u8], h: Header) -> Allocated
+    requires { ⌜ (h .negotiated .config .channels ≤ 64) × (4730 ≤ length (now state)) ⌝ }
+    ensures { λ r. ⌜ r ≡ allocated h (stateOf (now (state .entry)) .slots) ⌝ }
+{
+    let negotiated = h.negotiated;
+    let config = negotiated.config;
+    let slot = place_below(state, config.channels, Want::Empty);
+    if slot < config.channels {
+        let local = LocalId(h.next_local);
+        return Allocated::Channel(ChannelId { slot, local });
+    }
+    Allocated::NoFree
+}
+
+fn one_if(test: bool) -> usize
+    ensures { λ r. ⌜ r ≡ cond test 1 0 ⌝ }
+{
+    if test {
+        return 1;
+    }
+    0
+}
+
+// Slots that hold a channel.
+pub fn in_use(state: &[u8], n: usize) -> usize
+    requires { ⌜ (n ≤ 64) × (4730 ≤ length (now state)) ⌝ }
+    ensures { λ r. ⌜ r ≡ inUse n (stateOf (now (state .entry)) .slots) ⌝ }
+{
+    let mut used = 0;
+    let mut i = 0;
+    while i < n {
+        let s = slot_at(state, i);
+        used += one_if(s.filled);
+        i += 1;
+    }
+    used
 }

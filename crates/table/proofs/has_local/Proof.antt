@@ -4,8 +4,6 @@ use Rattle.state.proofs.ValidLaws.{and-goes, and-stops}
 use Rattle.table.specs.Table.{wantedBy}
 use Rattle.table.proofs.has_local.Statement.{statement}
 use Rattle.table.proofs.has_local.Tie as tie
-use Rattle.table.proofs.has_local.Reads as reads
-use Rattle.table.proofs.has_local.Lts as lts
 
 returns : tie.Need-returns
 unfolding wantedBy

@@ -1,12 +1,6 @@
-use mathlib.Core.Path.{refl}
-use mathlib.Core.Bool.{_&&_}
-use lib.Dec.{eqb}
-use Rattle.state.proofs.ValidLaws.{and-goes, and-stops}
 use Rattle.table.specs.Table.{wantedBy}
 use Rattle.table.proofs.has_remote.Statement.{statement}
 use Rattle.table.proofs.has_remote.Tie as tie
-use Rattle.table.proofs.has_remote.Reads as reads
-use Rattle.table.proofs.has_remote.Lts as lts
 
 returns : tie.Need-returns
 unfolding wantedBy

@@ -1,12 +1,7 @@
-use mathlib.Core.Path.{refl}
 use Rattle.table.specs.Table.{wantedBy}
 use borrow.Author.Needs.{needs}
 use Rattle.table.proofs.is_wanted.Statement.{statement}
 use Rattle.table.proofs.is_wanted.Tie as tie
-use Rattle.table.proofs.is_wanted.Reads as reads
-use Rattle.table.proofs.is_wanted.Lts as lts
-use Rattle.table.proofs.has_local.Reads as has-local-reads
-use Rattle.table.proofs.has_remote.Reads as has-remote-reads
 
 enum-told : tie.Need-enum-told
 enum-told c = search needs

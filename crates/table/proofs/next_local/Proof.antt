@@ -3,8 +3,6 @@ use Rattle.table.specs.Table.{nextLocal}
 use borrow.Author.Needs.{needs}
 use Rattle.table.proofs.next_local.Statement.{statement}
 use Rattle.table.proofs.next_local.Tie as tie
-use Rattle.table.proofs.next_local.Reads as reads
-use Rattle.table.proofs.next_local.Lts as lts
 
 returns : tie.Need-returns
 unfolding nextLocal

@@ -1,17 +1,13 @@
 use native.Mathlib.Omega.{arith}
-use mathlib.Core.Path.{_≡_, refl, sym, _∙_}
+use mathlib.Core.Path.{_≡_, sym, _∙_}
 use Prim.Native.Nat.{_+_, _-_, _≤_}
 use lib.ListN.{take, drop}
 use borrow.Author.Needs.{needs}
 use Rattle.state.specs.State.{stateOf}
 use Rattle.table.proofs.Laws.{walk-stop, walk-step, walk-end}
-use Rattle.table.specs.Table.{first, wantedBy}
+use Rattle.table.specs.Table.{first, wantedBy, placeOf}
 use Rattle.table.proofs.place_below.Statement.{statement}
 use Rattle.table.proofs.place_below.Tie as tie
-use Rattle.table.proofs.place_below.Reads as reads
-use Rattle.table.proofs.place_below.Lts as lts
-use Rattle.state.proofs.slot_at.Reads as slot-at-reads
-use Rattle.table.proofs.is_wanted.Reads as is-wanted-reads
 
 abbrev Inv-loop : tie.InvT-loop
 Inv-loop state n want i₀ i = (i ≤ n) × (first (wantedBy want) (take n (stateOf state .slots)) ≡ i + first (wantedBy want) (drop i (take n (stateOf state .slots))))
@@ -29,6 +25,7 @@ is-wanted-requires : tie.Need-is-wanted-requires Inv-loop μ-loop
 is-wanted-requires c κs = search needs
 
 returns : tie.Need-returns Inv-loop μ-loop
+unfolding placeOf
 returns c = sym (c .before .before .before .before .loop .inv .1 ∙ walk-stop (wantedBy (c .before .before .before .before .before .before .args .want)) (c .before .before .before .before .before .before .args .state .now) (c .before .before .before .before .before .before .args .n) (c .before .before .before .before .loop .i) (omega arith) (omega arith) (sym (rw (c .before .before .slot-at .ensures) at (c .before .is-wanted .ensures)) ∙ c .if1 .taken))
 
 add-i : tie.Need-add-i Inv-loop μ-loop
@@ -41,6 +38,7 @@ loop-again : tie.Need-loop-again Inv-loop μ-loop
 loop-again c = (omega arith, c .before .before .before .before .loop .inv .1 ∙ walk-step (wantedBy (c .before .before .before .before .before .before .args .want)) (c .before .before .before .before .before .before .args .state .now) (c .before .before .before .before .before .before .args .n) (c .before .before .before .before .loop .i) (omega arith) (omega arith) (sym (rw (c .before .before .slot-at .ensures) at (c .before .is-wanted .ensures)) ∙ c .if1 .left))
 
 returns-2 : tie.Need-returns-2 Inv-loop μ-loop
+unfolding placeOf
 returns-2 c = let e : c .before .before .before .args .n ≡ c .before .loop .i = omega arith in e ∙ sym (c .before .loop .inv .1 ∙ walk-end (wantedBy (c .before .before .before .args .want)) (c .before .before .before .args .state .now) (c .before .before .before .args .n) (c .before .loop .i) (omega arith))
 
 pub place-below-spec : {M : Type 1} → statement M
