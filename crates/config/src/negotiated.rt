@@ -3,8 +3,8 @@ use crate::ConnectionConfig;
 use protocol::checksum::Checksum;
 use protocol::constant::ADB_VERSION;
 use protocol::packet::Packet;
+use protocol::packet::least;
 ghost use mathlib.Core.Path.{_≡_};
-ghost use Prim.Native.Nat.{min};
 ghost use Rattle.protocol.specs.Checksum.{policyFor};
 ghost use Rattle.config.specs.Config.{Within};
 ghost use Rattle.config.specs.Negotiated.{both, negotiatedOf, policyOf, creditOf};
@@ -23,15 +23,6 @@ pub struct Negotiated {
     pub protocol_version: u32,
     pub config: ConnectionConfig,
     pub delayed_ack: bool,
-}
-
-fn least(a: u32, b: u32) -> u32
-    ensures { λ r. ⌜ r ≡ min a b ⌝ }
-{
-    if a < b {
-        return a;
-    }
-    b
 }
 
 fn all_of(a: bool, b: bool) -> bool

@@ -4,16 +4,19 @@ use mathlib.Core.Bool.{Bool}
 use mathlib.Core.List.{List}
 use Prim.Native.Nat.{ℕ, _+_, _-_, _≤_}
 use native.Mathlib.Omega.{arith}
-use lib.ListN.{length, take, drop}
+use lib.ListN.{length, take, drop, length-append}
 use borrow.Author.Tests.{le-ltb}
 use Rattle.le.specs.Le.{part, put}
 use Rattle.le.proofs.Parts.{lent-part, put-put}
+use Rattle.protocol.specs.declared.checksum.Checksum.{Checksum}
 use Rattle.protocol.specs.declared.command.Command.{Command}
 use Rattle.protocol.specs.declared.command.CommandWord.{CommandWord}
 use Rattle.protocol.specs.declared.message.Message.{Message}
-use Rattle.protocol.specs.Command.{commandOf}
+use Rattle.protocol.specs.declared.packet.Encoded.the-variants.{Written}
+use Rattle.protocol.specs.Checksum.{checkFor}
+use Rattle.protocol.specs.Command.{wordOf, magicOf, commandOf}
 use Rattle.protocol.specs.Message.{messageOf, headerBytes}
-use Rattle.protocol.specs.Packet.{payloadOf, checkPasses, namedOf, decodeOf, messageFor, frameBytes}
+use Rattle.protocol.specs.Packet.{maxPayload, payloadOf, checkPasses, namedOf, decodeOf, messageFor, frameBytes, frameFor, Puts, encodeOf, Encodes}
 use Rattle.protocol.proofs.MessageLaws.{length-header}
 
 -- the check of the part that the code lends is the check of the payload
@@ -22,13 +25,23 @@ pub lent-check : (s : List ℕ) (n check : ℕ) (r t : Bool) → r ≡ checkPass
 unfolding payloadOf
 lent-check s n check r t e f = let p = ap (checkPasses check) (lent-part s 24 n) in cc
 
--- a header, and the payload behind it, are the frame
-pub put-frame : (d : List ℕ) (c : Command) (a b : ℕ) (payload : List ℕ) (check : ℕ) → 24 + length payload ≤ length d
-    → put (put d 0 (headerBytes (messageFor c a b payload check))) 24 payload ≡ put d 0 (frameBytes c a b payload check)
+-- a header at a place, and the payload behind it, are the frame
+pub framed : (d d₁ d₂ payload : List ℕ) (at : ℕ) (c : Command) (a b : ℕ) (k : Checksum) (word check magic r : ℕ) → at + 24 + length payload ≤ length d
+    → word ≡ wordOf c → check ≡ checkFor k payload → magic ≡ magicOf c
+    → d₁ ≡ put d at (headerBytes (record { command = word; arg0 = a; arg1 = b; «data_length» = length payload; «data_check» = check; magic = magic }))
+    → d₂ ≡ put d₁ (at + 24) payload → r ≡ at + 24 + length payload → Puts d at (frameFor c a b payload k) r d₂
+unfolding frameBytes messageFor
+framed d d₁ d₂ payload at c a b k word check magic r h ew ek em e₁ e₂ er =
+    let w = messageFor c a b payload (checkFor k payload) in
+    record {
+      out-is = cc (put-put d at (headerBytes w) (at + 24) payload (omega (arith, length-header w)) h);
+      end-is = omega (arith, length-header w, length-append (headerBytes w) payload);
+    }
+
+-- a frame is its header and its payload
+pub frame-length : (c : Command) (a b : ℕ) (payload : List ℕ) (check : ℕ) → length (frameBytes c a b payload check) ≡ 24 + length payload
 unfolding frameBytes
-put-frame d c a b payload check h =
-    let m = messageFor c a b payload check in
-    put-put d 0 (headerBytes m) 24 payload (omega (arith, length-header m)) h
+frame-length c a b payload check = rw (length-append, length-header)
 
 -- with the header here, what its command gives is the answer
 pub named-decode : (s : List ℕ) (limit : ℕ) (m : Message) (w : CommandWord) → 24 ≤ length s → m ≡ messageOf s → w ≡ commandOf (m .command)
@@ -36,8 +49,11 @@ pub named-decode : (s : List ℕ) (limit : ℕ) (m : Message) (w : CommandWord) 
 unfolding decodeOf
 named-decode s limit m w h e f = rw (le-ltb (length s) 24 h) (cc)
 
--- the two stores of a frame
-pub encoded : (d d₁ d₂ payload : List ℕ) (m : Message) (c : Command) (a b check : ℕ) → 24 + length payload ≤ length d
-    → m ≡ messageFor c a b payload check → d₁ ≡ put d 0 (headerBytes m) → d₂ ≡ put d₁ 24 payload
-    → d₂ ≡ put d 0 (frameBytes c a b payload check)
-encoded d d₁ d₂ payload m c a b check h em e₁ e₂ = cc (put-frame d c a b payload check h)
+-- a frame at the start of out, where it fits, is what encoding gives
+pub encoded : (c : Command) (a b : ℕ) (payload : List ℕ) (k : Checksum) (d out : List ℕ) (r : ℕ) → length payload ≤ maxPayload
+    → 24 + length payload ≤ length d → Puts d 0 (frameFor c a b payload k) r out → Encodes (encodeOf c a b payload k d) (Written r) out
+unfolding encodeOf
+encoded c a b payload k d out r h g p =
+    let n = frame-length c a b payload (checkFor k payload) in
+    let e : r ≡ 24 + length payload = omega (arith, p .end-is) in
+    rw (le-ltb maxPayload (length payload) h, le-ltb (length d) (24 + length payload) g) (record { result-is = ap Written e; out-is = p .out-is })

@@ -5,7 +5,7 @@
 --     decode-encode    what is accepted with the policy's check is encoded to the same bytes
 use mathlib.Core.Path.{_≡_, refl, sym, ap, subst, _∙_}
 use mathlib.Core.Bool.{true, not}
-use mathlib.Core.List.{List, [], _++_, append-assoc}
+use mathlib.Core.List.{List, _++_, append-assoc}
 use Prim.Native.Nat.{ℕ, _+_, _≤_, _<_, _^_, min}
 use native.Mathlib.Omega.{arith}
 use lib.Dec.{eqb, ltb}
@@ -30,6 +30,7 @@ use Rattle.protocol.specs.Packet.{maxPayload, payloadOf, checkPasses, pa
 use Rattle.protocol.proofs.ChecksumLaws.{check-small}
 use Rattle.protocol.proofs.CommandLaws.{word-names, named-word, word-small, magic-small}
 use Rattle.protocol.proofs.MessageLaws.{Words, length-header, read-header, write-header}
+use Rattle.protocol.proofs.PacketLaws.{frame-length}
 
 -- ---- what an accepted frame's header says
 
@@ -145,10 +146,6 @@ module _ (c : Command) (a b : ℕ) (payload rest : List ℕ) (check : ℕ) where
   unfolding frameBytes
   frame-rest = append-assoc (headerBytes (messageFor c a b payload check)) payload rest
 
-  pub frame-length : length (frameBytes c a b payload check) ≡ 24 + length payload
-  unfolding frameBytes
-  frame-length = rw (length-append, length-header)
-
   pub frame-payload : payloadOf (frameBytes c a b payload check ++ rest) (length payload) ≡ payload
   unfolding payloadOf part
   frame-payload =
@@ -227,7 +224,7 @@ decode-encode s limit p k out h e right room =
     let x = accepted-bytes s limit p h e in
     let same : x .check ≡ check = x .check-is ∙ right in
     let fb = frameBytes (p .command) (p .arg0) (p .arg1) payload check in
-    let l : length fb ≡ 24 + p .«data_length» = frame-length (p .command) (p .arg0) (p .arg1) payload [] check ∙ ap (λ (j : ℕ). 24 + j) (x .whole) in
+    let l : length fb ≡ 24 + p .«data_length» = frame-length (p .command) (p .arg0) (p .arg1) payload check ∙ ap (λ (j : ℕ). 24 + j) (x .whole) in
     let b : s ≡ fb ++ drop (24 + p .«data_length») s = rw same at (x .bytes-are) in
     let t : take (24 + p .«data_length») s ≡ fb =
     ap (take (24 + p .«data_length»)) b ∙ take-at fb (drop (24 + p .«data_length») s) (24 + p .«data_length») l in

@@ -1,5 +1,5 @@
 -- Frames (document 01, packet.rs; protocol.txt, "protocol overview and basics"). Assumes nothing.
-use Prim.Native.Nat.{ℕ, _+_, _-_, min}
+use Prim.Native.Nat.{ℕ, _+_, _-_, _≤_, min}
 use mathlib.Core.Path.{_≡_}
 use mathlib.Core.Bool.{Bool, true, cond, not}
 use mathlib.Core.List.{List, _++_}
@@ -90,6 +90,20 @@ messageFor c a b payload check =
 unfoldable pub frameBytes : Command → ℕ → ℕ → List ℕ → ℕ → List ℕ
 frameBytes c a b payload check = headerBytes (messageFor c a b payload check) ++ payload
 
+-- a frame whose check is the policy's
+abbrev pub frameFor : Command → ℕ → ℕ → List ℕ → Checksum → List ℕ
+frameFor c a b payload k = frameBytes c a b payload (checkFor k payload)
+
+-- what a writer at a place asks: a payload within the maximum, and room for its frame
+pub record Room (out : List ℕ) (at : ℕ) (payload : List ℕ) : Type 0 where
+  pub small : length payload ≤ maxPayload
+  pub fits : at + 24 + length payload ≤ length out
+
+-- what it promises: the frame stands at the place, every other byte is as it was, and the answer is the place past it
+pub record Puts (d : List ℕ) (at : ℕ) (frame : List ℕ) (r : ℕ) (out : List ℕ) : Type 0 where
+  pub out-is : out ≡ put d at frame
+  pub end-is : r ≡ at + length frame
+
 -- what encoding gives: its answer, and the outgoing bytes after it
 pub record Outcome : Type 0 where
   pub result : Encoded
@@ -100,9 +114,15 @@ unfoldable pub encodeOf : Command → ℕ → ℕ → List ℕ → Checksum → 
 encodeOf c a b payload k out =
     cond (ltb maxPayload (length payload)) (record { result = TooLarge; out = out })
     (cond (ltb (length out) (24 + length payload)) (record { result = OutShort; out = out })
-    (record { result = Written (24 + length payload); out = put out 0 (frameBytes c a b payload (checkFor k payload)) }))
+    (record { result = Written (24 + length payload); out = put out 0 (frameFor c a b payload k) }))
 
 -- what `encode` promises: the definition's answer, and every byte of out
 pub record Encodes (o : Outcome) (r : Encoded) (out : List ℕ) : Type 0 where
   pub result-is : r ≡ o .result
   pub out-is : out ≡ o .out
+
+-- document 01's number of its answer: a refusal's own, 0 for a frame
+unfoldable pub encodedNumber : Encoded → ℕ
+encodedNumber (Written n) = 0
+encodedNumber TooLarge = 3
+encodedNumber OutShort = 9

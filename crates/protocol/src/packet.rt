@@ -8,7 +8,7 @@ ghost use mathlib.Core.Path.{_≡_};
 ghost use Prim.Native.Nat.{_+_, _≤_, min};
 ghost use lib.ListN.{length};
 ghost use Rattle.le.specs.Le.{part};
-ghost use Rattle.protocol.specs.Packet.{emptyPacket, payloadOf, checkPasses, knownOf, decodeOf, missingOf, encodeOf, Encodes, numberOf, usedOf};
+ghost use Rattle.protocol.specs.Packet.{emptyPacket, payloadOf, checkPasses, knownOf, decodeOf, missingOf, frameFor, Room, Puts, encodeOf, Encodes, encodedNumber, numberOf, usedOf};
 
 // A decoded header. The payload is the data_length bytes that follow it.
 pub struct Packet {
@@ -60,7 +60,21 @@ pub enum Encoded {
     OutShort,
 }
 
-fn least(a: u32, b: u32) -> u32
+impl Encoded {
+    // Document 01's number of the answer: a refusal's own, 0 for a frame.
+    pub fn number(self) -> u32
+        ensures { λ r. ⌜ r ≡ encodedNumber self ⌝ }
+    {
+        match self {
+            Encoded::Written(_) => 0,
+            Encoded::PayloadTooLarge => 3,
+            Encoded::OutShort => 9,
+        }
+    }
+}
+
+// The smaller of two words.
+pub fn least(a: u32, b: u32) -> u32
     ensures { λ r. ⌜ r ≡ min a b ⌝ }
 {
     if a < b {
@@ -164,7 +178,36 @@ impl Packet {
         data_length - here
     }
 
-    // A frame, written at the start of out.
+    // A frame, written at a place of out. Answers with the place past it.
+    pub fn put_at(
+        out: &mut [u8],
+        at: usize,
+        command: Command,
+        arg0: u32,
+        arg1: u32,
+        payload: &[u8],
+        checksum: Checksum,
+    ) -> usize
+        requires { ⌜ Room (now out) at (now payload) ⌝ }
+        ensures { λ r. ⌜ Puts (now (out .entry)) at (frameFor command arg0 arg1 (now (payload .entry)) checksum) r (now (out .exit)) ⌝ }
+    {
+        let len = payload.len();
+        let check = checksum.of(payload);
+        let message = Message {
+            command: command.word(),
+            arg0,
+            arg1,
+            data_length: len as u32,
+            data_check: check,
+            magic: command.magic(),
+        };
+        message.put_at(out, at);
+        let body = at + Packet::MESSAGE_SIZE;
+        le::copy_at(out, body, payload);
+        body + len
+    }
+
+    // A frame, written at the start of out where it fits.
     pub fn encode(
         command: Command,
         arg0: u32,
@@ -179,21 +222,10 @@ impl Packet {
         if len > Packet::MAX_PAYLOAD as usize {
             return Encoded::PayloadTooLarge;
         }
-        let end = Packet::MESSAGE_SIZE + len;
-        if out.len() < end {
+        if out.len() < Packet::MESSAGE_SIZE + len {
             return Encoded::OutShort;
         }
-        let check = checksum.of(payload);
-        let message = Message {
-            command: command.word(),
-            arg0,
-            arg1,
-            data_length: len as u32,
-            data_check: check,
-            magic: command.magic(),
-        };
-        message.put_at(out, 0);
-        le::copy_at(out, 24, payload);
+        let end = Packet::put_at(out, 0, command, arg0, arg1, payload, checksum);
         Encoded::Written(end)
     }
 }

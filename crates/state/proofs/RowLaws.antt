@@ -2,7 +2,7 @@
 use mathlib.Core.Path.{_≡_, refl, sym, ap, subst, _∙_}
 use mathlib.Core.Bool.{Bool, true, false}
 use mathlib.Core.List.{List, [], _∷_, _++_, append-assoc}
-use Prim.Native.Nat.{ℕ, zero, suc, _+_, _-_, _*_, _≤_, _<_}
+use Prim.Native.Nat.{ℕ, zero, suc, _+_, _*_, _≤_, _<_}
 use native.Mathlib.Nat.{zero-mul, suc-mul}
 use native.Mathlib.Omega.{arith}
 use lib.Dec.{T}
@@ -77,24 +77,6 @@ module _ {A : Type 0} (size : ℕ) (read : List ℕ → A) where
   row-at d (suc n) (suc i) l h =
       let e : size + i * size ≡ suc i * size = rw suc-mul (omega arith) in
       row-at d n i (drop size l) (omega arith) ∙ rw (drop-drop, e)
-
--- the test of the first n, one at a time
-pub all-step : (size : ℕ) (is : List ℕ → Bool) (n i : ℕ) (l : List ℕ) → i < n → is (part l (i * size) size) ≡ true
-    → allIs size is (n - i) (drop (i * size) l) ≡ allIs size is (n - (i + 1)) (drop ((i + 1) * size) l)
-unfolding allIs part
-all-step size is n i l h t =
-    let e : n - i ≡ suc (n - (i + 1)) = omega arith in
-    let g : i * size + size ≡ (i + 1) * size = omega arith in
-    rw (e, t, drop-drop, g)
-
-pub all-stop : (size : ℕ) (is : List ℕ → Bool) (n i : ℕ) (l : List ℕ) → i < n → is (part l (i * size) size) ≡ false
-    → allIs size is (n - i) (drop (i * size) l) ≡ false
-unfolding allIs part
-all-stop size is n i l h t = let e : n - i ≡ suc (n - (i + 1)) = omega arith in rw (e, t)
-
-pub all-end : (size : ℕ) (is : List ℕ → Bool) (n i : ℕ) (l : List ℕ) → n ≤ i → allIs size is (n - i) (drop (i * size) l) ≡ true
-unfolding allIs
-all-end size is n i l h = let e : n - i ≡ 0 = omega arith in rw e
 
 module _ {A : Type 0} (size : ℕ) (bytes : A → List ℕ) (read : List ℕ → A) (is : List ℕ → Bool)
     (back : (l : List ℕ) → Bytes l → size ≤ length l → is (take size l) ≡ true → bytes (read (take size l)) ≡ take size l) where

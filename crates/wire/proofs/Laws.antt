@@ -1,6 +1,6 @@
 -- Laws of outgoing frames. Assumes nothing.
 --     comes-back   what is put at a place is decoded to the frame that was meant, and so with okay-, close-, refuse-back
---     sent-back    what is sent is, too, and so with open-, write-back
+--     open-back    what is sent is, too, and so with write-back
 --     okay-credit  the credit of a delayed OKAY is the length
 --     behind       a frame right behind another leaves it; first-back: which is decoded as before
 use mathlib.Core.Path.{_≡_, refl, ap, _∙_}
@@ -8,34 +8,26 @@ use mathlib.Core.Bool.{Bool, true, false, cond}
 use mathlib.Core.List.{List, [], _∷_, _++_, append-assoc}
 use Prim.Native.Nat.{ℕ, _+_, _≤_, _<_, _^_, min}
 use native.Mathlib.Omega.{arith}
-use lib.Dec.{ltb}
-use lib.ListN.{length, take, drop, length-append, length-take}
+use lib.ListN.{length, take, drop, length-take}
 use lib.Seq.{drop-at}
-use borrow.Author.Tests.{ltb-false, lt-ltb, le-ltb}
 use Rattle.le.specs.Le.{numOf, bytesOf, part, put}
 use Rattle.le.proofs.Laws.{length-bytesOf, write-read}
-use Rattle.le.proofs.Parts.{by-test, length-put, put-put, part-put-same, part-put-below}
+use Rattle.le.proofs.Parts.{length-put, put-put, part-put-same, part-put-below}
 use Rattle.protocol.specs.declared.checksum.Checksum.{Checksum}
 use Rattle.protocol.specs.declared.command.Command.{Command}
 use Rattle.protocol.specs.declared.command.Command.the-variants.{Open, Ready, Close, Write}
 use Rattle.protocol.specs.Checksum.{checkFor}
-use Rattle.protocol.specs.Command.{wordOf, magicOf}
-use Rattle.protocol.specs.Message.{headerBytes}
-use Rattle.protocol.specs.Packet.{maxPayload, payloadOf, messageFor, frameBytes}
+use Rattle.protocol.specs.declared.packet.Encoded.the-variants.{Written}
+use Rattle.protocol.specs.Packet.{maxPayload, payloadOf, frameFor, Puts}
+use Rattle.protocol.proofs.PacketLaws.{frame-length}
 use Rattle.protocol.proofs.ChecksumLaws.{check-small}
-use Rattle.protocol.proofs.MessageLaws.{length-header}
-use Rattle.protocol.proofs.RoundTrip.{frame-length, frame-payload, not-refused, own-check, Comes-back}
+use Rattle.protocol.proofs.RoundTrip.{frame-payload, not-refused, own-check, encode-decode, Comes-back}
 use Rattle.slot.specs.declared.ids.LocalId.{LocalId}
 use Rattle.slot.specs.declared.ids.RemoteId.{RemoteId}
 use Rattle.slot.specs.declared.ids.ChannelIds.{ChannelIds}
-use Rattle.wire.specs.declared.Sent.the-variants.{Written, PayloadTooLarge, OutShort}
-use Rattle.wire.specs.Wire.{frameFor, creditBytes, okayBytes, closeBytes, refuseBytes, openFrame, writeFrame, Puts, sendOf, Sends}
+use Rattle.wire.specs.Wire.{creditBytes, okayBytes, closeBytes, refuseBytes, openSent, writeSent}
 
 -- ---- lengths
-
--- a frame is its header and its payload
-pub for-length : (c : Command) (a b : ℕ) (payload : List ℕ) (k : Checksum) → length (frameFor c a b payload k) ≡ 24 + length payload
-for-length c a b payload k = frame-length c a b payload [] (checkFor k payload)
 
 -- an OKAY's payload: 4 bytes, or none
 pub credit-length : (delayed : Bool) (n : ℕ) → length (creditBytes delayed n) ≡ cond delayed 4 0
@@ -50,51 +42,20 @@ short false n = omega (arith, credit-length false n)
 -- an OKAY: 28 bytes where acknowledgements are delayed, 24 otherwise
 pub okay-length : (ids : ChannelIds) (delayed : Bool) (n : ℕ) (k : Checksum) → length (okayBytes ids delayed n k) ≡ cond delayed 28 24
 unfolding okayBytes
-okay-length ids true n k = for-length Ready (ids .local .0) (ids .remote .0) (creditBytes true n) k ∙ ap (λ (j : ℕ). 24 + j) (credit-length true n)
-okay-length ids false n k = for-length Ready (ids .local .0) (ids .remote .0) (creditBytes false n) k ∙ ap (λ (j : ℕ). 24 + j) (credit-length false n)
+okay-length ids true n k = frame-length Ready (ids .local .0) (ids .remote .0) (creditBytes true n) (checkFor k (creditBytes true n)) ∙ ap (λ (j : ℕ). 24 + j) (credit-length true n)
+okay-length ids false n k = frame-length Ready (ids .local .0) (ids .remote .0) (creditBytes false n) (checkFor k (creditBytes false n)) ∙ ap (λ (j : ℕ). 24 + j) (credit-length false n)
 
 -- a CLSE is of 24 bytes
 pub close-length : (ids : ChannelIds) (k : Checksum) → length (closeBytes ids k) ≡ 24
 unfolding closeBytes
-close-length ids k = for-length Close (ids .local .0) (ids .remote .0) [] k
+close-length ids k = frame-length Close (ids .local .0) (ids .remote .0) [] (checkFor k [])
 
 -- and so is a refusal
 pub refuse-length : (remote : RemoteId) (k : Checksum) → length (refuseBytes remote k) ≡ 24
 unfolding refuseBytes
-refuse-length remote k = for-length Close 0 (remote .0) [] k
+refuse-length remote k = frame-length Close 0 (remote .0) [] (checkFor k [])
 
 -- ---- what the functions cite
-
--- a header at a place, and the payload behind it, are the frame
-pub framed : (d d₁ d₂ payload : List ℕ) (at : ℕ) (c : Command) (a b : ℕ) (k : Checksum) (word check magic r : ℕ) → at + 24 + length payload ≤ length d
-    → word ≡ wordOf c → check ≡ checkFor k payload → magic ≡ magicOf c
-    → d₁ ≡ put d at (headerBytes (record { command = word; arg0 = a; arg1 = b; «data_length» = length payload; «data_check» = check; magic = magic }))
-    → d₂ ≡ put d₁ (at + 24) payload → r ≡ at + 24 + length payload → Puts d at (frameFor c a b payload k) r d₂
-unfolding frameBytes messageFor
-framed d d₁ d₂ payload at c a b k word check magic r h ew ek em e₁ e₂ er =
-    let w = messageFor c a b payload (checkFor k payload) in
-    record {
-      out-is = cc (put-put d at (headerBytes w) (at + 24) payload (omega (arith, length-header w)) h);
-      end-is = omega (arith, length-header w, length-append (headerBytes w) payload);
-    }
-
--- a payload over the maximum is refused, and so is a short buffer
-pub too-large : (d payload frame : List ℕ) → maxPayload < length payload → Sends (sendOf payload frame d) PayloadTooLarge d
-unfolding sendOf
-too-large d payload frame h = rw (lt-ltb maxPayload (length payload) h) (record { result-is = refl; out-is = refl })
-
-pub out-short : (d payload frame : List ℕ) → length payload ≤ maxPayload → length d < 24 + length payload → Sends (sendOf payload frame d) OutShort d
-unfolding sendOf
-out-short d payload frame h g =
-    rw (le-ltb maxPayload (length payload) h, lt-ltb (length d) (24 + length payload) g) (record { result-is = refl; out-is = refl })
-
--- a frame at the start, as sent
-pub sent : (d out payload frame : List ℕ) (r : ℕ) → length payload ≤ maxPayload → 24 + length payload ≤ length d → Puts d 0 frame r out
-    → Sends (sendOf payload frame d) (Written r) out
-unfolding sendOf
-sent d out payload frame r h g p =
-    let e : r ≡ length frame = omega (arith, p .end-is) in
-    rw (le-ltb maxPayload (length payload) h, le-ltb (length d) (24 + length payload) g) (record { result-is = ap Written e; out-is = p .out-is })
 
 -- an OKAY with the length, where acknowledgements are delayed
 pub delayed-okay : (d out credit : List ℕ) (at r n : ℕ) (ids : ChannelIds) (delayed : Bool) (k : Checksum) → delayed ≡ true
@@ -125,7 +86,7 @@ module _ (c : Command) (a b : ℕ) (payload : List ℕ) (k : Checksum) (limit : 
   pub back : (rest : List ℕ) → Comes-back c a b payload limit (length (frameFor c a b payload k)) (frameFor c a b payload k ++ rest)
   back rest =
       record {
-        length-is = for-length c a b payload k;
+        length-is = frame-length c a b payload (checkFor k payload);
         frame-is = not-refused c a b payload rest (checkFor k payload) limit ha hb (check-small k payload) hl (own-check k payload);
         payload-is = frame-payload c a b payload rest (checkFor k payload);
       }
@@ -143,34 +104,19 @@ module _ (c : Command) (a b : ℕ) (payload : List ℕ) (k : Checksum) (limit : 
       let r = drop (at + length (f ++ g)) out in
       rw (put-put out at f (at + length f) g refl h, drop-put out at (f ++ g) (omega arith), append-assoc f g r) (back (g ++ r))
 
--- a frame that was sent
-pub sent-back : (c : Command) (a b : ℕ) (payload : List ℕ) (k : Checksum) (limit : ℕ) (out : List ℕ) (n : ℕ) → a < 2 ^ 32 → b < 2 ^ 32
-    → length payload ≤ limit → sendOf payload (frameFor c a b payload k) out .result ≡ Written n
-    → Comes-back c a b payload limit n (sendOf payload (frameFor c a b payload k) out .out)
-unfolding sendOf
-sent-back c a b payload k limit out n ha hb hl e =
-    let f = frameFor c a b payload k in
-    by-test (ltb maxPayload (length payload))
-    (λ t. let g = rw t at e in let z : _≡_ {A = ℕ} 0 1 = cc in absurd (omega arith))
-    (λ t₁. by-test (ltb (length out) (24 + length payload))
-    (λ t. let g = rw (t₁, t) at e in let z : _≡_ {A = ℕ} 0 1 = cc in absurd (omega arith))
-    (λ t₂. let g = rw (t₁, t₂) at e in
-    let w : length f ≡ n = cc in
-    rw (t₁, t₂, ← w) (comes-back c a b payload k limit ha hb (omega (arith, ltb-false)) out 0 (omega (arith, ltb-false)))))
-
 -- an OPEN that was sent
-pub open-back : (local : LocalId) (credit : ℕ) (destination : List ℕ) (k : Checksum) (limit : ℕ) (out : List ℕ) (n : ℕ) → local .0 < 2 ^ 32 → credit < 2 ^ 32
-    → length destination ≤ limit → sendOf destination (openFrame local credit destination k) out .result ≡ Written n
-    → Comes-back Open (local .0) credit destination limit n (sendOf destination (openFrame local credit destination k) out .out)
-unfolding openFrame
-open-back local credit destination k limit out n = sent-back Open (local .0) credit destination k limit out n
+pub open-back : (local : LocalId) (credit : ℕ) (destination : List ℕ) (k : Checksum) (out : List ℕ) (limit n : ℕ) → local .0 < 2 ^ 32 → credit < 2 ^ 32
+    → length destination ≤ limit → openSent local credit destination k out .result ≡ Written n
+    → Comes-back Open (local .0) credit destination limit n (openSent local credit destination k out .out)
+unfolding openSent
+open-back local credit destination k out limit n = encode-decode Open (local .0) credit destination k out limit n
 
 -- a WRTE that was sent
-pub write-back : (ids : ChannelIds) (bytes : List ℕ) (k : Checksum) (limit : ℕ) (out : List ℕ) (n : ℕ) → ids .local .0 < 2 ^ 32 → ids .remote .0 < 2 ^ 32
-    → length bytes ≤ limit → sendOf bytes (writeFrame ids bytes k) out .result ≡ Written n
-    → Comes-back Write (ids .local .0) (ids .remote .0) bytes limit n (sendOf bytes (writeFrame ids bytes k) out .out)
-unfolding writeFrame
-write-back ids bytes k limit out n = sent-back Write (ids .local .0) (ids .remote .0) bytes k limit out n
+pub write-back : (ids : ChannelIds) (bytes : List ℕ) (k : Checksum) (out : List ℕ) (limit n : ℕ) → ids .local .0 < 2 ^ 32 → ids .remote .0 < 2 ^ 32
+    → length bytes ≤ limit → writeSent ids bytes k out .result ≡ Written n
+    → Comes-back Write (ids .local .0) (ids .remote .0) bytes limit n (writeSent ids bytes k out .out)
+unfolding writeSent
+write-back ids bytes k out limit n = encode-decode Write (ids .local .0) (ids .remote .0) bytes k out limit n
 
 module _ (ids : ChannelIds) (k : Checksum) (limit : ℕ) (out : List ℕ) (at : ℕ) (hl : ids .local .0 < 2 ^ 32) (hr : ids .remote .0 < 2 ^ 32) where
   -- an OKAY put at a place, with its credit or without

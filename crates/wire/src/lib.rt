@@ -1,7 +1,7 @@
 // Outgoing frames, written into a buffer that the caller lends, at a place of it.
 use protocol::checksum::Checksum;
 use protocol::command::Command;
-use protocol::message::Message;
+use protocol::packet::Encoded;
 use protocol::packet::Packet;
 use slot::ids::ChannelIds;
 use slot::ids::LocalId;
@@ -10,59 +10,8 @@ ghost use mathlib.Core.Path.{_≡_};
 ghost use mathlib.Core.List.{[]};
 ghost use Prim.Native.Nat.{_+_, _≤_};
 ghost use lib.ListN.{length};
-ghost use Rattle.wire.specs.Wire.{frameFor, okayBytes, closeBytes, refuseBytes, openFrame, writeFrame, Room, Puts, sendOf, Sends, sentNumber};
-
-// What became of a frame that was to be sent.
-pub enum Sent {
-    // Its length.
-    Written(usize),
-    // Refusal 3.
-    PayloadTooLarge,
-    // Refusal 9: the buffer is too short.
-    OutShort,
-}
-
-impl Sent {
-    // Document 01's number of the answer: a refusal's own, 0 for a frame.
-    pub fn number(self) -> u32
-        ensures { λ r. ⌜ r ≡ sentNumber self ⌝ }
-    {
-        match self {
-            Sent::Written(_) => 0,
-            Sent::PayloadTooLarge => 3,
-            Sent::OutShort => 9,
-        }
-    }
-}
-
-// A frame, written at a place of out. Answers with the place past it.
-pub fn put_frame(
-    out: &mut [u8],
-    at: usize,
-    command: Command,
-    arg0: u32,
-    arg1: u32,
-    payload: &[u8],
-    checksum: Checksum,
-) -> usize
-    requires { ⌜ Room (now out) at (now payload) ⌝ }
-    ensures { λ r. ⌜ Puts (now (out .entry)) at (frameFor command arg0 arg1 (now (payload .entry)) checksum) r (now (out .exit)) ⌝ }
-{
-    let len = payload.len();
-    let check = checksum.of(payload);
-    let message = Message {
-        command: command.word(),
-        arg0,
-        arg1,
-        data_length: len as u32,
-        data_check: check,
-        magic: command.magic(),
-    };
-    message.put_at(out, at);
-    let body = at + Packet::MESSAGE_SIZE;
-    le::copy_at(out, body, payload);
-    body + len
-}
+ghost use Rattle.protocol.specs.Packet.{frameFor, Puts, Encodes};
+ghost use Rattle.wire.specs.Wire.{okayBytes, closeBytes, refuseBytes, openSent, writeSent};
 
 // A frame with no payload.
 fn put_empty(
@@ -76,7 +25,7 @@ fn put_empty(
     requires { ⌜ at + 24 ≤ length (now out) ⌝ }
     ensures { λ r. ⌜ Puts (now (out .entry)) at (frameFor command arg0 arg1 [] checksum) r (now (out .exit)) ⌝ }
 {
-    put_frame(out, at, command, arg0, arg1, &[0u8; 0], checksum)
+    Packet::put_at(out, at, command, arg0, arg1, &[0u8; 0], checksum)
 }
 
 // An OKAY: with the acknowledged length where acknowledgements are delayed, with no payload otherwise.
@@ -96,7 +45,7 @@ pub fn send_okay(
     if delayed {
         let mut credit = [0u8; 4];
         le::put_u32(&mut credit, 0, len);
-        return put_frame(
+        return Packet::put_at(
             out,
             at,
             Command::Ready,
@@ -127,28 +76,6 @@ pub fn send_refuse(out: &mut [u8], at: usize, remote: RemoteId, checksum: Checks
     put_empty(out, at, Command::Close, 0, remote.0, checksum)
 }
 
-// A frame at the start of out, where it fits.
-fn send_raw(
-    out: &mut [u8],
-    command: Command,
-    arg0: u32,
-    arg1: u32,
-    payload: &[u8],
-    checksum: Checksum,
-) -> Sent
-    ensures { λ r. ⌜ Sends (sendOf (now (payload .entry)) (frameFor command arg0 arg1 (now (payload .entry)) checksum) (now (out .entry))) r (now (out .exit)) ⌝ }
-{
-    let len = payload.len();
-    if len > Packet::MAX_PAYLOAD as usize {
-        return Sent::PayloadTooLarge;
-    }
-    if out.len() < Packet::MESSAGE_SIZE + len {
-        return Sent::OutShort;
-    }
-    let end = put_frame(out, 0, command, arg0, arg1, payload, checksum);
-    Sent::Written(end)
-}
-
 // An OPEN, with the credit that we give the device.
 pub fn send_open(
     out: &mut [u8],
@@ -156,17 +83,17 @@ pub fn send_open(
     credit: u32,
     destination: &[u8],
     checksum: Checksum,
-) -> Sent
-    ensures { λ r. ⌜ Sends (sendOf (now (destination .entry)) (openFrame local credit (now (destination .entry)) checksum) (now (out .entry))) r (now (out .exit)) ⌝ }
+) -> Encoded
+    ensures { λ r. ⌜ Encodes (openSent local credit (now (destination .entry)) checksum (now (out .entry))) r (now (out .exit)) ⌝ }
 {
-    send_raw(out, Command::Open, local.0, credit, destination, checksum)
+    Packet::encode(Command::Open, local.0, credit, destination, checksum, out)
 }
 
 // A WRTE of some bytes of a channel.
-pub fn send_write(out: &mut [u8], ids: ChannelIds, data: &[u8], checksum: Checksum) -> Sent
-    ensures { λ r. ⌜ Sends (sendOf (now («data» .entry)) (writeFrame ids (now («data» .entry)) checksum) (now (out .entry))) r (now (out .exit)) ⌝ }
+pub fn send_write(out: &mut [u8], ids: ChannelIds, data: &[u8], checksum: Checksum) -> Encoded
+    ensures { λ r. ⌜ Encodes (writeSent ids (now («data» .entry)) checksum (now (out .entry))) r (now (out .exit)) ⌝ }
 {
     let local = ids.local;
     let remote = ids.remote;
-    send_raw(out, Command::Write, local.0, remote.0, data, checksum)
+    Packet::encode(Command::Write, local.0, remote.0, data, checksum, out)
 }

@@ -9,11 +9,11 @@ slice-aggregate-put-u32 c = search needs
 put-u32-requires : tie.Need-put-u32-requires
 put-u32-requires c κs = search needs
 
-slice-aggregate-put-frame : tie.Need-slice-aggregate-put-frame
-slice-aggregate-put-frame c = search needs
+slice-aggregate-put-at : tie.Need-slice-aggregate-put-at
+slice-aggregate-put-at c = search needs
 
-put-frame-requires : tie.Need-put-frame-requires
-put-frame-requires c κs = search needs
+put-at-requires : tie.Need-put-at-requires
+put-at-requires c κs = search needs
 
 same-length : tie.Need-same-length
 same-length c = search needs
@@ -21,7 +21,7 @@ same-length c = search needs
 returns : tie.Need-returns
 returns c =
     let a = c .before .before .before .before .before .before .before .before .before .before .before .before .args in
-    delayed-okay _ _ _ _ _ (a .len) (a .ids) (a .delayed) _ (c .before .before .before .before .before .before .before .before .if1 .taken) (c .before .before .before .before .before .before .put-u32 .ensures) (c .before .before .put-frame .ensures)
+    delayed-okay _ _ _ _ _ (a .len) (a .ids) (a .delayed) _ (c .before .before .before .before .before .before .before .before .if1 .taken) (c .before .before .before .before .before .before .put-u32 .ensures) (c .before .before .put-at .ensures)
 
 put-empty-requires : tie.Need-put-empty-requires
 put-empty-requires c κs = search needs
@@ -40,8 +40,8 @@ send-okay-spec =
     (tie.spec
     slice-aggregate-put-u32
     put-u32-requires
-    slice-aggregate-put-frame
-    put-frame-requires
+    slice-aggregate-put-at
+    put-at-requires
     same-length
     returns
     put-empty-requires

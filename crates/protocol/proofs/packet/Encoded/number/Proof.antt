@@ -1,7 +1,7 @@
-use Rattle.wire.specs.Wire.{sentNumber}
+use Rattle.protocol.specs.Packet.{encodedNumber}
 use borrow.Author.Needs.{needs}
-use Rattle.wire.proofs.Sent.number.Statement.{statement}
-use Rattle.wire.proofs.Sent.number.Tie as tie
+use Rattle.protocol.proofs.packet.Encoded.number.Statement.{statement}
+use Rattle.protocol.proofs.packet.Encoded.number.Tie as tie
 
 enum-told : tie.Need-enum-told
 enum-told c = search needs
@@ -13,15 +13,15 @@ enum-told-3 : tie.Need-enum-told-3
 enum-told-3 c = search needs
 
 returns : tie.Need-returns
-unfolding sentNumber
+unfolding encodedNumber
 returns c = rw (c .enum-told .given .1)
 
 returns-2 : tie.Need-returns-2
-unfolding sentNumber
+unfolding encodedNumber
 returns-2 c = rw (c .enum-told2 .given .1)
 
 returns-3 : tie.Need-returns-3
-unfolding sentNumber
+unfolding encodedNumber
 returns-3 c = rw (c .enum-told3 .given .1)
 
 pub number-spec : {M : Type 1} → statement M

@@ -1,8 +1,8 @@
 use native.Mathlib.Omega.{arith}
-use Rattle.wire.proofs.Laws.{framed}
+use Rattle.protocol.proofs.PacketLaws.{framed}
 use borrow.Author.Needs.{needs}
-use Rattle.wire.proofs.put_frame.Statement.{statement}
-use Rattle.wire.proofs.put_frame.Tie as tie
+use Rattle.protocol.proofs.packet.Packet.put_at.Statement.{statement}
+use Rattle.protocol.proofs.packet.Packet.put_at.Tie as tie
 
 of-requires : tie.Need-of-requires
 of-requires c κs = search needs
@@ -35,8 +35,8 @@ returns : tie.Need-returns
 returns c =
     framed _ _ _ _ _ _ _ _ _ _ _ _ _ (omega arith) (c .before .before .before .before .before .before .before .before .before .word .ensures) (c .before .before .before .before .before .before .before .before .before .before .of .ensures) (c .before .before .before .before .before .before .before .before .magic .ensures) (c .before .before .before .before .before .before .put-at .ensures) (c .before .before .copy-at .ensures) (omega arith)
 
-pub put-frame-spec : {M : Type 1} → statement M
-put-frame-spec =
+pub put-at-spec : {M : Type 1} → statement M
+put-at-spec =
     tie.close
     (tie.spec
     of-requires
