@@ -6,8 +6,8 @@ use Prim.Native.Nat.{ℕ, zero, suc, _+_, _*_, _≤_, _<_}
 use native.Mathlib.Nat.{zero-mul, suc-mul}
 use native.Mathlib.Omega.{arith}
 use lib.Dec.{T}
-use lib.ListN.{length, take, drop, getD, set, length-append, length-drop, take-append-drop}
-use lib.Seq.{split-at, set-split, take-at, drop-at, drop-drop, take-add, length-take-le}
+use lib.ListN.{length, take, drop, getD, set, length-append, length-drop, length-take, take-append-drop}
+use lib.Seq.{split-at, set-split, take-at, drop-at, drop-drop, drop-cons, getD-take, take-add, length-take-le}
 use Rattle.le.specs.Le.{part, put, Bytes}
 use Rattle.le.proofs.Parts.{by-test}
 use Rattle.le.proofs.Laws.{bytes-drop, bytes-take}
@@ -77,6 +77,13 @@ module _ {A : Type 0} (size : ℕ) (read : List ℕ → A) where
   row-at d (suc n) (suc i) l h =
       let e : size + i * size ≡ suc i * size = rw suc-mul (omega arith) in
       row-at d n i (drop size l) (omega arith) ∙ rw (drop-drop, e)
+
+-- a walk over the first n that stands at place i: the element there, and the rest
+pub walk-here : {A : Type 0} (l : List A) (n i : ℕ) (d a : A) → i < n → n ≤ length l → getD l i d ≡ a
+    → drop i (take n l) ≡ a ∷ drop (suc i) (take n l)
+walk-here l n i d a h k e =
+    let m : i < length (take n l) = simp length-take (omega arith) in
+    drop-cons (take n l) i d m ∙ ap (λ x. x ∷ drop (suc i) (take n l)) (getD-take n l i d h ∙ e)
 
 module _ {A : Type 0} (size : ℕ) (bytes : A → List ℕ) (read : List ℕ → A) (is : List ℕ → Bool)
     (back : (l : List ℕ) → Bytes l → size ≤ length l → is (take size l) ≡ true → bytes (read (take size l)) ≡ take size l) where

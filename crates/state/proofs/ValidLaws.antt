@@ -7,7 +7,7 @@ use native.Mathlib.Numerals.{add-one}
 use native.Mathlib.Omega.{arith}
 use lib.Dec.{ltb, leb, eqb}
 use lib.ListN.{length, take, drop, getD, length-take, drop-of-length-le}
-use lib.Seq.{drop-cons, drop-drop, getD-take}
+use lib.Seq.{drop-drop}
 use borrow.Author.Tests.{eq-eqb, ne-eqb, lt-ltb, le-ltb, le-leb, leb-true}
 use Rattle.le.specs.Le.{part}
 use Rattle.le.proofs.Parts.{by-test}
@@ -19,8 +19,9 @@ use Rattle.slot.specs.Slot.{isOpening, isFailed, slotOk}
 use Rattle.state.specs.declared.Header.{Header}
 use Rattle.state.specs.declared.PendingOpen.{PendingOpen}
 use Rattle.state.specs.Rows.{rows, allIs}
-use Rattle.state.specs.State.{Connection, flagOf, stateOfTag, failedOfTag, slotOf, isTag, isSlot, openOf, headerOf, stateOf, isState, slotAt, openAt}
+use Rattle.state.specs.State.{flagOf, stateOfTag, failedOfTag, slotOf, isTag, isSlot, openOf, headerOf, stateOf, isState, slotAt, openAt}
 use Rattle.state.specs.Valid.{filledOk, slotFine, slotsFine, rowFine, rowsFine, openFine, opensFine, waitingFine, headerFine, filledAt, HeaderOk, restWhole, whole, isWhole}
+use Rattle.state.proofs.RowLaws.{walk-here}
 use Rattle.state.proofs.StateLaws.{slot-in, open-in, state-full}
 
 -- ---- tests in a row
@@ -200,11 +201,8 @@ module _ (b : List ℕ) (n i : ℕ) where
   module _ (h : i < n) (k : n ≤ 64) where
     open-here : drop i (take n (stateOf b .opens)) ≡ openAt b i ∷ drop (suc i) (take n (stateOf b .opens))
     open-here =
-        let l = stateOf b .opens in
         let z = state-full b .opens in
-        let m : i < length (take n l) = simp length-take (omega arith) in
-        drop-cons (take n l) i noOpen m
-        ∙ ap (λ (q : PendingOpen). q ∷ drop (suc i) (take n l)) (getD-take n l i noOpen h ∙ open-in b i noOpen (omega arith))
+        walk-here (stateOf b .opens) n i noOpen (openAt b i) h (omega arith) (open-in b i noOpen (omega arith))
 
     module _ (channels payload : ℕ) where
       pub opens-step : openFine channels payload (openAt b i) ≡ true

@@ -1,5 +1,5 @@
 -- Laws of the channel table. Assumes nothing.
-use mathlib.Core.Path.{_≡_, sym, ap, _∙_}
+use mathlib.Core.Path.{_≡_, sym}
 use mathlib.Core.Bool.{Bool, true, false, cond}
 use mathlib.Core.List.{List, [], _∷_}
 use Prim.Native.Nat.{ℕ, suc, _+_, _≤_, _<_}
@@ -7,10 +7,10 @@ use native.Mathlib.Numerals.{add-one}
 use native.Mathlib.Omega.{arith}
 use borrow.Author.Tests.{lt-ltb, le-ltb}
 use lib.ListN.{length, take, drop, length-take, drop-of-length-le}
-use lib.Seq.{drop-cons, getD-take}
 use Rattle.slot.specs.declared.ChannelSlot.{ChannelSlot}
 use Rattle.state.specs.declared.Header.{Header}
 use Rattle.state.specs.State.{stateOf, slotAt}
+use Rattle.state.proofs.RowLaws.{walk-here}
 use Rattle.state.proofs.StateLaws.{slot-in, state-full}
 use Rattle.table.specs.declared.Allocated.the-variants.{Channel, NoFree}
 use Rattle.table.specs.declared.Want.the-variants.{Empty}
@@ -24,11 +24,8 @@ module _ (p : ChannelSlot → Bool) (b : List ℕ) (n i : ℕ) where
   module _ (h : i < n) (k : n ≤ 64) where
     here : drop i (take n (stateOf b .slots)) ≡ slotAt b i ∷ drop (suc i) (take n (stateOf b .slots))
     here =
-        let l = stateOf b .slots in
         let z = state-full b .slots in
-        let m : i < length (take n l) = simp length-take (omega arith) in
-        drop-cons (take n l) i (slotAt b i) m
-        ∙ ap (λ (s : ChannelSlot). s ∷ drop (suc i) (take n l)) (getD-take n l i (slotAt b i) h ∙ slot-in b i (slotAt b i) (omega arith))
+        walk-here (stateOf b .slots) n i (slotAt b i) (slotAt b i) h (omega arith) (slot-in b i (slotAt b i) (omega arith))
 
     -- a walk that stands at place i: it stops there, or goes on
     pub walk-stop : p (slotAt b i) ≡ true → i + first p (drop i (take n (stateOf b .slots))) ≡ i
