@@ -135,6 +135,24 @@ openingSlot l =
       failed = No;
     }
 
+-- a slot with no channel: all zero
+unfoldable pub emptySlot : ChannelSlot
+emptySlot =
+    record {
+      filled = false;
+      local = record { 0 = 0 };
+      remote = record { 0 = 0 };
+      «has_remote» = false;
+      state = Opening;
+      «wrte_acked» = false;
+      «send_budget» = pos 0;
+      unacked = 0;
+      settled = 0;
+      head = 0;
+      buffered = 0;
+      failed = No;
+    }
+
 -- still opening
 unfoldable pub isOpening : ChannelState → Bool
 isOpening Opening = true

@@ -8,7 +8,7 @@ use ids::RemoteId;
 ghost use mathlib.Core.Path.{_≡_};
 ghost use Prim.Native.Nat.{_≤_, min};
 ghost use lib.IntN.{ℤ, pos};
-ghost use Rattle.slot.specs.Slot.{creditOf, openingSlot, acceptedSlot, isOpening, isClosed, isFailed, idsOf, errorOf, openedOf, readyOf, heldOf, acksNow, bufferedWith, wroteOf, someLen, deliveredOf, ackLenOf, isAck, hasData, settledSome, settledOf, takeLen, tookOf, takenOf, budgetOf, spentOf, refundedOf, reservedOf, takeAcks, closedSlot, failedSlot, withState, withRemote, withSending, withNumbers, slotOk, SlotOk};
+ghost use Rattle.slot.specs.Slot.{creditOf, emptySlot, openingSlot, acceptedSlot, isOpening, isClosed, isFailed, idsOf, errorOf, openedOf, readyOf, heldOf, acksNow, bufferedWith, wroteOf, someLen, deliveredOf, ackLenOf, isAck, hasData, settledSome, settledOf, takeLen, tookOf, takenOf, budgetOf, spentOf, refundedOf, reservedOf, takeAcks, closedSlot, failedSlot, withState, withRemote, withSending, withNumbers, slotOk, SlotOk};
 
 // The credit that a delayed OKAY carries.
 pub enum Credit {
@@ -183,6 +183,26 @@ fn is_ack(ack: PendingAck) -> bool
 }
 
 impl ChannelSlot {
+    // A slot with no channel.
+    pub fn empty() -> ChannelSlot
+        ensures { λ r. ⌜ r ≡ emptySlot ⌝ }
+    {
+        ChannelSlot {
+            filled: false,
+            local: LocalId(0),
+            remote: RemoteId(0),
+            has_remote: false,
+            state: ChannelState::Opening,
+            wrte_acked: false,
+            send_budget: 0,
+            unacked: 0,
+            settled: 0,
+            head: 0,
+            buffered: 0,
+            failed: Failed::No,
+        }
+    }
+
     // A channel whose OPEN was sent.
     pub fn opening(local: LocalId) -> ChannelSlot
         ensures { λ r. ⌜ r ≡ openingSlot local ⌝ }

@@ -1,5 +1,9 @@
-// The channel table: which slot is free, which one a number names.
+// The channel table: which slot is free, which one a number names, and what a packet does to it.
+pub mod dispatch;
+
+use slot::ChannelFault;
 use slot::ChannelSlot;
+use slot::ids::ChannelIds;
 use slot::ids::LocalId;
 use slot::ids::RemoteId;
 use state::Header;
@@ -28,6 +32,23 @@ pub enum Want {
 pub enum Allocated {
     Channel(ChannelId),
     NoFree,
+}
+
+// What a packet was, and what it did.
+pub enum DispatchOutcome {
+    // A WRTE was buffered and is to be acknowledged at once, with this length.
+    AckWrite(usize, ChannelIds, usize),
+    CreditGranted(usize),
+    SlotClosed(usize),
+    // A WRTE was buffered; its acknowledgement waits for the reader.
+    DataBuffered(usize),
+    // The device's number and credit; the destination is the payload.
+    IncomingOpen(RemoteId, u32),
+    CancelPendingOpen(RemoteId),
+    StrayReady(ChannelIds),
+    // Refusals 5, 6 and 11: the slot, its numbers, and whether it still was opening.
+    ChannelFault(usize, ChannelIds, bool, ChannelFault),
+    Unmatched,
 }
 
 fn has_local(s: ChannelSlot, n: LocalId) -> bool

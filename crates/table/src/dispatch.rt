@@ -1,0 +1,136 @@
+// One packet from the device: which slot it is for, and what it does there. The slot that changed is stored where it lies.
+use crate::DispatchOutcome;
+use crate::Want;
+use crate::place_below;
+use config::negotiated::RxPolicy;
+use protocol::packet::Packet;
+use slot::AckDecision;
+use slot::ChannelFault;
+use slot::ChannelSlot;
+use slot::Readied;
+use slot::is_opening;
+use slot::ids::ChannelIds;
+use slot::ids::LocalId;
+use slot::ids::RemoteId;
+use state::put_slot;
+use state::slot_at;
+ghost use mathlib.Core.Path.{_≡_};
+ghost use Prim.Native.Nat.{_+_, _*_, _≤_, _<_};
+ghost use lib.ListN.{length};
+ghost use Rattle.rx_store.specs.RxStore.{Room};
+ghost use Rattle.state.specs.State.{stateOf, slotAt};
+ghost use Rattle.table.specs.Dispatch.{faulted, remotePlace, closedAt, closeOf, readiedOf, readyAt, strayOf, grantOf, bufferedIn, wroteAt, writeOf, dispatchOf, Steps, Dispatches, Walks, Share, Sound};
+
+// What went wrong on a slot.
+fn fault(i: usize, s: ChannelSlot, remote: RemoteId, fault: ChannelFault) -> DispatchOutcome
+    ensures { λ r. ⌜ r ≡ faulted i s remote fault ⌝ }
+{
+    let local = s.local;
+    let state = s.state;
+    DispatchOutcome::ChannelFault(i, ChannelIds { local, remote }, is_opening(state), fault)
+}
+
+// The lowest slot with the device's number, or n.
+fn remote_place(state: &[u8], n: usize, remote: RemoteId) -> usize
+    requires { ⌜ Walks (now state) n ⌝ }
+    ensures { λ r. ⌜ r ≡ remotePlace n (stateOf (now (state .entry)) .slots) remote ⌝ }
+{
+    if remote.0 == 0 {
+        return n;
+    }
+    place_below(state, n, Want::Remote(remote))
+}
+
+// Closes the slot at place i, if that is one of n.
+fn close_at(state: &mut [u8], i: usize, n: usize, other: DispatchOutcome) -> DispatchOutcome
+    requires { ⌜ Walks (now state) n ⌝ }
+    ensures { λ r. ⌜ Steps (closedAt i n (stateOf (now (state .entry)) .slots) other) r (now (state .entry)) (now (state .exit)) ⌝ }
+{
+    if i < n {
+        let s = slot_at(state, i);
+        put_slot(state, i, s.apply_close());
+        return DispatchOutcome::SlotClosed(i);
+    }
+    other
+}
+
+// A CLSE.
+fn close(state: &mut [u8], n: usize, remote: RemoteId, local: LocalId) -> DispatchOutcome
+    requires { ⌜ Walks (now state) n ⌝ }
+    ensures { λ r. ⌜ Steps (closeOf n (stateOf (now (state .entry)) .slots) remote local) r (now (state .entry)) (now (state .exit)) ⌝ }
+{
+    if local.0 == 0 {
+        let i = remote_place(state, n, remote);
+        return close_at(state, i, n, DispatchOutcome::CancelPendingOpen(remote));
+    }
+    let i = place_below(state, n, Want::Local(local));
+    close_at(state, i, n, DispatchOutcome::Unmatched)
+}
+
+// What an OKAY does to a slot.
+fn readied(s: ChannelSlot, remote: RemoteId, payload: &[u8], policy: RxPolicy) -> Readied
+    ensures { λ r. ⌜ r ≡ readiedOf s remote (now (payload .entry)) policy ⌝ }
+{
+    let state = s.state;
+    if is_opening(state) {
+        return s.accept_open_ready(remote, payload, policy);
+    }
+    s.apply_ready(payload, policy)
+}
+
+// An OKAY for the slot at place i.
+fn ready_at(
+    state: &mut [u8],
+    i: usize,
+    remote: RemoteId,
+    payload: &[u8],
+    policy: RxPolicy,
+) -> DispatchOutcome
+    requires { ⌜ Walks (now state) (i + 1) ⌝ }
+    ensures { λ r. ⌜ Steps (readyAt policy i (slotAt (now (state .entry)) i) remote (now (payload .entry))) r (now (state .entry)) (now (state .exit)) ⌝ }
+{
+    let s = slot_at(state, i);
+    if s.is_failed() {
+        return DispatchOutcome::Unmatched;
+    }
+    let granted = readied(s, remote, payload, policy);
+    match granted {
+        Readied::Short => fault(i, s, remote, ChannelFault::ShortReadyPayload),
+        Readied::Slot(t) => {
+            put_slot(state, i, t);
+            DispatchOutcome::CreditGranted(i)
+        }
+    }
+}
+
+// An OKAY for no slot.
+fn stray(remote: RemoteId, local: LocalId) -> DispatchOutcome
+    ensures { λ r. ⌜ r ≡ strayOf remote local ⌝ }
+{
+    if remote.0 == 0 {
+        return DispatchOutcome::Unmatched;
+    }
+    if local.0 == 0 {
+        return DispatchOutcome::Unmatched;
+    }
+    DispatchOutcome::StrayReady(ChannelIds { local, remote })
+}
+
+// An OKAY.
+fn ready(
+    state: &mut [u8],
+    n: usize,
+    remote: RemoteId,
+    local: LocalId,
+    payload: &[u8],
+    policy: RxPolicy,
+) -> DispatchOutcome
+    requires { ⌜ Walks (now state) n ⌝ }
+    ensures { λ r. ⌜ Steps (grantOf policy n (stateOf (now (state .entry)) .slots) remote local (now (payload .entry))) r (now (state .entry)) (now (state .exit)) ⌝ }
+{
+    let i = place_below(state, n, Want::Local(local));
+    if i < n {
+        return ready_at(state, i, remote, payload, policy);
+    }
+    stray(remote, local)
+}
