@@ -156,8 +156,7 @@ pub record Steps (s : Step) (r : DispatchOutcome) (b after : List ℕ) : Type 0 
 
 -- and every byte of the receive store
 pub record Dispatches (d : Dispatched) (r : DispatchOutcome) (b after rx : List ℕ) : Type 0 where
-  pub outcome-is : r ≡ d .step .outcome
-  pub state-is : after ≡ putAll b (d .step .changes)
+  pub steps : Steps (d .step) r b after
   pub rx-is : rx ≡ d .rx
 
 -- slots below n can be walked

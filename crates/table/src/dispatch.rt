@@ -3,6 +3,7 @@ use crate::DispatchOutcome;
 use crate::Want;
 use crate::place_below;
 use config::negotiated::RxPolicy;
+use protocol::command::Command;
 use protocol::packet::Packet;
 use slot::AckDecision;
 use slot::ChannelFault;
@@ -133,4 +134,99 @@ fn ready(
         return ready_at(state, i, remote, payload, policy);
     }
     stray(remote, local)
+}
+
+// A payload, put behind what slot i has buffered in its share of the receive store.
+fn buffer(rx: &mut [u8], i: usize, cap: usize, s: ChannelSlot, payload: &[u8])
+    requires { ⌜ (i < 64) × (cap ≤ 16777216) × (i * (2 * cap) + 2 * cap ≤ length (now rx)) × Room (2 * cap) (s .head) (s .buffered) (length (now payload)) ⌝ }
+    ensures { λ _. ⌜ now (rx .exit) ≡ bufferedIn (now (rx .entry)) cap i s (now (payload .entry)) ⌝ }
+{
+    let width = 2 * cap;
+    let at = i * width;
+    let end = at + width;
+    rx_store::append(&mut rx[at..end], s.head, s.buffered, payload);
+}
+
+// A WRTE for the slot at place i.
+fn write_at(
+    state: &mut [u8],
+    rx: &mut [u8],
+    i: usize,
+    remote: RemoteId,
+    payload: &[u8],
+    policy: RxPolicy,
+) -> DispatchOutcome
+    requires { ⌜ Share (now state) (now rx) i (policy .«rx_cap») ⌝ }
+    ensures { λ r. ⌜ Dispatches (wroteAt policy i (slotAt (now (state .entry)) i) remote (now (payload .entry)) (now (rx .entry))) r (now (state .entry)) (now (state .exit)) (now (rx .exit)) ⌝ }
+{
+    let s = slot_at(state, i);
+    if s.is_failed() {
+        return DispatchOutcome::Unmatched;
+    }
+    let wrote = s.apply_write(payload.len(), policy);
+    let decision = wrote.decision;
+    let t = wrote.slot;
+    match decision {
+        AckDecision::Overflow => fault(i, s, remote, ChannelFault::RxOverflow),
+        AckDecision::Early => fault(i, s, remote, ChannelFault::UnexpectedCommand),
+        AckDecision::Hold => {
+            buffer(rx, i, policy.rx_cap, s, payload);
+            put_slot(state, i, t);
+            DispatchOutcome::DataBuffered(i)
+        }
+        AckDecision::Now(len) => {
+            buffer(rx, i, policy.rx_cap, s, payload);
+            put_slot(state, i, t);
+            let local = s.local;
+            let known = s.remote;
+            DispatchOutcome::AckWrite(i, ChannelIds { local, remote: known }, len)
+        }
+    }
+}
+
+// A WRTE.
+fn write(
+    state: &mut [u8],
+    rx: &mut [u8],
+    n: usize,
+    remote: RemoteId,
+    local: LocalId,
+    payload: &[u8],
+    policy: RxPolicy,
+) -> DispatchOutcome
+    requires { ⌜ Sound (now state) (now rx) n (policy .«rx_cap») ⌝ }
+    ensures { λ r. ⌜ Dispatches (writeOf policy n (stateOf (now (state .entry)) .slots) remote local (now (payload .entry)) (now (rx .entry))) r (now (state .entry)) (now (state .exit)) (now (rx .exit)) ⌝ }
+{
+    let i = place_below(state, n, Want::Local(local));
+    if i < n {
+        return write_at(state, rx, i, remote, payload, policy);
+    }
+    DispatchOutcome::Unmatched
+}
+
+// One decoded packet: what it was, and what it did to the table.
+pub fn dispatch(
+    state: &mut [u8],
+    rx: &mut [u8],
+    n: usize,
+    policy: RxPolicy,
+    packet: Packet,
+    payload: &[u8],
+) -> DispatchOutcome
+    requires { ⌜ Sound (now state) (now rx) n (policy .«rx_cap») ⌝ }
+    ensures { λ r. ⌜ Dispatches (dispatchOf policy n (stateOf (now (state .entry)) .slots) packet (now (payload .entry)) (now (rx .entry))) r (now (state .entry)) (now (state .exit)) (now (rx .exit)) ⌝ }
+{
+    let command = packet.command;
+    let remote = RemoteId(packet.arg0);
+    let local = LocalId(packet.arg1);
+    match command {
+        Command::Connect => DispatchOutcome::Unmatched,
+        Command::Auth => DispatchOutcome::Unmatched,
+        Command::StartTls => DispatchOutcome::Unmatched,
+        Command::Open => DispatchOutcome::IncomingOpen(remote, packet.arg1),
+        Command::Close => close(state, n, remote, local),
+        Command::Write => write(state, rx, n, remote, local, payload, policy),
+        Command::Ready => ready(state, n, remote, local, payload, policy),
+        Command::Sync => DispatchOutcome::Unmatched,
+    }
 }
