@@ -11,11 +11,11 @@ use lib.Seq.{getD-take, length-take-le}
 use borrow.Author.Tests.{eq-eqb, ne-eqb, lt-ltb, le-ltb, ltb-false}
 use borrow.Rule.Slice.PartMut.{putMid}
 use Rattle.le.specs.Le.{part, put}
-use Rattle.le.proofs.Parts.{by-test, length-part, lent-part, lent-back}
+use Rattle.le.proofs.Parts.{by-test, length-part, length-put, lent-part, lent-back}
 use Rattle.protocol.specs.declared.command.Command.{Command}
 use Rattle.protocol.specs.declared.packet.Packet.{Packet}
 use Rattle.rx_store.specs.RxStore.{Room, appended}
-use Rattle.rx_store.proofs.Laws.{length-appended}
+use Rattle.rx_store.proofs.Laws.{length-appended, own-share, other-share}
 use Rattle.config.proofs.Laws.{and-true}
 use Rattle.config.specs.declared.negotiated.RxPolicy.{RxPolicy}
 use Rattle.slot.specs.declared.ids.LocalId.{LocalId}
@@ -282,3 +282,27 @@ pub routed : (p : RxPolicy) (n : ℕ) (ss : List ChannelSlot) (k : Packet) (payl
     → dispatchOf p n ss k payload rx ≡ routeOf p n ss c (k .arg0) (k .arg1) payload rx
 unfolding dispatchOf
 routed p n ss k payload rx c e = ap (λ (x : Command). routeOf p n ss x (k .arg0) (k .arg1) payload rx) e
+
+-- ---- shares
+
+module _ (rx : List ℕ) (cap i : ℕ) (s : ChannelSlot) (payload : List ℕ) (h : i * (2 * cap) + 2 * cap ≤ length rx)
+    (r : Room (2 * cap) (s .head) (s .buffered) (length payload)) where
+  long : length (appended (shareOf rx cap i) (s .head) (s .buffered) payload) ≡ 2 * cap
+  unfolding shareOf
+  long =
+      let n : length (shareOf rx cap i) ≡ 2 * cap = length-part rx (i * (2 * cap)) (2 * cap) h in
+      length-appended (shareOf rx cap i) (s .head) (s .buffered) payload (subst (λ (x : ℕ). Room x (s .head) (s .buffered) (length payload)) (sym n) r) ∙ n
+
+  pub length-buffered : length (bufferedIn rx cap i s payload) ≡ length rx
+  unfolding bufferedIn
+  length-buffered = let n = long in length-put rx (i * (2 * cap)) (appended (shareOf rx cap i) (s .head) (s .buffered) payload) (omega arith)
+
+  -- the slot's own share has the payload behind its run
+  pub buffered-own : shareOf (bufferedIn rx cap i s payload) cap i ≡ appended (shareOf rx cap i) (s .head) (s .buffered) payload
+  unfolding bufferedIn shareOf
+  buffered-own = own-share rx i (2 * cap) (appended (shareOf rx cap i) (s .head) (s .buffered) payload) long h
+
+  -- the others stay
+  pub buffered-other : (j : ℕ) → (i ≡ j → ⊥) → shareOf (bufferedIn rx cap i s payload) cap j ≡ shareOf rx cap j
+  unfolding bufferedIn shareOf
+  buffered-other j d = other-share rx i j (2 * cap) (appended (shareOf rx cap i) (s .head) (s .buffered) payload) long h d
