@@ -97,8 +97,8 @@ fn ready_at(
     let granted = readied(s, remote, payload, policy);
     match granted {
         Readied::Short => fault(i, s, remote, ChannelFault::ShortReadyPayload),
-        Readied::Slot(t) => {
-            put_slot(state, i, t);
+        Readied::Slot(credited) => {
+            put_slot(state, i, credited);
             DispatchOutcome::CreditGranted(i)
         }
     }
