@@ -64,6 +64,19 @@ module _ {A : Type 0} (size : ℕ) (bytes : A → List ℕ) (sized : (a : A) →
       let p = put-at (f ++ flat bytes b) (bytes y) (flat bytes d ++ r) (bytes a) at n (sized y ∙ sym (sized a)) in
       rw (s, t, g y, g a) p
 
+  -- the first records of a table that stands behind f are put, the rest stay
+  pub put-rows : (f : List ℕ) (x : List A) (r : List ℕ) (at : ℕ) (y : List A) → length y ≤ length x → length f ≡ at
+      → put (f ++ flat bytes x ++ r) at (flat bytes y) ≡ f ++ flat bytes (y ++ drop (length y) x) ++ r
+  put-rows f x r at y h e =
+      let d = flat bytes (drop (length y) x) in
+      let s = flat-cut (length y) x in
+      let t = flat-append y (drop (length y) x) in
+      let n = flat-cut-length (length y) x h in
+      let m = length-flat y in
+      let g : (z : List ℕ) → f ++ (z ++ d) ++ r ≡ f ++ z ++ (d ++ r) = λ z. simp append-assoc in
+      let p = put-at f (flat bytes (take (length y) x)) (d ++ r) (flat bytes y) at e (omega arith) in
+      rw (s, t, g (flat bytes (take (length y) x)), g (flat bytes y)) p
+
 module _ {A : Type 0} (size : ℕ) (read : List ℕ → A) where
   pub length-rows : (n : ℕ) (l : List ℕ) → length (rows size read n l) ≡ n
   unfolding rows
@@ -125,6 +138,15 @@ pub every-set : {A : Type 0} (P : A → Type 0) (l : List A) (i : ℕ) (a : A) �
 every-set P [] i a e p = tt
 every-set P (x ∷ l) zero a e p = (p, e .1)
 every-set P (x ∷ l) (suc i) a e p = (e .0, every-set P l i a (e .1) p)
+
+pub every-append : {A : Type 0} (P : A → Type 0) (x y : List A) → Every P x → Every P y → Every P (x ++ y)
+every-append P [] y e f = f
+every-append P (a ∷ x) y e f = (e .0, every-append P x y (e .1) f)
+
+pub every-drop : {A : Type 0} (P : A → Type 0) (n : ℕ) (x : List A) → Every P x → Every P (drop n x)
+every-drop P zero x e = e
+every-drop P (suc n) [] e = tt
+every-drop P (suc n) (a ∷ x) e = every-drop P n x (e .1)
 
 module _ {A : Type 0} (size : ℕ) (bytes : A → List ℕ) (is : List ℕ → Bool) (sized : (a : A) → length (bytes a) ≡ size) (good : (a : A) → is (bytes a) ≡ true) where
   -- records' bytes pass the test
