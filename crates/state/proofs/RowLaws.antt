@@ -6,7 +6,7 @@ use Prim.Native.Nat.{ℕ, zero, suc, _+_, _*_, _≤_, _<_}
 use native.Mathlib.Nat.{zero-mul, suc-mul}
 use native.Mathlib.Omega.{arith}
 use lib.Dec.{T}
-use lib.ListN.{length, take, drop, getD, set, length-append, length-drop, length-take, take-append-drop}
+use lib.ListN.{length, take, drop, getD, set, length-append, length-drop, length-take, take-append-drop, drop-of-length-le}
 use lib.Seq.{split-at, set-split, take-at, drop-at, drop-drop, drop-cons, getD-take, take-add, length-take-le}
 use Rattle.le.specs.Le.{part, put, Bytes}
 use Rattle.le.proofs.Parts.{by-test}
@@ -97,6 +97,10 @@ pub walk-here : {A : Type 0} (l : List A) (n i : ℕ) (d a : A) → i < n → n 
 walk-here l n i d a h k e =
     let m : i < length (take n l) = simp length-take (omega arith) in
     drop-cons (take n l) i d m ∙ ap (λ x. x ∷ drop (suc i) (take n l)) (getD-take n l i d h ∙ e)
+
+-- the same walk at its end: nothing is left
+pub walk-over : {A : Type 0} (l : List A) (n i : ℕ) → n ≤ i → drop i (take n l) ≡ []
+walk-over l n i h = let m : length (take n l) ≤ i = simp length-take (omega arith) in drop-of-length-le (take n l) m
 
 module _ {A : Type 0} (size : ℕ) (bytes : A → List ℕ) (read : List ℕ → A) (is : List ℕ → Bool)
     (back : (l : List ℕ) → Bytes l → size ≤ length l → is (take size l) ≡ true → bytes (read (take size l)) ≡ take size l) where
