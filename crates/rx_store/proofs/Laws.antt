@@ -153,20 +153,25 @@ own-share store i w new l h =
     cc (z, l)
 
 -- a share begins at or behind the end of those before it
-share-before : (i j w : ℕ) → i < j → i * w + w ≤ j * w
+pub share-before : (i j w : ℕ) → i < j → i * w + w ≤ j * w
 share-before i j w h =
     let z : suc i * w ≤ j * w = mul-le-mul-right w (omega arith) in
     omega (arith, suc-mul i w)
 
--- other shares stay
-pub other-share : (store : List ℕ) (i j w : ℕ) (new : List ℕ) → length new ≡ w → i * w + w ≤ length store → (i ≡ j → ⊥)
-    → part (put store (i * w) new) (j * w) w ≡ part store (j * w) w
-other-share store i j w new l h d =
+-- a write within one share leaves what lies in another
+pub apart : (store : List ℕ) (i j w : ℕ) (new : List ℕ) (n : ℕ) → length new ≤ w → n ≤ w → i * w + w ≤ length store → (i ≡ j → ⊥)
+    → part (put store (i * w) new) (j * w) n ≡ part store (j * w) n
+apart store i j w new n l k h d =
     by-test (ltb i j)
     (λ t.
     let z = share-before i j w (ltb-true i j t) in
-    part-put-above store (i * w) new (j * w) w (omega arith) (omega arith))
+    part-put-above store (i * w) new (j * w) n (omega arith) (omega arith))
     (λ t.
     let g : j < i = omega (arith, ltb-false i j t) in
     let z = share-before j i w g in
-    part-put-below store (i * w) new (j * w) w (omega arith) (omega arith))
+    part-put-below store (i * w) new (j * w) n (omega arith) (omega arith))
+
+-- other shares stay
+pub other-share : (store : List ℕ) (i j w : ℕ) (new : List ℕ) → length new ≡ w → i * w + w ≤ length store → (i ≡ j → ⊥)
+    → part (put store (i * w) new) (j * w) w ≡ part store (j * w) w
+other-share store i j w new l h d = apart store i j w new w (omega arith) (omega arith) h d

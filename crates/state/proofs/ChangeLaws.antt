@@ -2,29 +2,33 @@
 use mathlib.Core.Path.{_≡_, refl, sym, ap, _∙_}
 use mathlib.Core.Bool.{true}
 use mathlib.Core.List.{List, [], _∷_, _++_}
-use Prim.Native.Nat.{ℕ}
+use Prim.Native.Nat.{ℕ, _≤_}
 use native.Mathlib.Omega.{arith}
-use lib.ListN.{length, drop, length-append, length-set}
+use lib.ListN.{length, drop, length-append, length-drop, length-set}
 use Rattle.le.specs.Le.{Bytes}
 use Rattle.state.specs.declared.PendingOpen.{PendingOpen}
 use Rattle.state.specs.Rows.{flat}
 use Rattle.state.specs.State.{Connection, slotBytes, openBytes, headerBytes, layout, stateOf, isState}
 use Rattle.state.specs.Change.{Change, slotTo, headerTo, openTo, opensTo, changed, changedAll, putChange, putAll, putOpens, withOpens, Within}
 use Rattle.state.proofs.Fields.{length-slot, length-open, length-header}
-use Rattle.state.proofs.RowLaws.{put-at, length-flat, Every, every-set}
+use Rattle.state.proofs.RowLaws.{put-rows, length-flat, Every, every-set, every-append, every-drop}
 use Rattle.state.proofs.StateLaws.{Full, state-full, Fits, SlotFits, HeaderFits, OpenFits, state-split, state-forth, state-fits, put-slot-layout, put-header-layout, put-open-layout, layout-is-state}
+
+-- the first of 64 are replaced: there are 64 still
+opens-length : {A : Type 0} (qs x : List A) → length qs ≤ 64 → length x ≡ 64 → length (qs ++ drop (length qs) x) ≡ 64
+opens-length qs x h e = simp (length-append, length-drop) (omega arith)
 
 pub changed-full : (c : Connection) (x : Change) → Full c → Within x → Full (changed c x)
 changed-full c (slotTo i s) f w = record { slots = length-set (c .slots) i s ∙ f .slots; opens = f .opens }
 changed-full c (headerTo h) f w = record { slots = f .slots; opens = f .opens }
 changed-full c (openTo i q) f w = record { slots = f .slots; opens = length-set (c .opens) i q ∙ f .opens }
-changed-full c (opensTo qs) f w = record { slots = f .slots; opens = w }
+changed-full c (opensTo qs) f w = record { slots = f .slots; opens = opens-length qs (c .opens) w (f .opens) }
 
 pub full-all : (c : Connection) (xs : List Change) → Full c → Every Within xs → Full (changedAll c xs)
 full-all c [] f w = f
 full-all c (x ∷ xs) f w = full-all (changed c x) xs (changed-full c x f (w .0)) (w .1)
 
-put-opens-layout : (c : Connection) (r : List ℕ) (qs : List PendingOpen) → Full c → length qs ≡ 64 → putOpens (layout c ++ r) qs ≡ layout (withOpens c qs) ++ r
+put-opens-layout : (c : Connection) (r : List ℕ) (qs : List PendingOpen) → Full c → length qs ≤ 64 → putOpens (layout c ++ r) qs ≡ layout (withOpens c qs) ++ r
 unfolding putOpens layout
 put-opens-layout c r qs f h =
     let p = headerBytes (c .header) ++ flat slotBytes (c .slots) in
@@ -32,10 +36,8 @@ put-opens-layout c r qs f h =
     let k = f .opens in
     let a = length-header (c .header) in
     let b = length-flat 49 slotBytes length-slot (c .slots) in
-    let x = length-flat 24 openBytes length-open (c .opens) in
-    let y = length-flat 24 openBytes length-open qs in
     let m : length p ≡ 3194 = simp length-append (omega arith) in
-    put-at p (flat openBytes (c .opens)) r (flat openBytes qs) 3194 m (omega arith)
+    put-rows 24 openBytes length-open p (c .opens) r 3194 qs (omega arith) m
 
 pub change-layout : (c : Connection) (r : List ℕ) (x : Change) → Full c → Within x → putChange (layout c ++ r) x ≡ layout (changed c x) ++ r
 change-layout c r (slotTo i s) f w = put-slot-layout c r i s (rw (f .slots) w)
@@ -59,7 +61,7 @@ abbrev pub ChangeFits : Change → Type 0
 ChangeFits (slotTo i s) = SlotFits s
 ChangeFits (headerTo h) = HeaderFits h
 ChangeFits (openTo i q) = OpenFits q
-ChangeFits (opensTo qs) = (length qs ≡ 64) × Every OpenFits qs
+ChangeFits (opensTo qs) = (length qs ≤ 64) × Every OpenFits qs
 
 pub changed-fits : (c : Connection) (x : Change) → Fits c → ChangeFits x → Fits (changed c x)
 changed-fits c (slotTo i s) f g =
@@ -67,7 +69,8 @@ changed-fits c (slotTo i s) f g =
 changed-fits c (headerTo h) f g = record { header = g; full = record { slots = f .full .slots; opens = f .full .opens }; slots = f .slots; opens = f .opens }
 changed-fits c (openTo i q) f g =
     record { header = f .header; full = record { slots = f .full .slots; opens = length-set (c .opens) i q ∙ f .full .opens }; slots = f .slots; opens = every-set OpenFits (c .opens) i q (f .opens) g }
-changed-fits c (opensTo qs) f g = record { header = f .header; full = record { slots = f .full .slots; opens = g .0 }; slots = f .slots; opens = g .1 }
+changed-fits c (opensTo qs) f g =
+    record { header = f .header; full = record { slots = f .full .slots; opens = opens-length qs (c .opens) (g .0) (f .full .opens) }; slots = f .slots; opens = every-append OpenFits qs (drop (length qs) (c .opens)) (g .1) (every-drop OpenFits (length qs) (c .opens) (f .opens)) }
 
 pub changes-fit : (c : Connection) (xs : List Change) → Fits c → Every ChangeFits xs → Fits (changedAll c xs)
 changes-fit c [] f g = f

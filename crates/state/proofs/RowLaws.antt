@@ -6,7 +6,7 @@ use Prim.Native.Nat.{ℕ, zero, suc, _+_, _*_, _≤_, _<_}
 use native.Mathlib.Nat.{zero-mul, suc-mul}
 use native.Mathlib.Omega.{arith}
 use lib.Dec.{T}
-use lib.ListN.{length, take, drop, getD, set, length-append, length-drop, length-take, take-append-drop}
+use lib.ListN.{length, take, drop, getD, set, length-append, length-drop, length-take, take-append-drop, drop-of-length-le}
 use lib.Seq.{split-at, set-split, take-at, drop-at, drop-drop, drop-cons, getD-take, take-add, length-take-le}
 use Rattle.le.specs.Le.{part, put, Bytes}
 use Rattle.le.proofs.Parts.{by-test}
@@ -64,6 +64,19 @@ module _ {A : Type 0} (size : ℕ) (bytes : A → List ℕ) (sized : (a : A) →
       let p = put-at (f ++ flat bytes b) (bytes y) (flat bytes d ++ r) (bytes a) at n (sized y ∙ sym (sized a)) in
       rw (s, t, g y, g a) p
 
+  -- the first records of a table that stands behind f are put, the rest stay
+  pub put-rows : (f : List ℕ) (x : List A) (r : List ℕ) (at : ℕ) (y : List A) → length y ≤ length x → length f ≡ at
+      → put (f ++ flat bytes x ++ r) at (flat bytes y) ≡ f ++ flat bytes (y ++ drop (length y) x) ++ r
+  put-rows f x r at y h e =
+      let d = flat bytes (drop (length y) x) in
+      let s = flat-cut (length y) x in
+      let t = flat-append y (drop (length y) x) in
+      let n = flat-cut-length (length y) x h in
+      let m = length-flat y in
+      let g : (z : List ℕ) → f ++ (z ++ d) ++ r ≡ f ++ z ++ (d ++ r) = λ z. simp append-assoc in
+      let p = put-at f (flat bytes (take (length y) x)) (d ++ r) (flat bytes y) at e (omega arith) in
+      rw (s, t, g (flat bytes (take (length y) x)), g (flat bytes y)) p
+
 module _ {A : Type 0} (size : ℕ) (read : List ℕ → A) where
   pub length-rows : (n : ℕ) (l : List ℕ) → length (rows size read n l) ≡ n
   unfolding rows
@@ -84,6 +97,10 @@ pub walk-here : {A : Type 0} (l : List A) (n i : ℕ) (d a : A) → i < n → n 
 walk-here l n i d a h k e =
     let m : i < length (take n l) = simp length-take (omega arith) in
     drop-cons (take n l) i d m ∙ ap (λ x. x ∷ drop (suc i) (take n l)) (getD-take n l i d h ∙ e)
+
+-- the same walk at its end: nothing is left
+pub walk-over : {A : Type 0} (l : List A) (n i : ℕ) → n ≤ i → drop i (take n l) ≡ []
+walk-over l n i h = let m : length (take n l) ≤ i = simp length-take (omega arith) in drop-of-length-le (take n l) m
 
 module _ {A : Type 0} (size : ℕ) (bytes : A → List ℕ) (read : List ℕ → A) (is : List ℕ → Bool)
     (back : (l : List ℕ) → Bytes l → size ≤ length l → is (take size l) ≡ true → bytes (read (take size l)) ≡ take size l) where
@@ -125,6 +142,15 @@ pub every-set : {A : Type 0} (P : A → Type 0) (l : List A) (i : ℕ) (a : A) �
 every-set P [] i a e p = tt
 every-set P (x ∷ l) zero a e p = (p, e .1)
 every-set P (x ∷ l) (suc i) a e p = (e .0, every-set P l i a (e .1) p)
+
+pub every-append : {A : Type 0} (P : A → Type 0) (x y : List A) → Every P x → Every P y → Every P (x ++ y)
+every-append P [] y e f = f
+every-append P (a ∷ x) y e f = (e .0, every-append P x y (e .1) f)
+
+pub every-drop : {A : Type 0} (P : A → Type 0) (n : ℕ) (x : List A) → Every P x → Every P (drop n x)
+every-drop P zero x e = e
+every-drop P (suc n) [] e = tt
+every-drop P (suc n) (a ∷ x) e = every-drop P n x (e .1)
 
 module _ {A : Type 0} (size : ℕ) (bytes : A → List ℕ) (is : List ℕ → Bool) (sized : (a : A) → length (bytes a) ≡ size) (good : (a : A) → is (bytes a) ≡ true) where
   -- records' bytes pass the test

@@ -6,7 +6,7 @@ use Prim.Native.Nat.{ℕ, zero, suc, _+_, _-_, _*_, _/_, _%_, _≤_, _<_}
 use native.Mathlib.Numerals.{add-one}
 use native.Mathlib.Omega.{arith}
 use lib.Dec.{ltb, leb, eqb}
-use lib.ListN.{length, take, drop, getD, length-take, drop-of-length-le}
+use lib.ListN.{length, take, drop, getD}
 use lib.Seq.{drop-drop}
 use borrow.Author.Tests.{eq-eqb, ne-eqb, lt-ltb, le-ltb, le-leb, leb-true}
 use Rattle.le.specs.Le.{part}
@@ -21,7 +21,7 @@ use Rattle.state.specs.declared.PendingOpen.{PendingOpen}
 use Rattle.state.specs.Rows.{rows, allIs}
 use Rattle.state.specs.State.{flagOf, stateOfTag, failedOfTag, slotOf, isTag, isSlot, openOf, headerOf, stateOf, isState, slotAt, openAt}
 use Rattle.state.specs.Valid.{filledOk, slotFine, slotsFine, rowFine, rowsFine, openFine, opensFine, waitingFine, headerFine, filledAt, HeaderOk, restWhole, whole, isWhole}
-use Rattle.state.proofs.RowLaws.{walk-here}
+use Rattle.state.proofs.RowLaws.{walk-here, walk-over}
 use Rattle.state.proofs.StateLaws.{slot-in, open-in, state-full}
 
 -- ---- tests in a row
@@ -194,15 +194,12 @@ one-pass channels cap i (suc n) l =
 
 -- ---- the waiting opens, one at a time
 
-abbrev noOpen : PendingOpen
-noOpen = record { remote = record { 0 = 0 }; credit = 0; share = 0; length = 0 }
-
 module _ (b : List ℕ) (n i : ℕ) where
   module _ (h : i < n) (k : n ≤ 64) where
-    open-here : drop i (take n (stateOf b .opens)) ≡ openAt b i ∷ drop (suc i) (take n (stateOf b .opens))
+    pub open-here : drop i (take n (stateOf b .opens)) ≡ openAt b i ∷ drop (suc i) (take n (stateOf b .opens))
     open-here =
         let z = state-full b .opens in
-        walk-here (stateOf b .opens) n i noOpen (openAt b i) h (omega arith) (open-in b i noOpen (omega arith))
+        walk-here (stateOf b .opens) n i (openAt b i) (openAt b i) h (omega arith) (open-in b i (openAt b i) (omega arith))
 
     module _ (channels payload : ℕ) where
       pub opens-step : openFine channels payload (openAt b i) ≡ true
@@ -216,9 +213,7 @@ module _ (b : List ℕ) (n i : ℕ) where
 
   pub opens-end : (channels payload : ℕ) → n ≤ i → opensFine channels payload (drop i (take n (stateOf b .opens))) ≡ true
   unfolding opensFine
-  opens-end channels payload h =
-      let m : length (take n (stateOf b .opens)) ≤ i = simp length-take (omega arith) in
-      rw (drop-of-length-le (take n (stateOf b .opens)) m)
+  opens-end channels payload h = rw (walk-over (stateOf b .opens) n i h)
 
 -- ---- the open that waits for its OKAY
 

@@ -1,8 +1,7 @@
 -- What a step does to a state, once for the record and once for the bytes. Assumes nothing.
-use Prim.Native.Nat.{ℕ, _<_}
-use mathlib.Core.List.{List, [], _∷_}
-use mathlib.Core.Path.{_≡_}
-use lib.ListN.{length}
+use Prim.Native.Nat.{ℕ, _≤_, _<_}
+use mathlib.Core.List.{List, [], _∷_, _++_}
+use lib.ListN.{length, drop}
 use Rattle.le.specs.Le.{put}
 use Rattle.slot.specs.declared.ChannelSlot.{ChannelSlot}
 use Rattle.state.specs.declared.Header.{Header}
@@ -10,19 +9,20 @@ use Rattle.state.specs.declared.PendingOpen.{PendingOpen}
 use Rattle.state.specs.Rows.{flat}
 use Rattle.state.specs.State.{Connection, openBytes, putSlot, putOpen, putHeader, withSlot, withHeader, withOpen}
 
--- one slot, the header, one waiting open, or all of them
+-- one slot, the header, one waiting open, or the first of them
 pub data Change : Type 0 where
   slotTo : ℕ → ChannelSlot → Change
   headerTo : Header → Change
   openTo : ℕ → PendingOpen → Change
   opensTo : List PendingOpen → Change
 
--- all waiting opens, in place
+-- the first waiting opens, in place
 unfoldable pub putOpens : List ℕ → List PendingOpen → List ℕ
 putOpens b qs = put b 3194 (flat openBytes qs)
 
+-- the first waiting opens become these, the rest stay
 abbrev pub withOpens : Connection → List PendingOpen → Connection
-withOpens c qs = record { header = c .header; slots = c .slots; opens = qs }
+withOpens c qs = record { header = c .header; slots = c .slots; opens = qs ++ drop (length qs) (c .opens) }
 
 -- to the record
 abbrev pub changed : Connection → Change → Connection
@@ -46,9 +46,9 @@ abbrev pub putAll : List ℕ → List Change → List ℕ
 putAll b [] = b
 putAll b (x ∷ xs) = putAll (putChange b x) xs
 
--- a change's place is one of the 64
+-- a change's places are among the 64
 abbrev pub Within : Change → Type 0
 Within (slotTo i s) = i < 64
 Within (headerTo h) = Unit {0}
 Within (openTo i q) = i < 64
-Within (opensTo qs) = length qs ≡ 64
+Within (opensTo qs) = length qs ≤ 64

@@ -1,0 +1,55 @@
+use native.Mathlib.Omega.{arith}
+use Rattle.state.specs.State.{stateOf}
+use Rattle.incoming.proofs.Laws.{share-fits, push-full, push-queued}
+use borrow.Author.Needs.{needs}
+use Rattle.incoming.proofs.push_back.Statement.{statement}
+use Rattle.incoming.proofs.push_back.Tie as tie
+
+returns : tie.Need-returns
+returns c = push-full (c .before .before .before .before .before .before .before .args .h) (c .before .before .before .before .before .before .before .args .state .now) (c .before .before .before .before .before .before .before .args .remote) (c .before .before .before .before .before .before .before .args .credit) (c .before .before .before .before .before .before .before .args .destination .now) (c .before .before .before .before .before .before .before .args .store .now) (omega arith)
+
+free-share-requires : tie.Need-free-share-requires
+free-share-requires c κs = search needs
+
+cast-at : tie.Need-cast-at
+cast-at c = search needs
+
+mul-at : tie.Need-mul-at
+mul-at c = let z = share-fits (c .before .before .before .before .before .before .before .before .before .before .args .h .negotiated .config .channels) (c .before .before .before .before .before .before .before .before .before .before .args .h .negotiated .config .«max_payload») (c .before .before .before .before .before .before .before .before .before .before .args .h .queued) (c .before .free-share .result) (stateOf (c .before .before .before .before .before .before .before .before .before .before .args .state .now) .opens) (omega arith) (c .before .free-share .ensures) in omega arith
+
+copy-at-requires : tie.Need-copy-at-requires
+copy-at-requires c κs = let z = share-fits (c .before .before .before .before .before .before .before .before .before .before .before .args .h .negotiated .config .channels) (c .before .before .before .before .before .before .before .before .before .before .before .args .h .negotiated .config .«max_payload») (c .before .before .before .before .before .before .before .before .before .before .before .args .h .queued) (c .before .before .free-share .result) (stateOf (c .before .before .before .before .before .before .before .before .before .before .before .args .state .now) .opens) (omega arith) (c .before .before .free-share .ensures) in omega arith
+
+put-open-requires : tie.Need-put-open-requires
+put-open-requires c κs = search needs
+
+add-with-queued : tie.Need-add-with-queued
+add-with-queued c = search needs
+
+with-queued-requires : tie.Need-with-queued-requires
+with-queued-requires c κs = search needs
+
+same-length : tie.Need-same-length
+same-length c = search needs
+
+same-length-2 : tie.Need-same-length-2
+same-length-2 c = search needs
+
+returns-2 : tie.Need-returns-2
+returns-2 c = push-queued (c .before .before .before .before .before .before .before .before .before .before .before .before .before .before .before .before .before .before .before .args .h) (c .before .before .before .before .before .before .before .before .before .before .before .before .before .before .before .before .before .before .before .args .state .now) (c .before .before .before .before .before .before .before .before .before .before .before .before .before .before .before .before .before .before .before .args .remote) (c .before .before .before .before .before .before .before .before .before .before .before .before .before .before .before .before .before .before .before .args .credit) (c .before .before .before .before .before .before .before .before .before .before .before .before .before .before .before .before .before .before .before .args .destination .now) (c .before .before .before .before .before .before .before .before .before .before .before .before .before .before .before .before .before .before .before .args .store .now) (c .before .before .before .before .before .before .before .before .before .before .free-share .result) (c .before .before .before .put-open .last .0) (c .before .before .before .before .before .before .before .copy-at .last .0) (c .with-queued .result) (omega arith) (c .before .before .before .before .before .before .before .before .before .before .free-share .ensures) (c .before .before .before .put-open .ensures) (c .before .before .before .before .before .before .before .copy-at .ensures) (c .with-queued .ensures)
+
+pub push-back-spec : {M : Type 1} → statement M
+push-back-spec =
+    tie.close
+    (tie.spec
+    returns
+    free-share-requires
+    cast-at
+    mul-at
+    copy-at-requires
+    put-open-requires
+    add-with-queued
+    with-queued-requires
+    same-length
+    same-length-2
+    returns-2)

@@ -1,0 +1,157 @@
+// The device's OPENs that wait to be taken: entries in the lent state, the first `queued` of 64, and their destinations in
+// the open store, where share k is the max_payload bytes from k * max_payload on. The header is handed in and handed back
+// by value: the caller stores it once.
+use slot::ids::RemoteId;
+use state::Header;
+use state::PendingOpen;
+use state::open_at;
+use state::put_open;
+ghost use mathlib.Core.Path.{_≡_};
+ghost use Prim.Native.Nat.{_≤_};
+ghost use lib.ListN.{length, take, drop};
+ghost use Rattle.state.specs.State.{stateOf};
+ghost use Rattle.incoming.specs.Incoming.{named, freeShare, staysBy, kept, withQueued, Retains, QueueOk, Gives, withdrawal, popped, Room, Pushes, pushed};
+
+// Which of the waiting OPENs stay.
+pub enum Keep {
+    All,
+    Without(RemoteId),
+}
+
+pub enum Pushed {
+    Queued(Header),
+    Full,
+}
+
+pub enum Front {
+    Open(PendingOpen, Header),
+    Nothing,
+}
+
+// Whether one of the first `queued` uses share k.
+fn is_named(state: &[u8], queued: usize, k: usize) -> bool
+    requires { ⌜ (queued ≤ 64) × (4730 ≤ length (now state)) ⌝ }
+    ensures { λ r. ⌜ r ≡ named k (take queued (stateOf (now (state .entry)) .opens)) ⌝ }
+{
+    let mut i = 0;
+    while i < queued {
+        let q = open_at(state, i);
+        if q.share == k {
+            return true;
+        }
+        i += 1;
+    }
+    false
+}
+
+// The lowest share below n that none of the first `queued` uses, or n.
+fn free_share(state: &[u8], queued: usize, n: usize) -> usize
+    requires { ⌜ (queued ≤ 64) × (4730 ≤ length (now state)) ⌝ }
+    ensures { λ r. ⌜ r ≡ freeShare n (take queued (stateOf (now (state .entry)) .opens)) ⌝ }
+{
+    let mut k = 0;
+    while k < n {
+        if is_named(state, queued, k) {
+            k += 1;
+        } else {
+            return k;
+        }
+    }
+    n
+}
+
+fn stays(q: PendingOpen, keep: Keep) -> bool
+    ensures { λ r. ⌜ r ≡ staysBy keep q ⌝ }
+{
+    let remote = q.remote;
+    match keep {
+        Keep::All => true,
+        Keep::Without(gone) => remote.0 != gone.0,
+    }
+}
+
+// Those of the first `queued` that stay, from place `from` on, moved to the front in one pass. Answers how many.
+fn retain(state: &mut [u8], from: usize, queued: usize, keep: Keep) -> usize
+    requires { ⌜ (from ≤ queued) × (queued ≤ 64) × (4730 ≤ length (now state)) ⌝ }
+    ensures { λ r. ⌜ Retains (kept keep (drop from (take queued (stateOf (now (state .entry)) .opens)))) (now (state .entry)) r (now (state .exit)) ⌝ }
+{
+    let mut w = 0;
+    let mut i = from;
+    while i < queued {
+        let q = open_at(state, i);
+        if stays(q, keep) {
+            put_open(state, w, q);
+            w += 1;
+            i += 1;
+        } else {
+            i += 1;
+        }
+    }
+    w
+}
+
+fn with_queued(h: Header, queued: usize) -> Header
+    ensures { λ r. ⌜ r ≡ withQueued h queued ⌝ }
+{
+    let mut moved = h;
+    moved.queued = queued;
+    moved
+}
+
+// An OPEN put behind those that wait, its destination in a share that none of them uses; refused while as many wait as
+// there are channels.
+pub fn push_back(
+    state: &mut [u8],
+    store: &mut [u8],
+    h: Header,
+    remote: RemoteId,
+    credit: u32,
+    destination: &[u8],
+) -> Pushed
+    requires { ⌜ Room h (length (now state)) (length (now store)) (length (now destination)) ⌝ }
+    ensures { λ r. ⌜ Pushes (pushed h (stateOf (now (state .entry)) .opens) remote credit (now (destination .entry)) (now (store .entry))) (now (state .entry)) r (now (state .exit)) (now (store .exit)) ⌝ }
+{
+    let negotiated = h.negotiated;
+    let config = negotiated.config;
+    let queued = h.queued;
+    if queued >= config.channels {
+        return Pushed::Full;
+    }
+    let share = free_share(state, queued, config.channels);
+    let at = share * config.max_payload as usize;
+    le::copy_at(store, at, destination);
+    let length = destination.len();
+    put_open(
+        state,
+        queued,
+        PendingOpen {
+            remote,
+            credit,
+            share,
+            length,
+        },
+    );
+    Pushed::Queued(with_queued(h, queued + 1))
+}
+
+// Drops those of this remote number.
+pub fn withdraw(state: &mut [u8], h: Header, remote: RemoteId) -> Header
+    requires { ⌜ QueueOk h (length (now state)) ⌝ }
+    ensures { λ r. ⌜ Gives (withdrawal h (stateOf (now (state .entry)) .opens) remote) (now (state .entry)) r (now (state .exit)) ⌝ }
+{
+    let left = retain(state, 0, h.queued, Keep::Without(remote));
+    with_queued(h, left)
+}
+
+// Takes the one that waited longest; its destination lies in the open store until the next push.
+pub fn pop_front(state: &mut [u8], h: Header) -> Front
+    requires { ⌜ QueueOk h (length (now state)) ⌝ }
+    ensures { λ r. ⌜ Gives (popped h (stateOf (now (state .entry)) .opens)) (now (state .entry)) r (now (state .exit)) ⌝ }
+{
+    if h.queued == 0 {
+        return Front::Nothing;
+    }
+    let front = open_at(state, 0);
+    let left = retain(state, 1, h.queued, Keep::All);
+    Front::Open(front, with_queued(h, left))
+}
