@@ -1,0 +1,71 @@
+-- The numbers and values of answers (document 01's two lists of refusals; docs/ARCHITECTURE.md, "C interface"). Assumes
+-- nothing.
+use Prim.Native.Nat.{ℕ}
+use mathlib.Core.List.{List, [], _∷_}
+use Rattle.slot.specs.declared.PendingAck.{PendingAck}
+use Rattle.slot.specs.declared.PendingAck.the-variants.{Len, Nothing as NoAck}
+use Rattle.connection.specs.declared.Answer.{Answer}
+use Rattle.connection.specs.declared.Answer.the-variants.{Done, Waiting, Nothing, Opened, Settled, Read, Written, Front, Refused}
+use Rattle.connection.specs.declared.Refusal.{Refusal}
+use Rattle.connection.specs.declared.Refusal.the-variants.{InvalidCommand, InvalidMagic, PayloadTooLarge, InvalidChecksum, ShortReadyPayload, UnexpectedCommand, BadConfig, StoreShort, OutShort, ChannelClosed, ChannelRxOverflow, NoFreeChannels, BrokenState}
+
+-- document 01's number of a refusal; 14 to 23 are kept for later ones
+unfoldable pub refusalNumber : Refusal → ℕ
+refusalNumber (InvalidCommand word) = 1
+refusalNumber InvalidMagic = 2
+refusalNumber PayloadTooLarge = 3
+refusalNumber InvalidChecksum = 4
+refusalNumber ShortReadyPayload = 5
+refusalNumber UnexpectedCommand = 6
+refusalNumber BadConfig = 7
+refusalNumber StoreShort = 8
+refusalNumber OutShort = 9
+refusalNumber ChannelClosed = 10
+refusalNumber ChannelRxOverflow = 11
+refusalNumber NoFreeChannels = 12
+refusalNumber BrokenState = 13
+
+-- 0 for a call that is done, a refusal's own, 100 for waiting, 101 for nothing there
+unfoldable pub numberOf : Answer → ℕ
+numberOf Done = 0
+numberOf Waiting = 100
+numberOf Nothing = 101
+numberOf (Opened ch) = 0
+numberOf (Settled ack) = 0
+numberOf (Read n) = 0
+numberOf (Written n) = 0
+numberOf (Front remote credit place len) = 0
+numberOf (Refused refusal) = refusalNumber refusal
+
+-- the length acknowledged, 0 for none
+unfoldable pub ackLength : PendingAck → ℕ
+ackLength (Len n) = n
+ackLength NoAck = 0
+
+-- refusal 1 gives the word
+unfoldable pub refusalWord : Refusal → ℕ
+refusalWord (InvalidCommand word) = word
+refusalWord InvalidMagic = 0
+refusalWord PayloadTooLarge = 0
+refusalWord InvalidChecksum = 0
+refusalWord ShortReadyPayload = 0
+refusalWord UnexpectedCommand = 0
+refusalWord BadConfig = 0
+refusalWord StoreShort = 0
+refusalWord OutShort = 0
+refusalWord ChannelClosed = 0
+refusalWord ChannelRxOverflow = 0
+refusalWord NoFreeChannels = 0
+refusalWord BrokenState = 0
+
+-- an answer's four values, 0 where unused
+unfoldable pub valuesOf : Answer → List ℕ
+valuesOf Done = 0 ∷ 0 ∷ 0 ∷ 0 ∷ []
+valuesOf Waiting = 0 ∷ 0 ∷ 0 ∷ 0 ∷ []
+valuesOf Nothing = 0 ∷ 0 ∷ 0 ∷ 0 ∷ []
+valuesOf (Opened ch) = ch .slot ∷ ch .local .0 ∷ 0 ∷ 0 ∷ []
+valuesOf (Settled ack) = ackLength ack ∷ 0 ∷ 0 ∷ 0 ∷ []
+valuesOf (Read n) = n ∷ 0 ∷ 0 ∷ 0 ∷ []
+valuesOf (Written n) = n ∷ 0 ∷ 0 ∷ 0 ∷ []
+valuesOf (Front remote credit place len) = remote .0 ∷ credit ∷ place ∷ len ∷ []
+valuesOf (Refused refusal) = refusalWord refusal ∷ 0 ∷ 0 ∷ 0 ∷ []

@@ -1,0 +1,476 @@
+-- The calls (document 01, "How the calls change", both lists of refusals, "Order"; connection.rs), each as a function of what
+-- its caller lends and hands in. Assumes nothing.
+use Prim.Native.Nat.{ℕ, _+_, _*_, min, max}
+use mathlib.Core.Bool.{Bool, true, false, not, cond, _&&_}
+use mathlib.Core.List.{List, [], _∷_, _++_}
+use lib.Dec.{eqb, ltb, leb}
+use lib.ListN.{length, take, set, replicate}
+use Rattle.le.specs.Le.{part, put}
+use Rattle.config.specs.declared.ConnectionConfig.{ConnectionConfig}
+use Rattle.config.specs.declared.negotiated.Negotiated.{Negotiated}
+use Rattle.config.specs.declared.negotiated.RxPolicy.{RxPolicy}
+use Rattle.config.specs.Config.{withinLimits, storesFit}
+use Rattle.config.specs.Negotiated.{negotiatedOf, policyOf, creditOf}
+use Rattle.incoming.specs.declared.Front.{Front}
+use Rattle.incoming.specs.declared.Front.the-variants.{Open as FrontOpen, Nothing as NoFront}
+use Rattle.incoming.specs.Incoming.{noOpen, popped}
+use Rattle.protocol.specs.declared.command.Command.{Command}
+use Rattle.protocol.specs.declared.command.Command.the-variants.{Sync, Connect, Open, Ready, Close, Write, Auth, StartTls}
+use Rattle.protocol.specs.declared.packet.Packet.{Packet}
+use Rattle.protocol.specs.declared.packet.Decoded.{Decoded}
+use Rattle.protocol.specs.declared.packet.Decoded.the-variants.{Waiting as FrameWaiting, InvalidCommand as WordInvalid, InvalidMagic as MagicInvalid, PayloadTooLarge as LengthTooLarge, InvalidChecksum as SumInvalid, Accepted}
+use Rattle.protocol.specs.Packet.{maxPayload, payloadOf, decodeOf}
+use Rattle.slot.specs.declared.Budget.{Budget}
+use Rattle.slot.specs.declared.Budget.the-variants.{Bytes, Nothing as NoBudget}
+use Rattle.slot.specs.declared.ChannelError.{ChannelError}
+use Rattle.slot.specs.declared.ChannelError.the-variants.{Closed as ErrorClosed, Fault}
+use Rattle.slot.specs.declared.ChannelFault.{ChannelFault}
+use Rattle.slot.specs.declared.ChannelFault.the-variants.{RxOverflow, ShortReadyPayload as CreditShort, UnexpectedCommand as WriteEarly}
+use Rattle.slot.specs.declared.ChannelSlot.{ChannelSlot}
+use Rattle.slot.specs.declared.Failed.{Failed}
+use Rattle.slot.specs.declared.Failed.the-variants.{No, By}
+use Rattle.slot.specs.declared.PendingAck.{PendingAck}
+use Rattle.slot.specs.declared.PendingAck.the-variants.{Len, Nothing as NoAck}
+use Rattle.slot.specs.declared.Readied.{Readied}
+use Rattle.slot.specs.declared.Readied.the-variants.{Slot, Short}
+use Rattle.slot.specs.declared.Settled.{Settled as SettledSlot}
+use Rattle.slot.specs.declared.Taken.{Taken}
+use Rattle.slot.specs.declared.Taken.the-variants.{Data, Nothing as NothingTaken, Closed as ClosedTaken}
+use Rattle.slot.specs.declared.ids.ChannelIds.{ChannelIds}
+use Rattle.slot.specs.declared.ids.LocalId.{LocalId}
+use Rattle.slot.specs.Ids.{isClose, closedBy}
+use Rattle.slot.specs.Slot.{emptySlot, openingSlot, isClosed, openedOf, readyOf, deliveredOf, settledOf, takenOf, budgetOf, spentOf, closedSlot}
+use Rattle.state.specs.declared.Header.{Header}
+use Rattle.state.specs.declared.PendingOpen.{PendingOpen}
+use Rattle.state.specs.declared.Waiting.{Waiting as WaitingOpen}
+use Rattle.state.specs.Change.{Change, slotTo, headerTo, changedAll}
+use Rattle.state.specs.State.{Connection, layout, withSlot}
+use Rattle.table.specs.declared.Allocated.{Allocated}
+use Rattle.table.specs.declared.Allocated.the-variants.{Channel, NoFree}
+use Rattle.table.specs.declared.ChannelId.{ChannelId}
+use Rattle.table.specs.declared.Want.the-variants.{Local}
+use Rattle.table.specs.Table.{wantedBy, numbered, allocated}
+use Rattle.table.specs.Dispatch.{slotIn, shareOf}
+use Rattle.connection.specs.declared.Answer.{Answer}
+use Rattle.connection.specs.declared.Answer.the-variants.{Done, Waiting, Nothing, Opened, Settled, Read, Written, Front as FrontIs, Refused}
+use Rattle.connection.specs.declared.Received.{Received}
+use Rattle.connection.specs.declared.Received.the-variants.{Packet as PacketIs, Stop}
+use Rattle.connection.specs.declared.Refusal.{Refusal}
+use Rattle.connection.specs.declared.Refusal.the-variants.{InvalidCommand, InvalidMagic, PayloadTooLarge, InvalidChecksum, ShortReadyPayload, UnexpectedCommand, BadConfig, StoreShort, OutShort, ChannelClosed, ChannelRxOverflow, NoFreeChannels, BrokenState}
+use Rattle.connection.specs.Act.{Acted, actOn}
+use Rattle.connection.specs.Frames.{Frame, okayFrame, closeFrame, openFrame, writeFrame, framesBytes}
+
+-- ---- what a call is lent, and what it leaves
+
+-- the state, the receive store, the open store
+pub record Lent : Type 0 where
+  pub state : Connection
+  pub rx : List ℕ
+  pub store : List ℕ
+
+-- the answer; bytes used; frames written from the outgoing buffer's start; bytes handed over at the start of the reader's
+-- buffer; what changed in the state; both stores
+pub record Outcome : Type 0 where
+  pub answer : Answer
+  pub used : ℕ
+  pub frames : List Frame
+  pub handed : List ℕ
+  pub changes : List Change
+  pub rx : List ℕ
+  pub store : List ℕ
+
+-- bytes written
+unfoldable pub writtenBy : Negotiated → Outcome → ℕ
+writtenBy n o = length (framesBytes n (o .frames))
+
+-- a refusal that changes nothing
+abbrev pub untouched : Lent → Refusal → Outcome
+untouched l r = record { answer = Refused r; used = 0; frames = []; handed = []; changes = []; rx = l .rx; store = l .store }
+
+-- what a call has done so far; the header is stored last
+pub record Work : Type 0 where
+  pub header : Header
+  pub changes : List Change
+  pub rx : List ℕ
+  pub store : List ℕ
+  pub frames : List Frame
+
+abbrev pub begun : Header → Lent → Work
+begun h l = record { header = h; changes = []; rx = l .rx; store = l .store; frames = [] }
+
+-- a slot stored, frames written
+abbrev pub then : Work → List Change → List Frame → Work
+then w xs fs = record { header = w .header; changes = w .changes ++ xs; rx = w .rx; store = w .store; frames = w .frames ++ fs }
+
+-- a packet acted on
+abbrev pub thenActed : Work → Acted → Work
+thenActed w a = record { header = a .header; changes = w .changes ++ a .changes; rx = a .rx; store = a .store; frames = w .frames ++ a .frames }
+
+abbrev pub withHeader : Work → Header → Work
+withHeader w h = record { header = h; changes = w .changes; rx = w .rx; store = w .store; frames = w .frames }
+
+-- a call's end
+unfoldable pub ends : Work → Answer → ℕ → List ℕ → Outcome
+ends w a used handed =
+    record { answer = a; used = used; frames = w .frames; handed = handed; changes = w .changes ++ headerTo (w .header) ∷ []; rx = w .rx; store = w .store }
+
+-- ---- refusals ahead of every step
+
+-- 13, then 8: nothing changes. `whole`: whether the lent bytes are a whole state
+unfoldable pub checked : Bool → Lent → Outcome → Outcome
+checked whole l o =
+    cond whole (cond (storesFit (l .state .header .negotiated .config) (length (l .rx)) (length (l .store))) o (untouched l StoreShort)) (untouched l BrokenState)
+
+-- and 9 for 56 bytes, where a call is lent an outgoing buffer
+unfoldable pub checkedOut : Bool → Lent → ℕ → Outcome → Outcome
+checkedOut whole l out o = checked whole l (cond (ltb out 56) (untouched l OutShort) o)
+
+-- ---- small parts
+
+-- an open that waited does so no more
+abbrev pub notWaiting : WaitingOpen → WaitingOpen
+notWaiting w = record { on = false; slot = w .slot; local = w .local }
+
+abbrev pub dropped : Header → Header
+dropped h = record { negotiated = h .negotiated; «next_local» = h .«next_local»; waiting = notWaiting (h .waiting); queued = h .queued }
+
+abbrev pub waitingFor : Header → ChannelId → Header
+waitingFor h ch = record { negotiated = h .negotiated; «next_local» = h .«next_local»; waiting = record { on = true; slot = ch .slot; local = ch .local }; queued = h .queued }
+
+abbrev pub policy : Lent → RxPolicy
+policy l = policyOf (l .state .header .negotiated)
+
+abbrev pub idsIn : ChannelSlot → ChannelIds
+idsIn s = record { local = s .local; remote = s .remote }
+
+-- whether a channel is in the table: its place is below channels, filled, and has its number
+unfoldable pub isThere : Lent → ChannelId → Bool
+isThere l ch = ltb (ch .slot) (l .state .header .negotiated .config .channels) && wantedBy (Local (ch .local)) (slotIn (l .state .slots) (ch .slot))
+
+unfoldable pub slotFor : Lent → ChannelId → ChannelSlot
+slotFor l ch = slotIn (l .state .slots) (ch .slot)
+
+-- the OKAY of an acknowledgement that is due
+unfoldable pub ackFrames : ChannelSlot → PendingAck → List Frame
+ackFrames s (Len n) = okayFrame (idsIn s) n ∷ []
+ackFrames s NoAck = []
+
+-- `fault.error()`
+unfoldable pub faultRefusal : ChannelFault → Refusal
+faultRefusal RxOverflow = ChannelRxOverflow
+faultRefusal CreditShort = ShortReadyPayload
+faultRefusal WriteEarly = UnexpectedCommand
+
+unfoldable pub errorRefusal : ChannelError → Refusal
+errorRefusal ErrorClosed = ChannelClosed
+errorRefusal (Fault f) = faultRefusal f
+
+-- an answer, unless dispatching failed
+unfoldable pub unlessFault : Failed → Answer → Answer
+unlessFault No a = a
+unlessFault (By f) a = Refused (faultRefusal f)
+
+-- `recv_pkt`: waiting and refusals 1 to 3 use nothing, 4 uses the frame
+unfoldable pub receivedBy : Decoded → Received
+receivedBy FrameWaiting = Stop Waiting 0
+receivedBy (WordInvalid word) = Stop (Refused (InvalidCommand word)) 0
+receivedBy MagicInvalid = Stop (Refused InvalidMagic) 0
+receivedBy LengthTooLarge = Stop (Refused PayloadTooLarge) 0
+receivedBy (SumInvalid used) = Stop (Refused InvalidChecksum) used
+receivedBy (Accepted p) = PacketIs p
+
+unfoldable pub receivedOf : Lent → List ℕ → Received
+receivedOf l received = receivedBy (decodeOf received (l .state .header .negotiated .config .«max_payload»))
+
+-- a packet's payload, and the bytes that it uses
+abbrev pub bodyOf : List ℕ → Packet → List ℕ
+bodyOf received p = payloadOf received (p .«data_length»)
+
+abbrev pub frameLen : Packet → ℕ
+frameLen p = 24 + p .«data_length»
+
+unfoldable pub isWrite : Command → Bool
+isWrite Sync = false
+isWrite Connect = false
+isWrite Open = false
+isWrite Ready = false
+isWrite Close = false
+isWrite Write = true
+isWrite Auth = false
+isWrite StartTls = false
+
+unfoldable pub isReady : Command → Bool
+isReady Sync = false
+isReady Connect = false
+isReady Open = false
+isReady Ready = true
+isReady Close = false
+isReady Write = false
+isReady Auth = false
+isReady StartTls = false
+
+-- ---- make (`Handshake::assemble`)
+
+-- 64 empty slots, none waiting, the next number 1
+unfoldable pub fresh : Negotiated → Connection
+fresh n =
+    record {
+      header = record { negotiated = n; «next_local» = 1; waiting = record { on = false; slot = 0; local = record { 0 = 0 } }; queued = 0 };
+      slots = replicate 64 emptySlot;
+      opens = replicate 64 noOpen;
+    }
+
+pub record Made : Type 0 where
+  pub answer : Answer
+  pub state : List ℕ
+
+-- 7 where a limit is broken, and nothing changes; else the state's bytes are a fresh connection's. Flags: whether host and
+-- device list delayed acknowledgement; a, b: arg0 and arg1 of the device's CNXN
+unfoldable pub makeOf : ConnectionConfig → ℕ → ℕ → Bool → Bool → List ℕ → Made
+makeOf c a b host device state =
+    cond (withinLimits c) (record { answer = Done; state = put state 0 (layout (fresh (negotiatedOf host device a b c))) })
+    (record { answer = Refused BadConfig; state = state })
+
+-- ---- dispatch (one turn of `accept_incoming`'s loop)
+
+unfoldable pub dispatchBy : Lent → Header → List ℕ → Received → Outcome
+dispatchBy l h received (Stop a used) = ends (begun h l) a used []
+dispatchBy l h received (PacketIs p) =
+    let a = actOn h (l .state .slots) (l .state .opens) (l .rx) (l .store) p (bodyOf received p) in
+    ends (thenActed (begun h l) a) (unlessFault (a .fault) Done) (frameLen p) []
+
+unfoldable pub dispatchStep : Lent → List ℕ → Outcome
+dispatchStep l received = dispatchBy l (dropped (l .state .header)) received (receivedOf l received)
+
+-- ---- settle and take (the two halves of `take_buffered`)
+
+unfoldable pub settledAs : Lent → ChannelId → SettledSlot → Outcome
+settledAs l ch s = ends (then (begun (dropped (l .state .header)) l) (slotTo (ch .slot) (s .slot) ∷ []) (ackFrames (s .slot) (s .ack))) (Settled (s .ack)) 0 []
+
+unfoldable pub settleStep : Lent → ChannelId → ℕ → Outcome
+settleStep l ch want =
+    cond (isThere l ch) (settledAs l ch (settledOf (slotFor l ch) (policy l) want)) (ends (begun (dropped (l .state .header)) l) (Refused ChannelClosed) 0 [])
+
+-- the first n bytes that slot i has buffered
+unfoldable pub frontOf : List ℕ → ℕ → ℕ → ChannelSlot → ℕ → List ℕ
+frontOf rx cap i s n = part (shareOf rx cap i) (s .head) n
+
+-- taking n bytes, nothing there, or closed with nothing there
+unfoldable pub takenBy : Lent → ChannelId → ChannelSlot → Work → Taken → Outcome
+takenBy l ch s w (Data t n) = ends (then w (slotTo (ch .slot) t ∷ []) []) (Read n) 0 (frontOf (l .rx) (policy l .«rx_cap») (ch .slot) s n)
+takenBy l ch s w NothingTaken = ends w Nothing 0 []
+takenBy l ch s w (ClosedTaken e) = ends w (Refused (errorRefusal e)) 0 []
+
+-- room: the reader's buffer's length
+unfoldable pub takeStep : Lent → ChannelId → ℕ → Outcome
+takeStep l ch room =
+    cond (isThere l ch) (takenBy l ch (slotFor l ch) (begun (dropped (l .state .header)) l) (takenOf (slotFor l ch) room))
+    (ends (begun (dropped (l .state .header)) l) (Refused ChannelClosed) 0 [])
+
+-- ---- read (`recv_data`)
+
+-- what the second settling and taking give, after a packet that was dispatched
+unfoldable pub reread : ChannelId → ℕ → ℕ → Failed → Work → ChannelSlot → Taken → Outcome
+reread ch cap used fault w s (Data t n) = ends (then w (slotTo (ch .slot) t ∷ []) []) (Read n) used (frontOf (w .rx) cap (ch .slot) s n)
+reread ch cap used fault w s NothingTaken = ends (then w (slotTo (ch .slot) s ∷ []) []) (unlessFault fault Waiting) used []
+reread ch cap used fault w s (ClosedTaken e) = ends (then w (slotTo (ch .slot) s ∷ []) []) (unlessFault fault (Refused (errorRefusal e))) used []
+
+unfoldable pub readSettled : Lent → ChannelId → ℕ → ℕ → Failed → Work → SettledSlot → Outcome
+readSettled l ch room used fault w s =
+    reread ch (policy l .«rx_cap») used fault (then w [] (ackFrames (s .slot) (s .ack))) (s .slot) (takenOf (s .slot) room)
+
+-- any other packet: dispatched, then settling and taking again
+unfoldable pub readActed : Lent → ChannelId → ℕ → ℕ → Work → Acted → Outcome
+readActed l ch room used w a =
+    readSettled l ch room used (a .fault) (thenActed w a)
+    (settledOf (slotIn (changedAll (l .state) (w .changes ++ a .changes) .slots) (ch .slot)) (policy l) room)
+
+-- a WRTE of the channel's own that fits the reader's buffer
+unfoldable pub isDirect : ChannelSlot → ℕ → Packet → Bool
+isDirect s room p = isWrite (p .command) && eqb (p .arg1) (s .local .0) && leb (p .«data_length») room
+
+-- it goes straight to the reader
+unfoldable pub readDirect : ChannelId → ℕ → Work → List ℕ → SettledSlot → Outcome
+readDirect ch used w payload d = ends (then w (slotTo (ch .slot) (d .slot) ∷ []) (ackFrames (d .slot) (d .ack))) (Read (length payload)) used payload
+
+unfoldable pub readBy : Lent → ChannelId → ℕ → Work → ChannelSlot → List ℕ → Received → Outcome
+readBy l ch room w s received (Stop a used) = ends (then w (slotTo (ch .slot) s ∷ []) []) a used []
+readBy l ch room w s received (PacketIs p) =
+    cond (isDirect s room p) (readDirect ch (frameLen p) w (bodyOf received p) (deliveredOf s (policy l) (p .«data_length»)))
+    (cond (closedBy (idsIn s) p) (ends (then w (slotTo (ch .slot) (closedSlot s) ∷ []) []) (Refused ChannelClosed) (frameLen p) [])
+    (readActed l ch room (frameLen p) (then w (slotTo (ch .slot) s ∷ []) [])
+    (actOn (w .header) (set (l .state .slots) (ch .slot) s) (l .state .opens) (l .rx) (l .store) p (bodyOf received p))))
+
+-- the first taking: data, closed, or a packet is looked at
+unfoldable pub readTaken : Lent → ChannelId → ℕ → Work → ChannelSlot → List ℕ → Taken → Outcome
+readTaken l ch room w s received (Data t n) = ends (then w (slotTo (ch .slot) t ∷ []) []) (Read n) 0 (frontOf (l .rx) (policy l .«rx_cap») (ch .slot) s n)
+readTaken l ch room w s received NothingTaken =
+    cond (s .«has_remote») (readBy l ch room w s received (receivedOf l received)) (ends (then w (slotTo (ch .slot) s ∷ []) []) (Refused ChannelClosed) 0 [])
+readTaken l ch room w s received (ClosedTaken e) = ends (then w (slotTo (ch .slot) s ∷ []) []) (Refused (errorRefusal e)) 0 []
+
+unfoldable pub readFirst : Lent → ChannelId → ℕ → List ℕ → SettledSlot → Outcome
+readFirst l ch room received s =
+    readTaken l ch room (then (begun (dropped (l .state .header)) l) [] (ackFrames (s .slot) (s .ack))) (s .slot) received (takenOf (s .slot) room)
+
+unfoldable pub readStep : Lent → ChannelId → ℕ → List ℕ → Outcome
+readStep l ch room received =
+    cond (isThere l ch) (readFirst l ch room received (settledOf (slotFor l ch) (policy l) room))
+    (ends (begun (dropped (l .state .header)) l) (Refused ChannelClosed) 0 [])
+
+-- ---- write (`wait_ack`, then one turn of `write_channel`)
+
+-- the least of data left, max_payload (at least 1) and budget
+unfoldable pub sendLen : Lent → List ℕ → ℕ → ℕ
+sendLen l bytes most = min (min (length bytes) (max (l .state .header .negotiated .«max_payload») 1)) most
+
+-- n bytes sent, unless their frame does not fit the outgoing buffer: 9, and nothing has changed
+unfoldable pub sendSome : Lent → ChannelId → ℕ → List ℕ → ℕ → Work → ChannelSlot → ℕ → Outcome
+sendSome l ch out bytes used w s n =
+    cond (ltb out (length (framesBytes (w .header .negotiated) (w .frames)) + 24 + n)) (untouched l OutShort)
+    (ends (then w (slotTo (ch .slot) (spentOf s (policy l) n) ∷ []) (writeFrame (idsIn s) (take n bytes) ∷ [])) (Written n) used [])
+
+-- the turn of the loop after a packet: closed, sent, or waiting again
+unfoldable pub sendBy : Lent → ChannelId → ℕ → List ℕ → ℕ → Work → ChannelSlot → Budget → Outcome
+sendBy l ch out bytes used w s (Bytes most) = sendSome l ch out bytes used w s (sendLen l bytes most)
+sendBy l ch out bytes used w s NoBudget = ends (then w (slotTo (ch .slot) s ∷ []) []) Waiting used []
+
+unfoldable pub sendAgain : Lent → ChannelId → ℕ → List ℕ → ℕ → Work → ChannelSlot → Outcome
+sendAgain l ch out bytes used w s =
+    cond (isClosed (s .state)) (ends (then w (slotTo (ch .slot) s ∷ []) []) (Refused ChannelClosed) used [])
+    (sendBy l ch out bytes used w s (budgetOf s (policy l)))
+
+unfoldable pub writeReadied : Lent → ChannelId → ℕ → List ℕ → ℕ → Work → ChannelSlot → Readied → Outcome
+writeReadied l ch out bytes used w s (Slot t) = sendAgain l ch out bytes used w t
+writeReadied l ch out bytes used w s Short = ends w (Refused ShortReadyPayload) used []
+
+unfoldable pub writeActed : Lent → ChannelId → ℕ → List ℕ → ℕ → Work → Acted → Failed → Outcome
+writeActed l ch out bytes used w a (By f) = ends (thenActed w a) (Refused (faultRefusal f)) used []
+writeActed l ch out bytes used w a No =
+    sendAgain l ch out bytes used (thenActed w a) (slotIn (changedAll (l .state) (w .changes ++ a .changes) .slots) (ch .slot))
+
+unfoldable pub writeAct : Lent → ChannelId → ℕ → List ℕ → ℕ → Work → Acted → Outcome
+writeAct l ch out bytes used w a = writeActed l ch out bytes used w a (a .fault)
+
+unfoldable pub writeBy : Lent → ChannelId → ℕ → List ℕ → Work → ChannelSlot → List ℕ → Received → Outcome
+writeBy l ch out bytes w s received (Stop a used) = ends w a used []
+writeBy l ch out bytes w s received (PacketIs p) =
+    cond (isReady (p .command) && eqb (p .arg1) (s .local .0)) (writeReadied l ch out bytes (frameLen p) w s (readyOf s (bodyOf received p) (policy l)))
+    (cond (closedBy (idsIn s) p) (ends (then w (slotTo (ch .slot) (closedSlot s) ∷ []) []) (Refused ChannelClosed) (frameLen p) [])
+    (writeAct l ch out bytes (frameLen p) w
+    (actOn (w .header) (l .state .slots) (l .state .opens) (l .rx) (l .store) p (bodyOf received p))))
+
+-- the first turn: closed, sent at once, or a packet is looked at
+unfoldable pub writeFirst : Lent → ChannelId → ℕ → List ℕ → List ℕ → Work → ChannelSlot → Budget → Outcome
+writeFirst l ch out bytes received w s (Bytes most) = sendSome l ch out bytes 0 w s (sendLen l bytes most)
+writeFirst l ch out bytes received w s NoBudget =
+    cond (s .«has_remote») (writeBy l ch out bytes w s received (receivedOf l received)) (ends w (Refused ChannelClosed) 0 [])
+
+unfoldable pub writeOn : Lent → ChannelId → ℕ → List ℕ → List ℕ → Work → ChannelSlot → Outcome
+writeOn l ch out bytes received w s =
+    cond (isClosed (s .state)) (ends w (Refused ChannelClosed) 0 []) (writeFirst l ch out bytes received w s (budgetOf s (policy l)))
+
+-- no bytes: done without looking at the channel
+unfoldable pub writeStep : Lent → ChannelId → ℕ → List ℕ → List ℕ → Outcome
+writeStep l ch out bytes received =
+    cond (eqb (length bytes) 0) (ends (begun (dropped (l .state .header)) l) (Written 0) 0 [])
+    (cond (isThere l ch) (writeOn l ch out bytes received (begun (dropped (l .state .header)) l) (slotFor l ch))
+    (ends (begun (dropped (l .state .header)) l) (Refused ChannelClosed) 0 []))
+
+-- ---- close (`close_channel`)
+
+unfoldable pub closeStep : Lent → ChannelId → Outcome
+closeStep l ch =
+    cond (isThere l ch && slotFor l ch .«has_remote»)
+    (ends (then (begun (dropped (l .state .header)) l) (slotTo (ch .slot) emptySlot ∷ []) (closeFrame (idsIn (slotFor l ch)) ∷ [])) Done 0 [])
+    (ends (begun (dropped (l .state .header)) l) (Refused ChannelClosed) 0 [])
+
+-- ---- take_front (`try_accept_incoming`, without a verdict)
+
+unfoldable pub frontBy : Lent → Header → List Change → Front → Outcome
+frontBy l h xs (FrontOpen q less) =
+    ends (then (begun less l) xs []) (FrontIs (q .remote) (q .credit) (q .share * h .negotiated .config .«max_payload») (q .length)) 0 []
+frontBy l h xs NoFront = ends (begun h l) Nothing 0 []
+
+unfoldable pub frontStep : Lent → Outcome
+frontStep l =
+    let h = dropped (l .state .header) in
+    frontBy l h (popped h (l .state .opens) .changes) (popped h (l .state .opens) .result)
+
+-- ---- open (`open_channel`, `await_open_ack`)
+
+-- the OPEN that an open call begins with: 12, then 3 with the next number moved on, then 9 with nothing changed
+unfoldable pub openOn : Lent → ℕ → List ℕ → Allocated → Outcome
+openOn l out destination NoFree = ends (begun (l .state .header) l) (Refused NoFreeChannels) 0 []
+openOn l out destination (Channel ch) =
+    let h = l .state .header in
+    cond (ltb maxPayload (length destination)) (ends (begun (numbered h) l) (Refused PayloadTooLarge) 0 [])
+    (cond (ltb out (24 + length destination)) (untouched l OutShort)
+    (ends (then (begun (waitingFor (numbered h) ch) l) [] (openFrame (ch .local) (creditOf (h .negotiated)) destination ∷ [])) Waiting 0 []))
+
+-- a waiting open stays where the answer is waiting, and ends otherwise
+unfoldable pub stillWaits : Answer → Header → Header
+stillWaits Waiting h = h
+stillWaits Done h = dropped h
+stillWaits Nothing h = dropped h
+stillWaits (Opened ch) h = dropped h
+stillWaits (Settled a) h = dropped h
+stillWaits (Read n) h = dropped h
+stillWaits (Written n) h = dropped h
+stillWaits (FrontIs r c p n) h = dropped h
+stillWaits (Refused r) h = dropped h
+
+-- its OKAY
+unfoldable pub openReadied : Lent → ChannelId → ℕ → ℕ → Readied → Outcome
+openReadied l ch remote used (Slot t) = ends (then (begun (dropped (l .state .header)) l) (slotTo (ch .slot) t ∷ []) []) (Opened ch) used []
+openReadied l ch remote used Short =
+    ends (then (begun (dropped (l .state .header)) l) [] (closeFrame (record { local = ch .local; remote = record { 0 = remote } }) ∷ [])) (Refused ShortReadyPayload) used []
+
+-- any other packet: dispatched
+unfoldable pub openActed : Lent → ℕ → Acted → Outcome
+openActed l used a =
+    let w = thenActed (begun (l .state .header) l) a in
+    ends (withHeader w (stillWaits (unlessFault (a .fault) Waiting) (a .header))) (unlessFault (a .fault) Waiting) used []
+
+unfoldable pub openBy : Lent → ChannelId → List ℕ → Received → Outcome
+openBy l ch received (Stop a used) = ends (begun (stillWaits a (l .state .header)) l) a used []
+openBy l ch received (PacketIs p) =
+    let mine = eqb (p .arg1) (ch .local .0) in
+    cond (isReady (p .command) && mine)
+    (openReadied l ch (p .arg0) (frameLen p) (openedOf (openingSlot (ch .local)) (record { 0 = p .arg0 }) (bodyOf received p) (policy l)))
+    (cond (isWrite (p .command) && mine)
+    (ends (then (begun (dropped (l .state .header)) l) [] (closeFrame (record { local = ch .local; remote = record { 0 = p .arg0 } }) ∷ [])) (Refused UnexpectedCommand) (frameLen p) [])
+    (cond (isClose (p .command) && mine) (ends (begun (dropped (l .state .header)) l) (Refused ChannelClosed) (frameLen p) [])
+    (openActed l (frameLen p) (actOn (l .state .header) (l .state .slots) (l .state .opens) (l .rx) (l .store) p (bodyOf received p)))))
+
+-- while an open waits, it goes on; else one begins
+unfoldable pub openStep : Lent → ℕ → List ℕ → List ℕ → Outcome
+openStep l out destination received =
+    let h = l .state .header in
+    cond (h .waiting .on) (openBy l (record { slot = h .waiting .slot; local = h .waiting .local }) received (receivedOf l received))
+    (openOn l out destination (allocated h (l .state .slots)))
+
+-- ---- the calls, with the refusals ahead of them
+
+unfoldable pub openOf : Bool → Lent → ℕ → List ℕ → List ℕ → Outcome
+openOf whole l out destination received = checkedOut whole l out (openStep l out destination received)
+
+unfoldable pub dispatchOf : Bool → Lent → ℕ → List ℕ → Outcome
+dispatchOf whole l out received = checkedOut whole l out (dispatchStep l received)
+
+unfoldable pub settleOf : Bool → Lent → ℕ → ChannelId → ℕ → Outcome
+settleOf whole l out ch want = checkedOut whole l out (settleStep l ch want)
+
+unfoldable pub takeOf : Bool → Lent → ChannelId → ℕ → Outcome
+takeOf whole l ch room = checked whole l (takeStep l ch room)
+
+unfoldable pub readOf : Bool → Lent → ℕ → ChannelId → ℕ → List ℕ → Outcome
+readOf whole l out ch room received = checkedOut whole l out (readStep l ch room received)
+
+unfoldable pub writeOf : Bool → Lent → ℕ → ChannelId → List ℕ → List ℕ → Outcome
+writeOf whole l out ch bytes received = checkedOut whole l out (writeStep l ch out bytes received)
+
+unfoldable pub closeOf : Bool → Lent → ℕ → ChannelId → Outcome
+closeOf whole l out ch = checkedOut whole l out (closeStep l ch)
+
+unfoldable pub frontCall : Bool → Lent → Outcome
+frontCall whole l = checked whole l (frontStep l)

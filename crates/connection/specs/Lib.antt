@@ -1,0 +1,4 @@
+pub mod Act
+pub mod Answer
+pub mod Calls
+pub mod Frames

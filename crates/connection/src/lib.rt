@@ -1,0 +1,90 @@
+// A connection's calls: what each answers.
+use protocol::packet::Packet;
+use slot::PendingAck;
+use slot::ids::RemoteId;
+use table::ChannelId;
+ghost use mathlib.Core.Path.{_≡_};
+ghost use Rattle.connection.specs.Answer.{refusalNumber, numberOf};
+
+// The scope document's refusals.
+pub enum Refusal {
+    // With the word that names no command.
+    InvalidCommand(u32),
+    InvalidMagic,
+    PayloadTooLarge,
+    InvalidChecksum,
+    ShortReadyPayload,
+    UnexpectedCommand,
+    BadConfig,
+    StoreShort,
+    OutShort,
+    ChannelClosed,
+    ChannelRxOverflow,
+    NoFreeChannels,
+    BrokenState,
+}
+
+pub enum Answer {
+    Done,
+    // The frame is not all there, or one packet was handled and the call's end has not come.
+    Waiting,
+    // take: nothing is buffered; take_front: none waits.
+    Nothing,
+    Opened(ChannelId),
+    Settled(PendingAck),
+    // Bytes handed over.
+    Read(usize),
+    // Bytes sent.
+    Written(usize),
+    // A waiting open's number, credit, and its destination's place and length in the open store.
+    Front(RemoteId, u32, usize, usize),
+    Refused(Refusal),
+}
+
+// What received bytes give a call.
+pub enum Received {
+    Packet(Packet),
+    // No packet: the answer, and the bytes used.
+    Stop(Answer, usize),
+}
+
+impl Refusal {
+    pub fn number(self) -> u32
+        ensures { λ r. ⌜ r ≡ refusalNumber self ⌝ }
+    {
+        match self {
+            Refusal::InvalidCommand(_) => 1,
+            Refusal::InvalidMagic => 2,
+            Refusal::PayloadTooLarge => 3,
+            Refusal::InvalidChecksum => 4,
+            Refusal::ShortReadyPayload => 5,
+            Refusal::UnexpectedCommand => 6,
+            Refusal::BadConfig => 7,
+            Refusal::StoreShort => 8,
+            Refusal::OutShort => 9,
+            Refusal::ChannelClosed => 10,
+            Refusal::ChannelRxOverflow => 11,
+            Refusal::NoFreeChannels => 12,
+            Refusal::BrokenState => 13,
+        }
+    }
+}
+
+impl Answer {
+    // 0, a refusal's number, 100 for waiting, 101 for nothing there.
+    pub fn number(self) -> u32
+        ensures { λ r. ⌜ r ≡ numberOf self ⌝ }
+    {
+        match self {
+            Answer::Done => 0,
+            Answer::Waiting => 100,
+            Answer::Nothing => 101,
+            Answer::Opened(_) => 0,
+            Answer::Settled(_) => 0,
+            Answer::Read(_) => 0,
+            Answer::Written(_) => 0,
+            Answer::Front(_, _, _, _) => 0,
+            Answer::Refused(refusal) => refusal.number(),
+        }
+    }
+}
