@@ -1,14 +1,14 @@
 -- Laws of the entries that stay, and of the pass that moves them to the front. Assumes nothing.
 use mathlib.Core.Path.{_≡_, refl, sym, ap, _∙_}
-use mathlib.Core.Bool.{Bool, true, false, cond}
+use mathlib.Core.Bool.{true, false, cond}
 use mathlib.Core.List.{List, [], _∷_, _++_, append-nil}
-use Prim.Native.Nat.{ℕ, zero, suc, _+_, _*_, _≤_, _<_}
+use Prim.Native.Nat.{ℕ, _+_, _*_, _≤_, _<_}
 use native.Mathlib.Numerals.{add-one}
 use native.Mathlib.Omega.{arith}
-use lib.ListN.{length, take, drop, getD, length-append, length-take, take-append-drop}
+use lib.ListN.{length, take, drop, length-append, length-take, take-append-drop}
 use lib.Seq.{take-suc, drop-append-le}
 use Rattle.le.specs.Le.{put}
-use Rattle.le.proofs.Parts.{by-test, length-put, put-put, part-put-above}
+use Rattle.le.proofs.Parts.{by-test, put-put, part-put-above}
 use Rattle.state.specs.declared.PendingOpen.{PendingOpen}
 use Rattle.state.specs.Change.{putOpens}
 use Rattle.state.specs.Rows.{flat}
@@ -22,6 +22,7 @@ use Rattle.incoming.specs.Incoming.{staysBy, kept, Retains}
 
 -- ---- those that stay
 
+-- where all stay, nothing changes
 pub kept-all : (qs : List PendingOpen) → kept All qs ≡ qs
 unfolding kept staysBy
 kept-all [] = refl
@@ -43,10 +44,6 @@ unfolding putOpens put flat
 put-none b = simp append-nil (take-append-drop 3194 b)
 
 module _ (b : List ℕ) (ks : List PendingOpen) (h : length ks ≤ 64) (l : 4730 ≤ length b) where
-  put-opens-length : length (putOpens b ks) ≡ length b
-  unfolding putOpens
-  put-opens-length = let n = length-flat 24 openBytes length-open ks in length-put b 3194 (flat openBytes ks) (omega arith)
-
   -- entries behind them stay
   put-opens-behind : (i : ℕ) → length ks ≤ i → openAt (putOpens b ks) i ≡ openAt b i
   unfolding putOpens openAt

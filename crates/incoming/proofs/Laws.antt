@@ -1,14 +1,11 @@
--- Laws of the OPENs that wait: what the three functions answer, and what they are to the list of those that wait.
--- Assumes nothing.
+-- What push_back, withdraw and pop_front answer is what their definitions say. Assumes nothing.
 use mathlib.Core.Path.{_≡_, refl, sym, ap, _∙_}
-use mathlib.Core.Bool.{Bool, true, false, cond}
-use mathlib.Core.List.{List, [], _∷_, _++_}
-use Prim.Native.Nat.{ℕ, zero, suc, _+_, _-_, _*_, _≤_, _<_}
+use mathlib.Core.List.{List}
+use Prim.Native.Nat.{ℕ, _+_, _-_, _*_, _≤_, _<_}
 use native.Mathlib.Omega.{arith}
 use borrow.Author.Tests.{lt-leb, le-leb, eq-eqb, ne-eqb}
 use lib.ListN.{length, take, drop, getD, length-take, length-drop}
 use Rattle.le.specs.Le.{put}
-use Rattle.rx_store.proofs.Laws.{share-before}
 use Rattle.slot.specs.declared.ids.RemoteId.{RemoteId}
 use Rattle.state.specs.declared.Header.{Header}
 use Rattle.state.specs.declared.PendingOpen.{PendingOpen}
@@ -18,25 +15,16 @@ use Rattle.state.proofs.StateLaws.{open-in, state-full}
 use Rattle.incoming.specs.declared.Front.the-variants.{Open, Nothing}
 use Rattle.incoming.specs.declared.Keep.the-variants.{All, Without}
 use Rattle.incoming.specs.declared.Pushed.the-variants.{Queued, Full}
-use Rattle.incoming.specs.Incoming.{freeShare, kept, withQueued, Retains, Outcome, Gives, withdrawal, noOpen, popped, Pushes, nextShare, pushed}
+use Rattle.incoming.specs.Incoming.{freeShare, kept, withQueued, Retains, Gives, withdrawal, noOpen, popped, Pushes, nextShare, pushed}
 use Rattle.incoming.proofs.KeptLaws.{kept-all}
-use Rattle.incoming.proofs.ShareLaws.{free-exists, free-unused}
-
--- ---- what the functions answer
-
--- the share of the next OPEN lies in the open store
-pub share-fits : (channels payload queued share : ℕ) (opens : List PendingOpen) → queued < channels → share ≡ freeShare channels (take queued opens)
-    → share * payload + payload ≤ channels * payload
-share-fits channels payload queued share opens h e =
-    let n : length (take queued opens) < channels = simp length-take (omega arith) in
-    let f = free-exists channels (take queued opens) n in
-    share-before share channels payload (omega arith)
 
 module _ (h : Header) (b : List ℕ) (remote : RemoteId) (credit : ℕ) (destination store : List ℕ) where
+  -- as many wait as there are channels: nothing changes
   pub push-full : h .negotiated .config .channels ≤ h .queued → Pushes (pushed h (stateOf b .opens) remote credit destination store) b Full b store
   unfolding pushed
   push-full k = rw (le-leb (h .negotiated .config .channels) (h .queued) k) (record { result-is = refl; state-is = refl; store-is = refl })
 
+  -- else the entry is put and the destination copied to its share
   pub push-queued : (share : ℕ) (x y : List ℕ) (m : Header) → h .queued < h .negotiated .config .channels
       → share ≡ freeShare (h .negotiated .config .channels) (take (h .queued) (stateOf b .opens))
       → x ≡ putOpen b (h .queued) (record { remote = remote; credit = credit; share = share; length = length destination })
@@ -47,16 +35,19 @@ module _ (h : Header) (b : List ℕ) (remote : RemoteId) (credit : ℕ) (destina
       rw (lt-leb (h .negotiated .config .channels) (h .queued) k, ← e) (record { result-is = ap Queued f; state-is = p; store-is = q })
 
 module _ (h : Header) (b : List ℕ) where
+  -- those that stay are at the front, and the header counts them
   pub withdraw-gives : (gone : RemoteId) (left : ℕ) (x : List ℕ) (m : Header)
       → Retains (kept (Without gone) (drop 0 (take (h .queued) (stateOf b .opens)))) b left x → m ≡ withQueued h left
       → Gives (withdrawal h (stateOf b .opens) gone) b m x
   unfolding withdrawal
   withdraw-gives gone left x m r f = record { result-is = f ∙ ap (withQueued h) (r .count-is); state-is = r .state-is }
 
+  -- none waits: nothing changes
   pub pop-nothing : h .queued ≡ 0 → Gives (popped h (stateOf b .opens)) b Nothing b
   unfolding popped
   pop-nothing e = rw (eq-eqb (h .queued) 0 e) (record { result-is = refl; state-is = refl })
 
+  -- else the first is answered and the others have moved up
   pub pop-gives : (front : PendingOpen) (left : ℕ) (x : List ℕ) (m : Header) → (h .queued ≡ 0 → ⊥) → h .queued ≤ 64 → front ≡ openAt b 0
       → Retains (kept All (drop 1 (take (h .queued) (stateOf b .opens)))) b left x → m ≡ withQueued h left
       → Gives (popped h (stateOf b .opens)) b (Open front m) x

@@ -1,3 +1,4 @@
 pub mod KeptLaws
 pub mod Laws
 pub mod ShareLaws
+pub mod WaitLaws

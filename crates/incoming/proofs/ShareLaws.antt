@@ -1,15 +1,15 @@
 -- Laws of shares: which ones are used, and that one is free while fewer OPENs wait than there are shares. Assumes nothing.
-use mathlib.Core.Path.{_≡_, refl, sym, ap, _∙_}
-use mathlib.Core.Bool.{Bool, true, false, cond, _||_}
+use mathlib.Core.Path.{_≡_, refl, _∙_}
+use mathlib.Core.Bool.{true, false, cond}
 use mathlib.Core.List.{List, [], _∷_}
-use Prim.Native.Nat.{ℕ, zero, suc, _+_, _-_, _≤_, _<_}
-use native.Mathlib.Nat.{zero-add}
+use Prim.Native.Nat.{ℕ, zero, suc, _+_, _-_, _*_, _≤_, _<_}
 use native.Mathlib.Numerals.{add-one}
 use native.Mathlib.Omega.{arith}
 use borrow.Author.Tests.{ltb-true, ltb-false, eqb-true, eqb-false, eq-eqb, ne-eqb}
 use lib.Dec.{eqb, ltb}
-use lib.ListN.{length, take, drop}
+use lib.ListN.{length, take, drop, length-take}
 use Rattle.le.proofs.Parts.{by-test}
+use Rattle.rx_store.proofs.Laws.{share-before}
 use Rattle.state.specs.declared.PendingOpen.{PendingOpen}
 use Rattle.state.specs.State.{stateOf, openAt}
 use Rattle.state.proofs.RowLaws.{walk-over, never}
@@ -29,12 +29,14 @@ module _ (k : ℕ) (b : List ℕ) (n i : ℕ) where
     unfolding named
     named-step e = rw (open-here b n i h m, ne-eqb (openAt b i .share) k e, add-one)
 
+  -- it is at its end: none uses the share
   pub named-end : n ≤ i → named k (drop i (take n (stateOf b .opens))) ≡ false
   unfolding named
   named-end h = rw (walk-over (stateOf b .opens) n i h)
 
 -- ---- the walk over the shares
 
+-- it starts at share 0
 pub free-start : (n : ℕ) (qs : List PendingOpen) → freeShare n qs ≡ freeFrom 0 (n - 0) qs
 unfolding freeShare
 free-start n qs = let e : n - 0 ≡ n = omega arith in rw e
@@ -49,6 +51,7 @@ module _ (k n : ℕ) (qs : List PendingOpen) where
   unfolding freeFrom
   free-stop h t = let e : n - k ≡ suc (n - (k + 1)) = omega arith in rw (e, t)
 
+  -- it is at its end: none is free
   pub free-end : n ≤ k → freeFrom k (n - k) qs ≡ k
   unfolding freeFrom
   free-end h = let e : n - k ≡ 0 = omega arith in rw e
@@ -133,3 +136,14 @@ free-from-unused k (suc n) qs h =
 pub free-unused : (n : ℕ) (qs : List PendingOpen) → freeShare n qs < n → named (freeShare n qs) qs ≡ false
 unfolding freeShare
 free-unused n qs h = free-from-unused 0 n qs (omega arith)
+
+-- while fewer wait than there are channels, the next share is one of the channels'
+pub next-below : (channels queued : ℕ) (opens : List PendingOpen) → queued < channels → freeShare channels (take queued opens) < channels
+next-below channels queued opens h = let n : length (take queued opens) < channels = simp length-take (omega arith) in free-exists channels (take queued opens) n
+
+-- and lies in the open store
+pub share-fits : (channels payload queued share : ℕ) (opens : List PendingOpen) → queued < channels → share ≡ freeShare channels (take queued opens)
+    → share * payload + payload ≤ channels * payload
+share-fits channels payload queued share opens h e =
+    let f = next-below channels queued opens h in
+    share-before share channels payload (omega arith)

@@ -116,7 +116,7 @@ popped h opens =
 -- ---- what push_back does
 
 -- what it asks for besides: an open store of a share for each channel, a destination that fits one
-pub record Room (h : Header) (state store destination : ℕ) : Type 0 where
+pub record PushRoom (h : Header) (state store destination : ℕ) : Type 0 where
   pub queue : QueueOk h state
   pub store-long : h .negotiated .config .channels * h .negotiated .config .«max_payload» ≤ store
   pub destination-fits : destination ≤ h .negotiated .config .«max_payload»

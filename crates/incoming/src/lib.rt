@@ -10,7 +10,7 @@ ghost use mathlib.Core.Path.{_≡_};
 ghost use Prim.Native.Nat.{_≤_};
 ghost use lib.ListN.{length, take, drop};
 ghost use Rattle.state.specs.State.{stateOf};
-ghost use Rattle.incoming.specs.Incoming.{named, freeShare, staysBy, kept, withQueued, Retains, QueueOk, Gives, withdrawal, popped, Room, Pushes, pushed};
+ghost use Rattle.incoming.specs.Incoming.{named, freeShare, staysBy, kept, withQueued, Retains, QueueOk, Gives, withdrawal, popped, PushRoom, Pushes, pushed};
 
 // Which of the waiting OPENs stay.
 pub enum Keep {
@@ -108,7 +108,7 @@ pub fn push_back(
     credit: u32,
     destination: &[u8],
 ) -> Pushed
-    requires { ⌜ Room h (length (now state)) (length (now store)) (length (now destination)) ⌝ }
+    requires { ⌜ PushRoom h (length (now state)) (length (now store)) (length (now destination)) ⌝ }
     ensures { λ r. ⌜ Pushes (pushed h (stateOf (now (state .entry)) .opens) remote credit (now (destination .entry)) (now (store .entry))) (now (state .entry)) r (now (state .exit)) (now (store .exit)) ⌝ }
 {
     let negotiated = h.negotiated;

@@ -17,7 +17,6 @@ use Rattle.slot.specs.declared.ChannelSlot.{ChannelSlot}
 use Rattle.slot.proofs.Laws.{cond-true, cond-false}
 use Rattle.slot.specs.Slot.{isOpening, isFailed, slotOk}
 use Rattle.state.specs.declared.Header.{Header}
-use Rattle.state.specs.declared.PendingOpen.{PendingOpen}
 use Rattle.state.specs.Rows.{rows, allIs}
 use Rattle.state.specs.State.{flagOf, stateOfTag, failedOfTag, slotOf, isTag, isSlot, openOf, headerOf, stateOf, isState, slotAt, openAt}
 use Rattle.state.specs.Valid.{filledOk, slotFine, slotsFine, rowFine, rowsFine, openFine, opensFine, waitingFine, headerFine, filledAt, HeaderOk, restWhole, whole, isWhole}

@@ -1,6 +1,7 @@
 use native.Mathlib.Omega.{arith}
 use Rattle.state.specs.State.{stateOf}
-use Rattle.incoming.proofs.Laws.{share-fits, push-full, push-queued}
+use Rattle.incoming.proofs.Laws.{push-full, push-queued}
+use Rattle.incoming.proofs.ShareLaws.{share-fits}
 use borrow.Author.Needs.{needs}
 use Rattle.incoming.proofs.push_back.Statement.{statement}
 use Rattle.incoming.proofs.push_back.Tie as tie
