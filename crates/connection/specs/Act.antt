@@ -65,4 +65,4 @@ tableOf h ss rx p payload = dispatchOf (policyOf (h .negotiated)) (h .negotiated
 
 unfoldable pub actOn : Header → List ChannelSlot → List PendingOpen → List ℕ → List ℕ → Packet → List ℕ → Acted
 actOn h ss opens rx store p payload =
-    actedBy h opens payload store (tableOf h ss rx p payload) (tableOf h ss rx p payload .step .outcome)
+    actedBy h opens payload store (tableOf h ss rx p payload) (tableOf h ss rx p payload .step .result)

@@ -9,13 +9,13 @@ use Rattle.le.specs.Le.{put}
 use Rattle.slot.specs.declared.ids.RemoteId.{RemoteId}
 use Rattle.state.specs.declared.Header.{Header}
 use Rattle.state.specs.declared.PendingOpen.{PendingOpen}
-use Rattle.state.specs.Change.{putOpens}
+use Rattle.state.specs.Change.{putOpens, Steps}
 use Rattle.state.specs.State.{stateOf, openAt, putOpen}
 use Rattle.state.proofs.StateLaws.{open-in, state-full}
 use Rattle.incoming.specs.declared.Front.the-variants.{Open, Nothing}
 use Rattle.incoming.specs.declared.Keep.the-variants.{All, Without}
 use Rattle.incoming.specs.declared.Pushed.the-variants.{Queued, Full}
-use Rattle.incoming.specs.Incoming.{freeShare, kept, withQueued, Retains, Gives, withdrawal, noOpen, popped, Pushes, nextShare, pushed}
+use Rattle.incoming.specs.Incoming.{freeShare, kept, withQueued, Retains, withdrawal, noOpen, popped, Pushes, nextShare, pushed}
 use Rattle.incoming.proofs.KeptLaws.{kept-all}
 
 module _ (h : Header) (b : List ℕ) (remote : RemoteId) (credit : ℕ) (destination store : List ℕ) where
@@ -38,19 +38,19 @@ module _ (h : Header) (b : List ℕ) where
   -- those that stay are at the front, and the header counts them
   pub withdraw-gives : (gone : RemoteId) (left : ℕ) (x : List ℕ) (m : Header)
       → Retains (kept (Without gone) (drop 0 (take (h .queued) (stateOf b .opens)))) b left x → m ≡ withQueued h left
-      → Gives (withdrawal h (stateOf b .opens) gone) b m x
+      → Steps (withdrawal h (stateOf b .opens) gone) b m x
   unfolding withdrawal
   withdraw-gives gone left x m r f = record { result-is = f ∙ ap (withQueued h) (r .count-is); state-is = r .state-is }
 
   -- none waits: nothing changes
-  pub pop-nothing : h .queued ≡ 0 → Gives (popped h (stateOf b .opens)) b Nothing b
+  pub pop-nothing : h .queued ≡ 0 → Steps (popped h (stateOf b .opens)) b Nothing b
   unfolding popped
   pop-nothing e = rw (eq-eqb (h .queued) 0 e) (record { result-is = refl; state-is = refl })
 
   -- else the first is answered and the others have moved up
   pub pop-gives : (front : PendingOpen) (left : ℕ) (x : List ℕ) (m : Header) → (h .queued ≡ 0 → ⊥) → h .queued ≤ 64 → front ≡ openAt b 0
       → Retains (kept All (drop 1 (take (h .queued) (stateOf b .opens)))) b left x → m ≡ withQueued h left
-      → Gives (popped h (stateOf b .opens)) b (Open front m) x
+      → Steps (popped h (stateOf b .opens)) b (Open front m) x
   unfolding popped
   pop-gives front left x m d k e r f =
       let qs = drop 1 (take (h .queued) (stateOf b .opens)) in

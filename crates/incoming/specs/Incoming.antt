@@ -10,7 +10,7 @@ use Rattle.le.specs.Le.{part, put}
 use Rattle.slot.specs.declared.ids.RemoteId.{RemoteId}
 use Rattle.state.specs.declared.Header.{Header}
 use Rattle.state.specs.declared.PendingOpen.{PendingOpen}
-use Rattle.state.specs.Change.{Change, openTo, opensTo, putOpens, putAll}
+use Rattle.state.specs.Change.{Change, openTo, opensTo, putOpens, putAll, Step}
 use Rattle.incoming.specs.declared.Front.{Front}
 use Rattle.incoming.specs.declared.Front.the-variants.{Open, Nothing}
 use Rattle.incoming.specs.declared.Keep.{Keep}
@@ -85,18 +85,8 @@ pub record QueueOk (h : Header) (state : ℕ) : Type 0 where
 abbrev pub withQueued : Header → ℕ → Header
 withQueued h n = record { negotiated = h .negotiated; «next_local» = h .«next_local»; waiting = h .waiting; queued = n }
 
--- an answer, and what changes in the state
-pub record Outcome (R : Type 0) : Type 0 where
-  pub result : R
-  pub changes : List Change
-
--- what both promise: the answer, and every byte of the state
-pub record Gives {R : Type 0} (o : Outcome R) (before : List ℕ) (r : R) (after : List ℕ) : Type 0 where
-  pub result-is : r ≡ o .result
-  pub state-is : after ≡ putAll before (o .changes)
-
 -- those of one remote number go, the others close up
-unfoldable pub withdrawal : Header → List PendingOpen → RemoteId → Outcome Header
+unfoldable pub withdrawal : Header → List PendingOpen → RemoteId → Step Header
 withdrawal h opens gone =
     record {
       result = withQueued h (length (kept (Without gone) (take (h .queued) opens)));
@@ -108,7 +98,7 @@ abbrev pub noOpen : PendingOpen
 noOpen = record { remote = record { 0 = 0 }; credit = 0; share = 0; length = 0 }
 
 -- the first goes, the others move up; nothing where none waits
-unfoldable pub popped : Header → List PendingOpen → Outcome Front
+unfoldable pub popped : Header → List PendingOpen → Step Front
 popped h opens =
     cond (eqb (h .queued) 0) (record { result = Nothing; changes = [] })
     (record { result = Open (getD opens 0 noOpen) (withQueued h (h .queued - 1)); changes = opensTo (drop 1 (take (h .queued) opens)) ∷ [] })

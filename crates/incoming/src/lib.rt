@@ -9,8 +9,9 @@ use state::put_open;
 ghost use mathlib.Core.Path.{_≡_};
 ghost use Prim.Native.Nat.{_≤_};
 ghost use lib.ListN.{length, take, drop};
+ghost use Rattle.state.specs.Change.{Steps};
 ghost use Rattle.state.specs.State.{stateOf};
-ghost use Rattle.incoming.specs.Incoming.{named, freeShare, staysBy, kept, withQueued, Retains, QueueOk, Gives, withdrawal, popped, PushRoom, Pushes, pushed};
+ghost use Rattle.incoming.specs.Incoming.{named, freeShare, staysBy, kept, withQueued, Retains, QueueOk, withdrawal, popped, PushRoom, Pushes, pushed};
 
 // Which of the waiting OPENs stay.
 pub enum Keep {
@@ -137,7 +138,7 @@ pub fn push_back(
 // Drops those of this remote number.
 pub fn withdraw(state: &mut [u8], h: Header, remote: RemoteId) -> Header
     requires { ⌜ QueueOk h (length (now state)) ⌝ }
-    ensures { λ r. ⌜ Gives (withdrawal h (stateOf (now (state .entry)) .opens) remote) (now (state .entry)) r (now (state .exit)) ⌝ }
+    ensures { λ r. ⌜ Steps (withdrawal h (stateOf (now (state .entry)) .opens) remote) (now (state .entry)) r (now (state .exit)) ⌝ }
 {
     let left = retain(state, 0, h.queued, Keep::Without(remote));
     with_queued(h, left)
@@ -146,7 +147,7 @@ pub fn withdraw(state: &mut [u8], h: Header, remote: RemoteId) -> Header
 // Takes the one that waited longest; its destination lies in the open store until the next push.
 pub fn pop_front(state: &mut [u8], h: Header) -> Front
     requires { ⌜ QueueOk h (length (now state)) ⌝ }
-    ensures { λ r. ⌜ Gives (popped h (stateOf (now (state .entry)) .opens)) (now (state .entry)) r (now (state .exit)) ⌝ }
+    ensures { λ r. ⌜ Steps (popped h (stateOf (now (state .entry)) .opens)) (now (state .entry)) r (now (state .exit)) ⌝ }
 {
     if h.queued == 0 {
         return Front::Nothing;

@@ -9,7 +9,7 @@ use Rattle.le.specs.Le.{Bytes}
 use Rattle.state.specs.declared.PendingOpen.{PendingOpen}
 use Rattle.state.specs.Rows.{flat}
 use Rattle.state.specs.State.{Connection, slotBytes, openBytes, headerBytes, layout, stateOf, isState}
-use Rattle.state.specs.Change.{Change, slotTo, headerTo, openTo, opensTo, changed, changedAll, putChange, putAll, putOpens, withOpens, Within}
+use Rattle.state.specs.Change.{Change, slotTo, headerTo, openTo, opensTo, changed, changedAll, putChange, putAll, putOpens, withOpens, Within, Step, Steps}
 use Rattle.state.proofs.Fields.{length-slot, length-open, length-header}
 use Rattle.state.proofs.RowLaws.{put-rows, length-flat, Every, every-set, every-append, every-drop}
 use Rattle.state.proofs.StateLaws.{Full, state-full, Fits, SlotFits, HeaderFits, OpenFits, state-split, state-forth, state-fits, put-slot-layout, put-header-layout, put-open-layout, layout-is-state}
@@ -83,3 +83,8 @@ next-state b xs r y g = state-forth (changedAll (stateOf b) xs) r (changes-fit (
 -- and its bytes are a state's
 pub next-is-state : (b : List ℕ) (xs : List Change) (r : List ℕ) → Every Within xs → isState (layout (changedAll (stateOf b) xs) ++ r) ≡ true
 next-is-state b xs r w = layout-is-state (changedAll (stateOf b) xs) r (full-all (stateOf b) xs (state-full b) w)
+
+-- a step's promise is that of a step that is the same
+pub steps-by : {R : Type 0} (d e : Step R) (r : R) (before after : List ℕ) → d ≡ e → Steps e before r after → Steps d before r after
+steps-by d e r before after h s =
+    record { result-is = s .result-is ∙ sym (ap (λ x. x .result) h); state-is = s .state-is ∙ sym (ap (λ x. putAll before (x .changes)) h) }

@@ -1,5 +1,6 @@
 -- What a step does to a state, once for the record and once for the bytes. Assumes nothing.
 use Prim.Native.Nat.{ℕ, _≤_, _<_}
+use mathlib.Core.Path.{_≡_}
 use mathlib.Core.List.{List, [], _∷_, _++_}
 use lib.ListN.{length, drop}
 use Rattle.le.specs.Le.{put}
@@ -52,3 +53,13 @@ Within (slotTo i s) = i < 64
 Within (headerTo h) = Unit {0}
 Within (openTo i q) = i < 64
 Within (opensTo qs) = length qs ≤ 64
+
+-- an answer, and what changes in the state
+pub record Step (R : Type 0) : Type 0 where
+  pub result : R
+  pub changes : List Change
+
+-- what a function promises that gives both: the answer, and every byte of the state
+pub record Steps {R : Type 0} (s : Step R) (before : List ℕ) (r : R) (after : List ℕ) : Type 0 where
+  pub result-is : r ≡ s .result
+  pub state-is : after ≡ putAll before (s .changes)

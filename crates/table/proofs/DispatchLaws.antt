@@ -29,7 +29,8 @@ use Rattle.slot.specs.declared.AckDecision.the-variants.{Now, Hold, Overflow, E
 use Rattle.slot.specs.declared.Wrote.{Wrote}
 use Rattle.slot.specs.Slot.{emptySlot, isOpening, isFailed, closedSlot, heldOf, wroteOf, SlotOk}
 use Rattle.slot.proofs.Laws.{cond-true, cond-false}
-use Rattle.state.specs.Change.{putAll}
+use Rattle.state.specs.Change.{putAll, Step, Steps}
+use Rattle.state.proofs.ChangeLaws.{steps-by}
 use Rattle.state.specs.State.{stateOf, slotAt, putSlot}
 use Rattle.state.proofs.RowLaws.{never}
 use Rattle.state.proofs.StateLaws.{slot-in, state-full}
@@ -37,7 +38,7 @@ use Rattle.table.specs.declared.DispatchOutcome.{DispatchOutcome}
 use Rattle.table.specs.declared.DispatchOutcome.the-variants.{AckWrite, DataBuffered, CreditGranted, SlotClosed, CancelPendingOpen, StrayReady, Unmatched}
 use Rattle.table.specs.declared.Want.the-variants.{Local, Remote}
 use Rattle.table.specs.Table.{first, wantedBy, placeOf}
-use Rattle.table.specs.Dispatch.{Step, left, stored, slotIn, faulted, remotePlace, closedAt, closeOf, readiedOf, granted, readyAt, strayOf, grantOf, Steps, Dispatched, with, shareOf, bufferedIn, wroteBy, wroteAt, writeOf, routeOf, dispatchOf, Dispatches}
+use Rattle.table.specs.Dispatch.{left, stored, slotIn, faulted, remotePlace, closedAt, closeOf, readiedOf, granted, readyAt, strayOf, grantOf, Dispatched, with, shareOf, bufferedIn, wroteBy, wroteAt, writeOf, routeOf, dispatchOf, Dispatches}
 
 pub slot-here : (b : List ℕ) (i : ℕ) → i < 64 → slotIn (stateOf b .slots) i ≡ slotAt b i
 unfolding slotIn
@@ -46,18 +47,12 @@ slot-here b i h = slot-in b i emptySlot h
 -- ---- a step's promise
 
 -- where nothing changes
-pub steps-left : (d : Step) (o : DispatchOutcome) (b : List ℕ) → d ≡ left o → Steps d o b b
-steps-left d o b e = record { outcome-is = sym (ap (λ (x : Step). x .outcome) e); state-is = sym (ap (λ (x : Step). putAll b (x .changes)) e) }
+pub steps-left : (d : Step DispatchOutcome) (o : DispatchOutcome) (b : List ℕ) → d ≡ left o → Steps d b o b
+steps-left d o b e = steps-by d (left o) o b b e (record { result-is = refl; state-is = refl })
 
 -- where one slot is stored
-pub steps-stored : (d : Step) (o : DispatchOutcome) (i : ℕ) (t : ChannelSlot) (b after : List ℕ) → d ≡ stored o i t → after ≡ putSlot b i t → Steps d o b after
-steps-stored d o i t b after e h =
-    record { outcome-is = sym (ap (λ (x : Step). x .outcome) e); state-is = h ∙ sym (ap (λ (x : Step). putAll b (x .changes)) e) }
-
--- a step that is another one
-pub steps-by : (d e : Step) (o : DispatchOutcome) (b after : List ℕ) → d ≡ e → Steps e o b after → Steps d o b after
-steps-by d e o b after h s =
-    record { outcome-is = s .outcome-is ∙ sym (ap (λ (x : Step). x .outcome) h); state-is = s .state-is ∙ sym (ap (λ (x : Step). putAll b (x .changes)) h) }
+pub steps-stored : (d : Step DispatchOutcome) (o : DispatchOutcome) (i : ℕ) (t : ChannelSlot) (b after : List ℕ) → d ≡ stored o i t → after ≡ putSlot b i t → Steps d b o after
+steps-stored d o i t b after e h = steps-by d (stored o i t) o b after e (record { result-is = refl; state-is = h })
 
 -- ---- CLSE
 
@@ -145,11 +140,11 @@ module _ (remote : RemoteId) (local : LocalId) where
 
 -- ---- WRTE
 
-pub dispatches : (d : Dispatched) (s : Step) (rx : List ℕ) (o : DispatchOutcome) (b after : List ℕ) → d ≡ with s rx → Steps s o b after → Dispatches d o b after rx
+pub dispatches : (d : Dispatched) (s : Step DispatchOutcome) (rx : List ℕ) (o : DispatchOutcome) (b after : List ℕ) → d ≡ with s rx → Steps s b o after → Dispatches d b o after rx
 dispatches d s rx o b after e f =
     record { steps = steps-by (d .step) s o b after (ap (λ (x : Dispatched). x .step) e) f; rx-is = sym (ap (λ (x : Dispatched). x .rx) e) }
 
-pub dispatches-by : (d e : Dispatched) (o : DispatchOutcome) (b after rx : List ℕ) → d ≡ e → Dispatches e o b after rx → Dispatches d o b after rx
+pub dispatches-by : (d e : Dispatched) (o : DispatchOutcome) (b after rx : List ℕ) → d ≡ e → Dispatches e b o after rx → Dispatches d b o after rx
 dispatches-by d e o b after rx h f = record { steps = steps-by (d .step) (e .step) o b after (ap (λ (x : Dispatched). x .step) h) (f .steps); rx-is = f .rx-is ∙ sym (ap (λ (x : Dispatched). x .rx) h) }
 
 -- whether the payload is buffered

@@ -23,25 +23,20 @@ use Rattle.slot.specs.declared.Readied.{Readied}
 use Rattle.slot.specs.declared.Readied.the-variants.{Slot, Short}
 use Rattle.slot.specs.declared.Wrote.{Wrote}
 use Rattle.slot.specs.Slot.{emptySlot, isOpening, isFailed, closedSlot, openedOf, readyOf, wroteOf, SlotOk}
-use Rattle.state.specs.Change.{Change, slotTo, putAll}
+use Rattle.state.specs.Change.{slotTo, Step, Steps}
 use Rattle.state.specs.State.{slotAt}
 use Rattle.table.specs.declared.DispatchOutcome.{DispatchOutcome}
 use Rattle.table.specs.declared.DispatchOutcome.the-variants.{AckWrite, CreditGranted, SlotClosed, DataBuffered, IncomingOpen, CancelPendingOpen, StrayReady, ChannelFault, Unmatched}
 use Rattle.table.specs.declared.Want.the-variants.{Local, Remote}
 use Rattle.table.specs.Table.{placeOf}
 
--- an answer, and what changes in the state
-pub record Step : Type 0 where
-  pub outcome : DispatchOutcome
-  pub changes : List Change
-
 -- nothing changes
-abbrev pub left : DispatchOutcome → Step
-left o = record { outcome = o; changes = [] }
+abbrev pub left : DispatchOutcome → Step DispatchOutcome
+left o = record { result = o; changes = [] }
 
 -- the slot at place i becomes s
-abbrev pub stored : DispatchOutcome → ℕ → ChannelSlot → Step
-stored o i s = record { outcome = o; changes = slotTo i s ∷ [] }
+abbrev pub stored : DispatchOutcome → ℕ → ChannelSlot → Step DispatchOutcome
+stored o i s = record { result = o; changes = slotTo i s ∷ [] }
 
 -- the slot at a place
 unfoldable pub slotIn : List ChannelSlot → ℕ → ChannelSlot
@@ -58,11 +53,11 @@ unfoldable pub remotePlace : ℕ → List ChannelSlot → RemoteId → ℕ
 remotePlace n ss remote = cond (eqb (remote .0) 0) n (placeOf (Remote remote) n ss)
 
 -- the slot at place i closed, or another answer where i is not below n
-unfoldable pub closedAt : ℕ → ℕ → List ChannelSlot → DispatchOutcome → Step
+unfoldable pub closedAt : ℕ → ℕ → List ChannelSlot → DispatchOutcome → Step DispatchOutcome
 closedAt i n ss other = cond (ltb i n) (stored (SlotClosed i) i (closedSlot (slotIn ss i))) (left other)
 
 -- by the device's number where ours is left out, and then a waiting open is withdrawn where it names no slot; else by ours
-unfoldable pub closeOf : ℕ → List ChannelSlot → RemoteId → LocalId → Step
+unfoldable pub closeOf : ℕ → List ChannelSlot → RemoteId → LocalId → Step DispatchOutcome
 closeOf n ss remote local =
     cond (eqb (local .0) 0) (closedAt (remotePlace n ss remote) n ss (CancelPendingOpen remote))
     (closedAt (placeOf (Local local) n ss) n ss Unmatched)
@@ -74,19 +69,19 @@ unfoldable pub readiedOf : ChannelSlot → RemoteId → List ℕ → RxPolicy �
 readiedOf s remote payload p = cond (isOpening (s .state)) (openedOf s remote payload p) (readyOf s payload p)
 
 -- the slot with its credit, or 5
-unfoldable pub granted : ℕ → ChannelSlot → RemoteId → Readied → Step
+unfoldable pub granted : ℕ → ChannelSlot → RemoteId → Readied → Step DispatchOutcome
 granted i s remote (Slot t) = stored (CreditGranted i) i t
 granted i s remote Short = left (faulted i s remote ShortReadyPayload)
 
 -- for slot i, unless it failed
-unfoldable pub readyAt : RxPolicy → ℕ → ChannelSlot → RemoteId → List ℕ → Step
+unfoldable pub readyAt : RxPolicy → ℕ → ChannelSlot → RemoteId → List ℕ → Step DispatchOutcome
 readyAt p i s remote payload = cond (isFailed (s .failed)) (left Unmatched) (granted i s remote (readiedOf s remote payload p))
 
 -- for no slot: with neither number 0 it is to be closed
 unfoldable pub strayOf : RemoteId → LocalId → DispatchOutcome
 strayOf remote local = cond (eqb (remote .0) 0) Unmatched (cond (eqb (local .0) 0) Unmatched (StrayReady (record { local = local; remote = remote })))
 
-unfoldable pub grantOf : RxPolicy → ℕ → List ChannelSlot → RemoteId → LocalId → List ℕ → Step
+unfoldable pub grantOf : RxPolicy → ℕ → List ChannelSlot → RemoteId → LocalId → List ℕ → Step DispatchOutcome
 grantOf p n ss remote local payload =
     cond (ltb (placeOf (Local local) n ss) n)
     (readyAt p (placeOf (Local local) n ss) (slotIn ss (placeOf (Local local) n ss)) remote payload)
@@ -96,10 +91,10 @@ grantOf p n ss remote local payload =
 
 -- the step, and the receive store after it
 pub record Dispatched : Type 0 where
-  pub step : Step
+  pub step : Step DispatchOutcome
   pub rx : List ℕ
 
-abbrev pub with : Step → List ℕ → Dispatched
+abbrev pub with : Step DispatchOutcome → List ℕ → Dispatched
 with s rx = record { step = s; rx = rx }
 
 -- slot i's share of the receive store: 2 × cap bytes
@@ -149,14 +144,9 @@ dispatchOf p n ss k payload rx = routeOf p n ss (k .command) (k .arg0) (k .arg1)
 
 -- ---- promises
 
--- the answer, and every byte of the state
-pub record Steps (s : Step) (r : DispatchOutcome) (b after : List ℕ) : Type 0 where
-  pub outcome-is : r ≡ s .outcome
-  pub state-is : after ≡ putAll b (s .changes)
-
--- and every byte of the receive store
-pub record Dispatches (d : Dispatched) (r : DispatchOutcome) (b after rx : List ℕ) : Type 0 where
-  pub steps : Steps (d .step) r b after
+-- a step's, and every byte of the receive store
+pub record Dispatches (d : Dispatched) (before : List ℕ) (r : DispatchOutcome) (after rx : List ℕ) : Type 0 where
+  pub steps : Steps (d .step) before r after
   pub rx-is : rx ≡ d .rx
 
 -- slots below n can be walked

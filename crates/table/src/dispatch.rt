@@ -19,8 +19,9 @@ ghost use mathlib.Core.Path.{_≡_};
 ghost use Prim.Native.Nat.{_+_, _*_, _≤_, _<_};
 ghost use lib.ListN.{length};
 ghost use Rattle.rx_store.specs.RxStore.{Room};
+ghost use Rattle.state.specs.Change.{Steps};
 ghost use Rattle.state.specs.State.{stateOf, slotAt};
-ghost use Rattle.table.specs.Dispatch.{faulted, remotePlace, closedAt, closeOf, readiedOf, readyAt, strayOf, grantOf, bufferedIn, wroteAt, writeOf, dispatchOf, Steps, Dispatches, Walks, Share, Sound};
+ghost use Rattle.table.specs.Dispatch.{faulted, remotePlace, closedAt, closeOf, readiedOf, readyAt, strayOf, grantOf, bufferedIn, wroteAt, writeOf, dispatchOf, Dispatches, Walks, Share, Sound};
 
 // What went wrong on a slot.
 fn fault(i: usize, s: ChannelSlot, remote: RemoteId, fault: ChannelFault) -> DispatchOutcome
@@ -45,7 +46,7 @@ fn remote_place(state: &[u8], n: usize, remote: RemoteId) -> usize
 // Closes the slot at place i, if that is one of n.
 fn close_at(state: &mut [u8], i: usize, n: usize, other: DispatchOutcome) -> DispatchOutcome
     requires { ⌜ Walks (now state) n ⌝ }
-    ensures { λ r. ⌜ Steps (closedAt i n (stateOf (now (state .entry)) .slots) other) r (now (state .entry)) (now (state .exit)) ⌝ }
+    ensures { λ r. ⌜ Steps (closedAt i n (stateOf (now (state .entry)) .slots) other) (now (state .entry)) r (now (state .exit)) ⌝ }
 {
     if i < n {
         let s = slot_at(state, i);
@@ -58,7 +59,7 @@ fn close_at(state: &mut [u8], i: usize, n: usize, other: DispatchOutcome) -> Dis
 // A CLSE.
 fn close(state: &mut [u8], n: usize, remote: RemoteId, local: LocalId) -> DispatchOutcome
     requires { ⌜ Walks (now state) n ⌝ }
-    ensures { λ r. ⌜ Steps (closeOf n (stateOf (now (state .entry)) .slots) remote local) r (now (state .entry)) (now (state .exit)) ⌝ }
+    ensures { λ r. ⌜ Steps (closeOf n (stateOf (now (state .entry)) .slots) remote local) (now (state .entry)) r (now (state .exit)) ⌝ }
 {
     if local.0 == 0 {
         let i = remote_place(state, n, remote);
@@ -88,7 +89,7 @@ fn ready_at(
     policy: RxPolicy,
 ) -> DispatchOutcome
     requires { ⌜ Walks (now state) (i + 1) ⌝ }
-    ensures { λ r. ⌜ Steps (readyAt policy i (slotAt (now (state .entry)) i) remote (now (payload .entry))) r (now (state .entry)) (now (state .exit)) ⌝ }
+    ensures { λ r. ⌜ Steps (readyAt policy i (slotAt (now (state .entry)) i) remote (now (payload .entry))) (now (state .entry)) r (now (state .exit)) ⌝ }
 {
     let s = slot_at(state, i);
     if s.is_failed() {
@@ -127,7 +128,7 @@ fn ready(
     policy: RxPolicy,
 ) -> DispatchOutcome
     requires { ⌜ Walks (now state) n ⌝ }
-    ensures { λ r. ⌜ Steps (grantOf policy n (stateOf (now (state .entry)) .slots) remote local (now (payload .entry))) r (now (state .entry)) (now (state .exit)) ⌝ }
+    ensures { λ r. ⌜ Steps (grantOf policy n (stateOf (now (state .entry)) .slots) remote local (now (payload .entry))) (now (state .entry)) r (now (state .exit)) ⌝ }
 {
     let i = place_below(state, n, Want::Local(local));
     if i < n {
@@ -157,7 +158,7 @@ fn write_at(
     policy: RxPolicy,
 ) -> DispatchOutcome
     requires { ⌜ Share (now state) (now rx) i (policy .«rx_cap») ⌝ }
-    ensures { λ r. ⌜ Dispatches (wroteAt policy i (slotAt (now (state .entry)) i) remote (now (payload .entry)) (now (rx .entry))) r (now (state .entry)) (now (state .exit)) (now (rx .exit)) ⌝ }
+    ensures { λ r. ⌜ Dispatches (wroteAt policy i (slotAt (now (state .entry)) i) remote (now (payload .entry)) (now (rx .entry))) (now (state .entry)) r (now (state .exit)) (now (rx .exit)) ⌝ }
 {
     let s = slot_at(state, i);
     if s.is_failed() {
@@ -195,7 +196,7 @@ fn write(
     policy: RxPolicy,
 ) -> DispatchOutcome
     requires { ⌜ Sound (now state) (now rx) n (policy .«rx_cap») ⌝ }
-    ensures { λ r. ⌜ Dispatches (writeOf policy n (stateOf (now (state .entry)) .slots) remote local (now (payload .entry)) (now (rx .entry))) r (now (state .entry)) (now (state .exit)) (now (rx .exit)) ⌝ }
+    ensures { λ r. ⌜ Dispatches (writeOf policy n (stateOf (now (state .entry)) .slots) remote local (now (payload .entry)) (now (rx .entry))) (now (state .entry)) r (now (state .exit)) (now (rx .exit)) ⌝ }
 {
     let i = place_below(state, n, Want::Local(local));
     if i < n {
@@ -214,7 +215,7 @@ pub fn dispatch(
     payload: &[u8],
 ) -> DispatchOutcome
     requires { ⌜ Sound (now state) (now rx) n (policy .«rx_cap») ⌝ }
-    ensures { λ r. ⌜ Dispatches (dispatchOf policy n (stateOf (now (state .entry)) .slots) packet (now (payload .entry)) (now (rx .entry))) r (now (state .entry)) (now (state .exit)) (now (rx .exit)) ⌝ }
+    ensures { λ r. ⌜ Dispatches (dispatchOf policy n (stateOf (now (state .entry)) .slots) packet (now (payload .entry)) (now (rx .entry))) (now (state .entry)) r (now (state .exit)) (now (rx .exit)) ⌝ }
 {
     let command = packet.command;
     let remote = RemoteId(packet.arg0);

@@ -1,4 +1,5 @@
-use Rattle.table.proofs.DispatchLaws.{steps-by, close-remote, close-local}
+use Rattle.state.proofs.ChangeLaws.{steps-by}
+use Rattle.table.proofs.DispatchLaws.{close-remote, close-local}
 use Rattle.state.specs.State.{stateOf}
 use native.Mathlib.Omega.{arith}
 use borrow.Author.Needs.{needs}

@@ -1,4 +1,5 @@
-use Rattle.table.proofs.DispatchLaws.{steps-by, steps-left, grant-here, grant-none}
+use Rattle.state.proofs.ChangeLaws.{steps-by}
+use Rattle.table.proofs.DispatchLaws.{steps-left, grant-here, grant-none}
 use Rattle.state.specs.State.{stateOf}
 use native.Mathlib.Omega.{arith}
 use borrow.Author.Needs.{needs}
