@@ -6,14 +6,17 @@ use mathlib.Core.List.{List, [], _∷_, _++_}
 use lib.ListN.{take}
 use Rattle.le.specs.Le.{bytesOf}
 use Rattle.protocol.specs.declared.checksum.Checksum.the-variants.{Compute, Skip}
-use Rattle.protocol.specs.declared.command.Command.the-variants.{Ready, Write}
+use Rattle.protocol.specs.declared.command.Command.the-variants.{Ready, Close, Write}
 use Rattle.protocol.specs.declared.packet.Decoded.{Decoded}
 use Rattle.protocol.specs.Checksum.{checkFor}
 use Rattle.protocol.specs.Features.{hasFeature}
-use Rattle.protocol.specs.Packet.{decodeOf, numberOf, usedOf, frameBytes}
+use Rattle.protocol.specs.Packet.{decodeOf, numberOf as decodedNumber, usedOf, frameBytes}
 use Rattle.config.specs.declared.ConnectionConfig.{ConnectionConfig}
 use Rattle.config.specs.declared.negotiated.RxPolicy.{RxPolicy}
 use Rattle.config.specs.Config.{capOf, ceilingOf, watermarkOf, openingCredit}
+use Rattle.config.specs.Negotiated.{negotiatedOf}
+use Rattle.connection.specs.Answer.{numberOf}
+use Rattle.connection.specs.Calls.{Outcome, dispatchStep}
 use Rattle.slot.specs.declared.ChannelSlot.{ChannelSlot}
 use Rattle.slot.specs.declared.Credit.{Credit}
 use Rattle.slot.specs.declared.Credit.the-variants.{Of, Short}
@@ -26,7 +29,11 @@ use Rattle.slot.specs.declared.Taken.{Taken}
 use Rattle.slot.specs.declared.Taken.the-variants.{Data, Nothing as NothingTaken, Closed as ClosedTaken}
 use Rattle.slot.specs.declared.Wrote.{Wrote}
 use Rattle.slot.specs.Numbers.{creditNumber, readiedNumber, decisionNumber, takenNumber}
-use Rattle.slot.specs.Slot.{creditOf, acceptedSlot, readyOf, wroteOf, settledOf, takenOf}
+use Rattle.slot.specs.Slot.{creditOf, acceptedSlot, isClosed, readyOf, wroteOf, settledOf, takenOf}
+use Rattle.state.specs.declared.PendingOpen.{PendingOpen}
+use Rattle.state.specs.Change.{changedAll}
+use Rattle.state.specs.State.{Connection}
+use Rattle.table.specs.Dispatch.{slotIn}
 use Rattle.table.specs.Table.{nextLocal}
 
 -- a row: the case, what the definitions give, and what the document says
@@ -40,7 +47,7 @@ row m g s = record { mark = m; given = g; said = s }
 
 -- an answer as numbers: its own, and the bytes used
 abbrev answer : Decoded → List ℕ
-answer d = numberOf d ∷ usedOf d ∷ []
+answer d = decodedNumber d ∷ usedOf d ∷ []
 
 -- waiting, used 0
 abbrev waiting : List ℕ
@@ -128,6 +135,38 @@ took (Data s n) = takenNumber (Data s n) ∷ n ∷ s .settled ∷ []
 took NothingTaken = takenNumber NothingTaken ∷ []
 took (ClosedTaken e) = takenNumber (ClosedTaken e) ∷ []
 
+-- M9: a channel whose remote number is 0, and two opens that wait, one of remote number 0
+abbrev waits : ℕ → PendingOpen
+waits remote = record { remote = record { 0 = remote }; credit = 0; share = remote; length = 0 }
+
+abbrev zeros : Connection
+zeros =
+    record {
+      header =
+          record {
+            negotiated = negotiatedOf true true 0x0100_0001 4096 (record { channels = 2; «max_payload» = 4096; «max_rx_per_channel» = 16384; «initial_ack_bytes» = 32768 });
+            «next_local» = 2;
+            waiting = record { on = false; slot = 0; local = record { 0 = 0 } };
+            queued = 2;
+          };
+      slots = acceptedSlot (record { local = record { 0 = 1 }; remote = record { 0 = 0 } }) 0 ten ∷ [];
+      opens = waits 0 ∷ waits 1 ∷ [];
+    }
+
+-- CLSE 0, 0 dispatched
+abbrev clse : Outcome
+clse = dispatchStep (record { state = zeros; rx = []; store = [] }) (frameBytes Close 0 0 [] 0)
+
+-- its answer's number, the bytes used, whether slot 0 is closed, and the remote numbers that wait
+abbrev remotes : List PendingOpen → List ℕ
+remotes [] = []
+remotes (q ∷ qs) = q .remote .0 ∷ remotes qs
+
+abbrev withdrew : Connection → Outcome → List ℕ
+withdrew c o =
+    numberOf (o .answer) ∷ o .used ∷ flag (isClosed (slotIn (changedAll c (o .changes) .slots) 0 .state))
+    ++ remotes (take (changedAll c (o .changes) .header .queued) (changedAll c (o .changes) .opens))
+
 unfoldable pub table : List Row
 table =
     row 1 (answer (decodeOf (take 23 (okay 0)) 4096)) waiting
@@ -148,5 +187,6 @@ table =
     ∷ row 8 (wrote (wroteOf (four .slot) ten 9)) (11 ∷ 2 ∷ [])
     ∷ row 8 (wrote (wroteOf (four .slot) ten 8)) (0 ∷ 10 ∷ [])
     ∷ row 8 (took (takenOf (wroteOf (four .slot) ten 8 .slot) 3)) (0 ∷ 3 ∷ 1 ∷ [])
+    ∷ row 9 (withdrew zeros clse) (0 ∷ 24 ∷ flag false ++ 1 ∷ [])
     ∷ row 10 (flag (hasFeature identity (98 ∷ []))) (flag true)
     ∷ []

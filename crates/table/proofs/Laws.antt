@@ -1,16 +1,16 @@
 -- Laws of the channel table. Assumes nothing.
 use mathlib.Core.Path.{_≡_, sym}
 use mathlib.Core.Bool.{Bool, true, false, cond}
-use mathlib.Core.List.{List, [], _∷_}
+use mathlib.Core.List.{List, _∷_}
 use Prim.Native.Nat.{ℕ, suc, _+_, _≤_, _<_}
 use native.Mathlib.Numerals.{add-one}
 use native.Mathlib.Omega.{arith}
 use borrow.Author.Tests.{lt-ltb, le-ltb}
-use lib.ListN.{length, take, drop, length-take, drop-of-length-le}
+use lib.ListN.{take, drop}
 use Rattle.slot.specs.declared.ChannelSlot.{ChannelSlot}
 use Rattle.state.specs.declared.Header.{Header}
 use Rattle.state.specs.State.{stateOf, slotAt}
-use Rattle.state.proofs.RowLaws.{walk-here}
+use Rattle.state.proofs.RowLaws.{walk-here, walk-over}
 use Rattle.state.proofs.StateLaws.{slot-in, state-full}
 use Rattle.table.specs.declared.Allocated.the-variants.{Channel, NoFree}
 use Rattle.table.specs.declared.Want.the-variants.{Empty}
@@ -43,18 +43,13 @@ module _ (p : ChannelSlot → Bool) (b : List ℕ) (n i : ℕ) where
     unfolding countOf
     count-step = rw (here, add-one)
 
-  walk-over : n ≤ i → drop i (take n (stateOf b .slots)) ≡ []
-  walk-over h =
-      let m : length (take n (stateOf b .slots)) ≤ i = simp length-take (omega arith) in
-      drop-of-length-le (take n (stateOf b .slots)) m
-
   pub count-end : n ≤ i → countOf p (drop i (take n (stateOf b .slots))) ≡ 0
   unfolding countOf
-  count-end h = rw (walk-over h)
+  count-end h = rw (walk-over (stateOf b .slots) n i h)
 
   pub walk-end : n ≤ i → i + first p (drop i (take n (stateOf b .slots))) ≡ i
   unfolding first
-  walk-end h = rw (walk-over h) (omega arith)
+  walk-end h = rw (walk-over (stateOf b .slots) n i h) (omega arith)
 
 -- an empty place below channels is taken, else there is none
 module _ (h : Header) (ss : List ChannelSlot) (i : ℕ) (e : i ≡ placeOf Empty (h .negotiated .config .channels) ss) where

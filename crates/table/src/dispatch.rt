@@ -9,10 +9,10 @@ use slot::AckDecision;
 use slot::ChannelFault;
 use slot::ChannelSlot;
 use slot::Readied;
-use slot::is_opening;
 use slot::ids::ChannelIds;
 use slot::ids::LocalId;
 use slot::ids::RemoteId;
+use slot::is_opening;
 use state::put_slot;
 use state::slot_at;
 ghost use mathlib.Core.Path.{_≡_};
@@ -180,7 +180,14 @@ fn write_at(
             put_slot(state, i, t);
             let local = s.local;
             let known = s.remote;
-            DispatchOutcome::AckWrite(i, ChannelIds { local, remote: known }, len)
+            DispatchOutcome::AckWrite(
+                i,
+                ChannelIds {
+                    local,
+                    remote: known,
+                },
+                len,
+            )
         }
     }
 }
