@@ -1,0 +1,3 @@
+pub mod Book
+pub mod Demand3
+pub mod Run
