@@ -151,7 +151,16 @@ module _ (p : RxPolicy) (credit : ℕ) (s : ChannelSlot) (q : List ℕ) (b : Boo
   settle-none h =
       let k = carried-none p in
       record {
-        filled = g .filled; known = g .known; there = g .there; loc = g .loc; rem = g .rem; opened = g .opened; run = g .run; stream = g .stream; ends = g .ends; kept = g .kept;
+        filled = g .filled;
+        known = g .known;
+        there = g .there;
+        loc = g .loc;
+        rem = g .rem;
+        opened = g .opened;
+        run = g .run;
+        stream = g .stream;
+        ends = g .ends;
+        kept = g .kept;
         nums = let m = g .nums in record { all = m .all; inside = m .inside; room = m .room; within = m .within; counted = m .counted; acks = omega arith };
         owed = λ d c. let o = g .owed d c in let z = h d c in record { same = omega arith; held = o .held; low = omega arith; high = omega arith };
       }
@@ -162,13 +171,26 @@ module _ (p : RxPolicy) (credit : ℕ) (s : ChannelSlot) (q : List ℕ) (b : Boo
   settle-some k z f =
       let m = g .nums in
       record {
-        filled = g .filled; known = g .known; there = g .there; loc = g .loc; rem = g .rem; opened = g .opened; run = g .run; stream = g .stream; ends = g .ends; kept = g .kept;
+        filled = g .filled;
+        known = g .known;
+        there = g .there;
+        loc = g .loc;
+        rem = g .rem;
+        opened = g .opened;
+        run = g .run;
+        stream = g .stream;
+        ends = g .ends;
+        kept = g .kept;
         nums =
             record {
-              all = m .all; inside = omega arith; room = omega arith; within = omega arith; counted = m .counted;
+              all = m .all;
+              inside = omega arith;
+              room = omega arith;
+              within = omega arith;
+              counted = m .counted;
               acks = by-test (p .delayed)
-              (λ d. let e = f d in let y = carried-delayed p (Len k) d in omega arith)
-              (λ d. let y = carried-plain p (Len k) d in omega arith);
+                  (λ d. let e = f d in let y = carried-delayed p (Len k) d in omega arith)
+                  (λ d. let y = carried-plain p (Len k) d in omega arith);
             };
         owed = λ d c.
             let o = g .owed d c in
@@ -207,7 +229,14 @@ module _ (p : RxPolicy) (credit : ℕ) (s : ChannelSlot) (q : List ℕ) (b : Boo
       let ld = length-drop n q in
       let la = length-append (b .handed) (take n q) in
       record {
-        filled = g .filled; known = g .known; there = g .there; loc = g .loc; rem = g .rem; opened = g .opened; ends = g .ends; kept = g .kept;
+        filled = g .filled;
+        known = g .known;
+        there = g .there;
+        loc = g .loc;
+        rem = g .rem;
+        opened = g .opened;
+        ends = g .ends;
+        kept = g .kept;
         run = omega arith;
         stream = append-assoc (b .handed) (take n q) (drop n q) ∙ ap (λ (x : List ℕ). b .handed ++ x) (take-append-drop n q) ∙ g .stream;
         nums = record { all = omega arith; inside = omega arith; room = omega arith; within = omega arith; counted = m .counted; acks = omega arith };
@@ -221,7 +250,15 @@ module _ (p : RxPolicy) (credit : ℕ) (s : ChannelSlot) (q : List ℕ) (b : Boo
       let l = ap length e in
       let m = g .nums in
       record {
-        filled = g .filled; known = g .known; there = g .there; loc = g .loc; rem = g .rem; opened = g .opened; run = g .run; ends = g .ends; kept = g .kept;
+        filled = g .filled;
+        known = g .known;
+        there = g .there;
+        loc = g .loc;
+        rem = g .rem;
+        opened = g .opened;
+        run = g .run;
+        ends = g .ends;
+        kept = g .kept;
         stream = ap (λ (x : List ℕ). x ++ q) e ∙ g .stream;
         nums = record { all = omega arith; inside = m .inside; room = m .room; within = m .within; counted = m .counted; acks = omega arith };
         owed = λ d c. let o = g .owed d c in record { same = omega arith; held = o .held; low = o .low; high = o .high };
@@ -232,7 +269,16 @@ module _ (p : RxPolicy) (credit : ℕ) (s : ChannelSlot) (q : List ℕ) (b : Boo
   acked-none k z =
       let m = g .nums in
       record {
-        filled = g .filled; known = g .known; there = g .there; loc = g .loc; rem = g .rem; opened = g .opened; run = g .run; stream = g .stream; ends = g .ends; kept = g .kept;
+        filled = g .filled;
+        known = g .known;
+        there = g .there;
+        loc = g .loc;
+        rem = g .rem;
+        opened = g .opened;
+        run = g .run;
+        stream = g .stream;
+        ends = g .ends;
+        kept = g .kept;
         nums = record { all = m .all; inside = m .inside; room = m .room; within = m .within; counted = m .counted; acks = omega arith };
         owed = λ d c. let o = g .owed d c in record { same = o .same; held = o .held; low = omega arith; high = omega arith };
       }
@@ -242,7 +288,16 @@ module _ (p : RxPolicy) (credit : ℕ) (s : ChannelSlot) (q : List ℕ) (b : Boo
   sent-good before n =
       let m = g .nums in
       record {
-        filled = g .filled; known = g .known; there = g .there; loc = g .loc; rem = g .rem; opened = g .opened; run = g .run; stream = g .stream; ends = g .ends; owed = g .owed;
+        filled = g .filled;
+        known = g .known;
+        there = g .there;
+        loc = g .loc;
+        rem = g .rem;
+        opened = g .opened;
+        run = g .run;
+        stream = g .stream;
+        ends = g .ends;
+        owed = g .owed;
         nums = record { all = m .all; inside = m .inside; room = m .room; within = m .within; counted = omega arith; acks = m .acks };
         kept = λ d k. g .kept d (and-true (b .kept) (ltb (b .sent) (b .opening + before)) k .0);
       }
@@ -251,7 +306,17 @@ module _ (p : RxPolicy) (credit : ℕ) (s : ChannelSlot) (q : List ℕ) (b : Boo
   pub quiet-good : Good p credit s q (overB false b)
   quiet-good =
       record {
-        filled = g .filled; known = g .known; there = g .there; loc = g .loc; rem = g .rem; opened = g .opened; run = g .run; stream = g .stream; ends = g .ends; owed = g .owed; nums = g .nums;
+        filled = g .filled;
+        known = g .known;
+        there = g .there;
+        loc = g .loc;
+        rem = g .rem;
+        opened = g .opened;
+        run = g .run;
+        stream = g .stream;
+        ends = g .ends;
+        owed = g .owed;
+        nums = g .nums;
         kept = λ d k. ap (λ (x : Bool). x || false) (g .kept d k);
       }
 
@@ -261,7 +326,16 @@ module _ (p : RxPolicy) (credit : ℕ) (s : ChannelSlot) (q : List ℕ) (b : Boo
   refuse-good before n most lim hb hn h =
       let m = g .nums in
       record {
-        filled = g .filled; known = g .known; there = g .there; loc = g .loc; rem = g .rem; opened = g .opened; run = g .run; stream = g .stream; ends = g .ends; owed = g .owed;
+        filled = g .filled;
+        known = g .known;
+        there = g .there;
+        loc = g .loc;
+        rem = g .rem;
+        opened = g .opened;
+        run = g .run;
+        stream = g .stream;
+        ends = g .ends;
+        owed = g .owed;
         nums = record { all = m .all; inside = m .inside; room = m .room; within = m .within; counted = omega arith; acks = m .acks };
         kept = λ d k.
             let r : b .sent < b .opening + before = ltb-true (b .sent) (b .opening + before) (and-true (b .kept) (ltb (b .sent) (b .opening + before)) k .1) in
@@ -275,7 +349,16 @@ module _ (p : RxPolicy) (credit : ℕ) (s : ChannelSlot) (q : List ℕ) (b : Boo
   unfolding closedSlot isClosed
   shut-good =
       record {
-        filled = g .filled; known = g .known; there = g .there; loc = g .loc; rem = g .rem; opened = g .opened; run = g .run; stream = g .stream; nums = g .nums; kept = g .kept;
+        filled = g .filled;
+        known = g .known;
+        there = g .there;
+        loc = g .loc;
+        rem = g .rem;
+        opened = g .opened;
+        run = g .run;
+        stream = g .stream;
+        nums = g .nums;
+        kept = g .kept;
         ends = refl;
         owed = λ d c. let z : true ≡ false = c in absurd (true≢false z);
       }
@@ -295,7 +378,13 @@ module _ (p : RxPolicy) (credit : ℕ) (s : ChannelSlot) (q : List ℕ) (b : Boo
         let l1 = length-append q body in
         let l2 = length-append (b .accepted) body in
         record {
-          filled = g .filled; known = g .known; there = g .there; loc = g .loc; rem = g .rem; opened = g .opened; ends = g .ends;
+          filled = g .filled;
+          known = g .known;
+          there = g .there;
+          loc = g .loc;
+          rem = g .rem;
+          opened = g .opened;
+          ends = g .ends;
           run = omega arith;
           stream = sym (append-assoc (b .handed) q body) ∙ ap (λ (x : List ℕ). x ++ body) (g .stream);
           nums = record { all = omega arith; inside = omega arith; room = omega arith; within = m .within; counted = omega arith; acks = m .acks };
@@ -329,7 +418,14 @@ module _ (p : RxPolicy) (credit : ℕ) (s : ChannelSlot) (q : List ℕ) (b : Boo
         let l2 = length-append (b .accepted) body in
         let e : b .handed ≡ b .accepted = sym (append-nil (b .handed)) ∙ ap (λ (x : List ℕ). b .handed ++ x) (sym nil) ∙ g .stream in
         record {
-          filled = g .filled; known = g .known; there = g .there; loc = g .loc; rem = g .rem; opened = g .opened; ends = g .ends; run = g .run;
+          filled = g .filled;
+          known = g .known;
+          there = g .there;
+          loc = g .loc;
+          rem = g .rem;
+          opened = g .opened;
+          ends = g .ends;
+          run = g .run;
           stream = ap (λ (x : List ℕ). b .handed ++ body ++ x) nil ∙ append-nil (b .handed ++ body) ∙ ap (λ (x : List ℕ). x ++ body) e;
           nums = record { all = omega arith; inside = m .inside; room = m .room; within = m .within; counted = omega arith; acks = omega arith };
           kept = λ d x. g .kept d (and-true (b .kept) (ltb (b .sent) (b .opening + before)) x .0);
@@ -369,7 +465,15 @@ new-numbers : (p : RxPolicy) (credit asked : ℕ) (s : ChannelSlot) (l r : ℕ) 
     → l ≡ s .local .0 → r ≡ s .remote .0 → 0 ≡ s .buffered → 0 ≡ s .settled → 0 ≡ s .unacked → false ≡ isClosed (s .state) → Good p credit s [] (newBook l r asked)
 new-numbers p credit asked s l r h f k e1 e2 e3 e4 e5 e6 =
     record {
-      filled = f; known = k; there = refl; loc = e1; rem = e2; opened = h; run = e3; stream = refl; ends = e6;
+      filled = f;
+      known = k;
+      there = refl;
+      loc = e1;
+      rem = e2;
+      opened = h;
+      run = e3;
+      stream = refl;
+      ends = e6;
       nums = record { all = omega arith; inside = omega arith; room = omega arith; within = omega arith; counted = omega arith; acks = omega arith };
       owed = λ d c. record { same = e4; held = omega arith; low = omega arith; high = omega arith };
       kept = λ d x. refl;
