@@ -1,2 +1,3 @@
+pub mod Acts
 pub mod Good
 pub mod Places
