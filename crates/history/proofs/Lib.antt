@@ -1,3 +1,4 @@
 pub mod Acts
 pub mod Good
+pub mod Packets
 pub mod Places
