@@ -65,6 +65,7 @@ pub record Good (p : RxPolicy) (credit : ℕ) (s : ChannelSlot) (q : List ℕ) (
 -- what limits that are kept give
 pub record Limits (p : RxPolicy) (credit most : ℕ) : Type 0 where
   pub fits : credit + most ≤ suc (p .«rx_cap»)
+  pub payload : most ≤ p .«rx_cap»
   pub small : p .«rx_cap» ≤ 16777216
 
 -- the credit that an acknowledgement's OKAY carries: none where acknowledgements are not delayed
@@ -97,7 +98,7 @@ ack-delayed s p n rest d =
     (λ y. ap ackLength (cond-false (eqb (min n (s .unacked)) 0) Nothing _ y)))
 
 -- some bytes are set aside already; or n may be, and a is acknowledged
-data Settles (s : ChannelSlot) (p : RxPolicy) (n : ℕ) (r : Settled) : Type 0 where
+pub data Settles (s : ChannelSlot) (p : RxPolicy) (n : ℕ) (r : Settled) : Type 0 where
   already : eqb (s .settled) 0 ≡ false → r ≡ acked s Nothing → Settles s p n r
   not-due : s .settled ≡ 0 → (p .delayed ≡ true → 0 ≡ min n (s .unacked)) → r ≡ acked s Nothing → Settles s p n r
   due : (k : ℕ) → s .settled ≡ 0 → (p .delayed ≡ true → k ≡ min n (s .unacked)) → r ≡ acked (withNumbers s (s .unacked - k) n (s .head) (s .buffered)) (Len k) → Settles s p n r
@@ -107,7 +108,7 @@ unfolding settledBy ackLength
 settles-by s p n (Len k) z h = due k z h refl
 settles-by s p n Nothing z h = not-due z h refl
 
-settles : (s : ChannelSlot) (p : RxPolicy) (want : ℕ) → s .«has_remote» ≡ true → Settles s p (min want (s .buffered)) (settledOf s p want)
+pub settles : (s : ChannelSlot) (p : RxPolicy) (want : ℕ) → s .«has_remote» ≡ true → Settles s p (min want (s .buffered)) (settledOf s p want)
 unfolding settledOf settledSome
 settles s p want k =
     let n = min want (s .buffered) in

@@ -1,4 +1,6 @@
 pub mod Acts
+pub mod Calls
 pub mod Good
 pub mod Packets
 pub mod Places
+pub mod Steps
