@@ -8,7 +8,10 @@ use lib.Dec.{eqb, ltb, leb}
 use lib.ListN.{length, take, drop, set}
 use borrow.Author.Tests.{eqb-true, eqb-false, eq-eqb, ne-eqb, lt-ltb}
 use Rattle.le.specs.Le.{part}
-use Rattle.le.proofs.Parts.{by-test}
+use lib.Seq.{take-take}
+use Rattle.le.proofs.Parts.{by-test, length-part}
+use Rattle.rx_store.proofs.Laws.{part-taken}
+use Rattle.table.proofs.DispatchLaws.{share-in}
 use Rattle.config.specs.declared.negotiated.RxPolicy.{RxPolicy}
 use Rattle.config.proofs.Laws.{and-true}
 use Rattle.protocol.specs.declared.packet.Packet.{Packet}
@@ -18,14 +21,21 @@ use Rattle.slot.specs.declared.ChannelSlot.{ChannelSlot}
 use Rattle.slot.specs.declared.Failed.{Failed}
 use Rattle.slot.specs.declared.Failed.the-variants.{No, By}
 use Rattle.slot.specs.declared.Settled.{Settled}
-use Rattle.slot.specs.Slot.{settledOf}
+use Rattle.slot.specs.declared.Taken.{Taken}
+use Rattle.slot.specs.declared.Taken.the-variants.{Data, Nothing as NothingTaken, Closed as ClosedTaken}
+use Rattle.slot.specs.declared.ids.LocalId.{LocalId}
+use Rattle.slot.specs.Slot.{emptySlot, settledOf, tookOf, takenOf, takeLen, hasData, isClosed, errorOf, SlotOk}
 use Rattle.slot.proofs.Kept.{pick}
-use Rattle.slot.proofs.Laws.{cond-true, cond-false}
+use Rattle.slot.proofs.Laws.{cond-true, cond-false, take-held}
 use Rattle.state.specs.declared.Header.{Header}
-use Rattle.state.specs.Change.{Change, slotTo, headerTo}
+use Rattle.state.specs.Change.{Step, Change, slotTo, headerTo}
+use Rattle.incoming.specs.declared.Front.{Front}
+use Rattle.incoming.specs.declared.Front.the-variants.{Open as FrontOpen, Nothing as NoFront}
+use Rattle.incoming.specs.Incoming.{popped}
+use Rattle.connection.specs.Frames.{Frame, closeFrame}
 use Rattle.table.specs.Dispatch.{slotIn, shareOf}
 use Rattle.connection.specs.declared.Answer.{Answer}
-use Rattle.connection.specs.declared.Answer.the-variants.{Done, Waiting, Settled as SettledIs, Refused}
+use Rattle.connection.specs.declared.Answer.the-variants.{Done, Waiting, Nothing, Settled as SettledIs, Read, Written, Front as FrontIs, Refused}
 use Rattle.connection.specs.declared.Refusal.the-variants.{ChannelClosed}
 use Rattle.connection.specs.declared.Received.{Received}
 use Rattle.connection.specs.declared.Received.the-variants.{Packet as PacketIs, Stop}
@@ -33,12 +43,12 @@ use Rattle.connection.specs.Act.{Acted, actOn}
 use Rattle.connection.specs.Answer.{refusalNumber, numberOf}
 use Rattle.table.specs.declared.ChannelId.{ChannelId}
 use Rattle.table.specs.Table.{wantedBy}
-use Rattle.connection.specs.Calls.{ackFrames, settledAs, settleStep, isThere, slotFor, Lent, Outcome, Work, begun, then, thenActed, ends, dropped, policy, bodyOf, frameLen, receivedOf, unlessFault, dispatchBy, dispatchStep}
+use Rattle.connection.specs.Calls.{idsIn, closeStep, frontBy, frontStep, errorRefusal, frontOf, takenBy, takeStep, ackFrames, settledAs, settleStep, isThere, slotFor, Lent, Outcome, Work, begun, then, thenActed, ends, dropped, policy, bodyOf, frameLen, receivedOf, unlessFault, dispatchBy, dispatchStep}
 use Rattle.history.specs.Run.{Sent, Seen}
-use Rattle.history.specs.Book.{isEarly, settleB, isOn, Book, ackedB, acksOf, acksB, packetB, frameB, headerAt, never}
+use Rattle.history.specs.Book.{isRefused, handedB, isEarly, settleB, isOn, Book, ackedB, acksOf, acksB, packetB, frameB, headerAt, never}
 use Rattle.history.specs.Demand3.{runOf}
 use Rattle.history.proofs.Acts.{acks-own, acks-other, acksIn, acks-append, mineOf, endsOf, acted-acks, acted-at, Tells, good-by, at-good}
-use Rattle.history.proofs.Good.{Good, Limits, acked-none, carried, settle-good}
+use Rattle.history.proofs.Good.{took-good, handed-none, Good, Limits, acked-none, carried, settle-good}
 use Rattle.history.proofs.Packets.{Stops, Got, stopped, packet, got, markOf, reads-write, reads-arg1, reads-payload, body-small, closes-agree}
 use Rattle.history.proofs.Places.{slotsBy, slot-set-same, slot-set-other, SameRun, TableOk}
 use Rattle.history.proofs.Steps.{settled-alike, settled-run, acted-good, seenOf, stop-good, packet-good, not-four, tells-fault, Fine, ends-fine}
@@ -88,12 +98,12 @@ module _ (l : Lent) (credit : ℕ) (ok : TableOk (policy l) (l .state .header .n
   -- ---- which channel a call is on
 
   -- the channel that a call names: this one, another one in the table, or none
-  data On (ch : ChannelId) : Type 0 where
+  pub data On (ch : ChannelId) : Type 0 where
     this : ch .slot ≡ i → isThere l ch ≡ true → isOn i b ch ≡ true → On ch
     another : (i ≡ ch .slot → ⊥) → isThere l ch ≡ true → slotIn ss (ch .slot) .filled ≡ true → (slotIn ss (ch .slot) .local .0 ≡ b .local → ⊥) → isOn i b ch ≡ false → On ch
     none : isThere l ch ≡ false → isOn i b ch ≡ false → On ch
 
-  on : (ch : ChannelId) → On ch
+  pub on : (ch : ChannelId) → On ch
   unfolding isThere wantedBy
   on ch =
       let n = l .state .header .negotiated .config .channels in
@@ -195,3 +205,122 @@ module _ (l : Lent) (credit : ℕ) (ok : TableOk (policy l) (l .state .header .n
 
     pub settle-call : settles-fine (settleStep l ch want)
     settle-call = settle-by (on ch)
+
+  -- ---- take
+
+  -- n bytes from the front of a run: what is handed over, and what stays
+  module _ (s : ChannelSlot) (sound : SlotOk s (p .«rx_cap»)) (n : ℕ) (h : n ≤ s .buffered) where
+    share-long : length (shareOf (l .rx) (p .«rx_cap») i) ≡ 2 * p .«rx_cap»
+    unfolding shareOf
+    share-long =
+        length-part (l .rx) (i * (2 * p .«rx_cap»)) (2 * p .«rx_cap») (share-in i (l .state .header .negotiated .config .channels) (2 * p .«rx_cap») (length (l .rx)) (ok .below i there) (ok .shares))
+
+    front-is : frontOf (l .rx) (p .«rx_cap») i s n ≡ take n (runOf (l .rx) (p .«rx_cap») i s)
+    unfolding frontOf runOf part
+    front-is = sym (take-take n (s .buffered) (drop (s .head) (shareOf (l .rx) (p .«rx_cap») i)) h)
+
+    rest-is : runOf (l .rx) (p .«rx_cap») i (tookOf s n) ≡ drop n (runOf (l .rx) (p .«rx_cap») i s)
+    unfolding runOf tookOf
+    rest-is = let e = share-long in let r = sound .run-fits in part-taken (shareOf (l .rx) (p .«rx_cap») i) (s .head) (s .buffered) n h (omega arith)
+
+    -- taken, beside the book
+    taken-slot : (c : Book) → Good p credit s (runOf (l .rx) (p .«rx_cap») i s) c
+        → Good p credit (tookOf s n) (runOf (l .rx) (p .«rx_cap») i (tookOf s n)) (handedB (frontOf (l .rx) (p .«rx_cap») i s n) c)
+    taken-slot c f = good-by p credit _ _ _ _ _ _ refl rest-is (ap (λ (x : List ℕ). handedB x c) front-is) (took-good p credit s _ c f n)
+
+  -- the channel at this place, as a caller names it
+  abbrev me : LocalId → ChannelId
+  me local = record { slot = i; local = local }
+
+  is-me : (ch : ChannelId) → ch .slot ≡ i → ch ≡ me (ch .local)
+  is-me ch d = ap (λ (x : ℕ). record { slot = x; local = ch .local }) d
+
+  module _ (room : ℕ) where
+    abbrev takes-fine : ChannelId → Outcome → Type 0
+    takes-fine ch x = Fine p credit ss i x (cond (isOn i b ch) (handedB (x .handed) b) b)
+
+    take-me : (local : LocalId) → isOn i b (me local) ≡ true → takes-fine (me local) (takenBy l (me local) (slotIn ss i) (begun (dropped (l .state .header)) l) (takenOf (slotIn ss i) room))
+    unfolding takenOf takenBy ends
+    take-me local o =
+        let s = slotIn ss i in
+        let w = begun (dropped (l .state .header)) l in
+        let P : Taken → Type 0 = λ t. takes-fine (me local) (takenBy l (me local) s w t) in
+        let n = takeLen s room in
+        let sound = ok .sound i there in
+        let book : (bs : List ℕ) → cond (isOn i b (me local)) (handedB bs b) b ≡ handedB bs b = λ bs. cond-true (isOn i b (me local)) _ _ o in
+        pick P (hasData s)
+        (λ d. ends-fine p credit ss i (then w (slotTo i (tookOf s n) ∷ []) []) (Read n) 0 (frontOf (l .rx) (p .«rx_cap») i s n) _
+        (good-this i (tookOf s n) (l .rx) _ refl
+        (good-by p credit _ _ _ _ _ _ refl refl (book (frontOf (l .rx) (p .«rx_cap») i s n)) (taken-slot s sound n (take-held s room (sound .settled-buffered)) b g))))
+        (λ d. pick P (isClosed (s .state))
+        (λ c. ends-fine p credit ss i w (Refused (errorRefusal (errorOf (s .failed)))) 0 [] _ (good-by p credit _ _ _ _ _ _ refl refl (book []) (handed-none p credit _ _ b g)))
+        (λ c. ends-fine p credit ss i w Nothing 0 [] _ (good-by p credit _ _ _ _ _ _ refl refl (book []) (handed-none p credit _ _ b g))))
+
+    take-else : (ch : ChannelId) (s : ChannelSlot) (t : Taken) → (i ≡ ch .slot → ⊥) → isOn i b ch ≡ false → takes-fine ch (takenBy l ch s (begun (dropped (l .state .header)) l) t)
+    unfolding takenBy ends
+    take-else ch s (Data t n) d o =
+        ends-fine p credit ss i (then (begun (dropped (l .state .header)) l) (slotTo (ch .slot) t ∷ []) []) (Read n) 0 (frontOf (l .rx) (p .«rx_cap») (ch .slot) s n) _
+        (good-other (ch .slot) t (l .rx) _ d (good-by p credit _ _ _ _ b _ refl refl (cond-false (isOn i b ch) _ _ o) g))
+    take-else ch s NothingTaken d o = none-fine Nothing _ (good-by p credit _ _ _ _ b _ refl refl (cond-false (isOn i b ch) _ _ o) g)
+    take-else ch s (ClosedTaken e) d o = none-fine (Refused (errorRefusal e)) _ (good-by p credit _ _ _ _ b _ refl refl (cond-false (isOn i b ch) _ _ o) g)
+
+    take-by : (ch : ChannelId) → On ch → takes-fine ch (takeStep l ch room)
+    unfolding takeStep slotFor ends
+    take-by ch (this d t o) =
+        subst (takes-fine ch) (sym (cond-true (isThere l ch) _ _ t))
+        (subst (λ (x : ChannelId). takes-fine x (takenBy l x (slotIn ss (x .slot)) (begun (dropped (l .state .header)) l) (takenOf (slotIn ss (x .slot)) room))) (sym (is-me ch d))
+        (take-me (ch .local) (ap (isOn i b) (sym (is-me ch d)) ∙ o)))
+    take-by ch (another d t f ne o) =
+        subst (takes-fine ch) (sym (cond-true (isThere l ch) _ _ t)) (take-else ch (slotIn ss (ch .slot)) (takenOf (slotIn ss (ch .slot)) room) d o)
+    take-by ch (none t o) =
+        subst (takes-fine ch) (sym (cond-false (isThere l ch) _ _ t)) (none-fine (Refused ChannelClosed) _ (good-by p credit _ _ _ _ b _ refl refl (cond-false (isOn i b ch) _ _ o) g))
+
+    pub take-call : (ch : ChannelId) → takes-fine ch (takeStep l ch room)
+    take-call ch = take-by ch (on ch)
+
+  -- ---- close
+
+  abbrev closing : ChannelId → Work
+  closing ch = then (begun (dropped (l .state .header)) l) (slotTo (ch .slot) emptySlot ∷ []) (closeFrame (idsIn (slotFor l ch)) ∷ [])
+
+  -- on this channel: its slot is empty, and it has no book any more
+  pub close-this : (ch : ChannelId) → On ch → isOn i b ch ≡ true → (slotIn (slotsBy ss (closeStep l ch .changes)) i .filled ≡ false) × (isRefused (closeStep l ch .answer) ≡ false)
+  unfolding closeStep slotFor ends emptySlot
+  close-this ch (this d t o) _ =
+      let C : Outcome → Type 0 = λ x. (slotIn (slotsBy ss (x .changes)) i .filled ≡ false) × (isRefused (x .answer) ≡ false) in
+      let z = ok .size in
+      let y = ok .most in
+      let h = ok .below i there in
+      subst C
+      (sym (cond-true (isThere l ch && slotIn ss (ch .slot) .«has_remote») _ _ (ap (λ (x : Bool). x && slotIn ss (ch .slot) .«has_remote») t ∙ ap (λ (x : ℕ). slotIn ss x .«has_remote») d ∙ g .known)))
+      (ap (λ (x : ℕ). slotIn (set ss x emptySlot) i .filled) d ∙ ap (λ (x : ChannelSlot). x .filled) (slot-set-same ss i emptySlot (omega arith)), refl)
+  close-this ch (another d t f ne o) e = absurd (true≢false (sym e ∙ o))
+  close-this ch (none t o) e = absurd (true≢false (sym e ∙ o))
+
+  -- on another, or on none
+  pub close-else : (ch : ChannelId) → On ch → isOn i b ch ≡ false → Fine p credit ss i (closeStep l ch) b
+  unfolding closeStep ends
+  close-else ch (this d t o) e = absurd (true≢false (sym o ∙ e))
+  close-else ch (another d t f ne o) e =
+      pick (λ (x : Outcome). Fine p credit ss i x b) (isThere l ch && slotFor l ch .«has_remote»)
+      (λ u. ends-fine p credit ss i (closing ch) Done 0 [] b (good-other (ch .slot) emptySlot (l .rx) b d g))
+      (λ u. none-fine (Refused ChannelClosed) b g)
+  close-else ch (none t o) e =
+      subst (λ (x : Outcome). Fine p credit ss i x b) (sym (cond-false (isThere l ch && slotFor l ch .«has_remote») _ _ (ap (λ (x : Bool). x && slotFor l ch .«has_remote») t)))
+      (none-fine (Refused ChannelClosed) b g)
+
+  -- ---- take_front
+
+  front-by : (h : Header) (xs : List Change) (f : Front) → slotsBy ss xs ≡ ss → Fine p credit ss i (frontBy l h xs f) b
+  unfolding frontBy ends
+  front-by h xs (FrontOpen q less) e =
+      ends-fine p credit ss i (then (begun less l) xs []) (FrontIs (q .remote) (q .credit) (q .share * h .negotiated .config .«max_payload») (q .length)) 0 [] b
+      (good-by p credit _ _ _ _ b b (ap (λ (x : List ChannelSlot). slotIn x i) e) (ap (λ (x : List ChannelSlot). runOf (l .rx) (p .«rx_cap») i (slotIn x i)) e) refl g)
+  front-by h xs NoFront e = ends-fine p credit ss i (begun h l) Nothing 0 [] b g
+
+  pub front-call : Fine p credit ss i (frontStep l) b
+  unfolding frontStep popped
+  front-call =
+      let h = dropped (l .state .header) in
+      front-by h (popped h (l .state .opens) .changes) (popped h (l .state .opens) .result)
+      (pick (λ (x : Step Front). slotsBy ss (x .changes) ≡ ss) (eqb (h .queued) 0) (λ t. refl) (λ t. refl))
