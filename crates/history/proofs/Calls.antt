@@ -21,11 +21,16 @@ use Rattle.slot.specs.declared.ChannelSlot.{ChannelSlot}
 use Rattle.slot.specs.declared.Failed.{Failed}
 use Rattle.slot.specs.declared.Failed.the-variants.{No, By}
 use Rattle.slot.specs.declared.Settled.{Settled}
+use Rattle.slot.specs.declared.ChannelError.{ChannelError}
+use Rattle.slot.specs.declared.ChannelError.the-variants.{Closed as ErrorClosed, Fault}
+use Rattle.slot.specs.declared.ChannelFault.the-variants.{RxOverflow, ShortReadyPayload, UnexpectedCommand}
 use Rattle.slot.specs.declared.Taken.{Taken}
 use Rattle.slot.specs.declared.Taken.the-variants.{Data, Nothing as NothingTaken, Closed as ClosedTaken}
+use Rattle.slot.specs.declared.ids.ChannelIds.{ChannelIds}
 use Rattle.slot.specs.declared.ids.LocalId.{LocalId}
-use Rattle.slot.specs.Slot.{emptySlot, settledOf, tookOf, takenOf, takeLen, hasData, isClosed, errorOf, SlotOk}
-use Rattle.slot.proofs.Kept.{pick}
+use Rattle.slot.specs.Ids.{isClose, namedBy, closedBy}
+use Rattle.slot.specs.Slot.{closedSlot, deliveredOf, emptySlot, settledOf, tookOf, takenOf, takeLen, hasData, isClosed, errorOf, SlotOk}
+use Rattle.slot.proofs.Kept.{pick, settled-sound}
 use Rattle.slot.proofs.Laws.{cond-true, cond-false, take-held}
 use Rattle.state.specs.declared.Header.{Header}
 use Rattle.state.specs.Change.{Step, Change, slotTo, headerTo}
@@ -43,15 +48,15 @@ use Rattle.connection.specs.Act.{Acted, actOn}
 use Rattle.connection.specs.Answer.{refusalNumber, numberOf}
 use Rattle.table.specs.declared.ChannelId.{ChannelId}
 use Rattle.table.specs.Table.{wantedBy}
-use Rattle.connection.specs.Calls.{idsIn, closeStep, frontBy, frontStep, errorRefusal, frontOf, takenBy, takeStep, ackFrames, settledAs, settleStep, isThere, slotFor, Lent, Outcome, Work, begun, then, thenActed, ends, dropped, policy, bodyOf, frameLen, receivedOf, unlessFault, dispatchBy, dispatchStep}
+use Rattle.connection.specs.Calls.{isWrite, faultRefusal, readDirect, readActed, readSettled, reread, isDirect, readBy, readTaken, readFirst, readStep, idsIn, closeStep, frontBy, frontStep, errorRefusal, frontOf, takenBy, takeStep, ackFrames, settledAs, settleStep, isThere, slotFor, Lent, Outcome, Work, begun, then, thenActed, ends, dropped, policy, bodyOf, frameLen, receivedOf, unlessFault, dispatchBy, dispatchStep}
 use Rattle.history.specs.Run.{Sent, Seen}
-use Rattle.history.specs.Book.{isRefused, handedB, isEarly, settleB, isOn, Book, ackedB, acksOf, acksB, packetB, frameB, headerAt, never}
+use Rattle.history.specs.Book.{ownEnd, acceptedB, sentB, closedB, damagedB, isWrte, payloadAt, Mark, readB, readUsedB, isRefused, handedB, isEarly, settleB, isOn, Book, ackedB, acksOf, acksB, packetB, frameB, headerAt, never}
 use Rattle.history.specs.Demand3.{runOf}
 use Rattle.history.proofs.Acts.{acks-own, acks-other, acksIn, acks-append, mineOf, endsOf, acted-acks, acted-at, Tells, good-by, at-good}
-use Rattle.history.proofs.Good.{took-good, handed-none, Good, Limits, acked-none, carried, settle-good}
-use Rattle.history.proofs.Packets.{Stops, Got, stopped, packet, got, markOf, reads-write, reads-arg1, reads-payload, body-small, closes-agree}
+use Rattle.history.proofs.Good.{deliver-good, shut-good, settle-empty, acked-drop, took-good, handed-none, Good, Limits, acked-none, carried, settle-good}
+use Rattle.history.proofs.Packets.{Stops, Got, stopped, packet, got, markOf, reads-write, reads-close, reads-arg0, reads-arg1, reads-payload, body-length, body-small, closes-agree}
 use Rattle.history.proofs.Places.{slotsBy, slot-set-same, slot-set-other, SameRun, TableOk}
-use Rattle.history.proofs.Steps.{settled-alike, settled-run, acted-good, seenOf, stop-good, packet-good, not-four, tells-fault, Fine, ends-fine}
+use Rattle.history.proofs.Steps.{delivered-same, and-cond, damaged-good, nil-of, Alike, settled-alike, settled-run, acted-good, seenOf, stop-good, packet-good, not-four, tells-fault, Fine, ends-fine}
 
 module _ (l : Lent) (credit : ℕ) (ok : TableOk (policy l) (l .state .header .negotiated .config .channels) (l .state .slots) (l .rx))
     (lim : Limits (policy l) credit (l .state .header .negotiated .config .«max_payload»)) (i : ℕ) (there : slotIn (l .state .slots) i .filled ≡ true)
@@ -324,3 +329,202 @@ module _ (l : Lent) (credit : ℕ) (ok : TableOk (policy l) (l .state .header .n
       let h = dropped (l .state .header) in
       front-by h (popped h (l .state .opens) .changes) (popped h (l .state .opens) .result)
       (pick (λ (x : Step Front). slotsBy ss (x .changes) ≡ ss) (eqb (h .queued) 0) (λ t. refl) (λ t. refl))
+
+  -- ---- read, on this channel
+
+  module _ (room : ℕ) (received : List ℕ) (fs : List Sent) (local : LocalId) where
+    abbrev r1 : Settled
+    r1 = settledOf (slotIn ss i) p room
+
+    abbrev s1 : ChannelSlot
+    s1 = settledOf (slotIn ss i) p room .slot
+
+    abbrev q1 : List ℕ
+    q1 = runOf (l .rx) (p .«rx_cap») i (settledOf (slotIn ss i) p room .slot)
+
+    abbrev B0 : Book
+    B0 = settleB p room b
+
+    abbrev dir : List Mark
+    dir = map markOf ss
+
+    alike1 : Alike (slotIn ss i) s1
+    alike1 = settled-alike (slotIn ss i) p room (g .known)
+
+    sound1 : SlotOk s1 (p .«rx_cap»)
+    sound1 = settled-sound (slotIn ss i) p room (p .«rx_cap») (ok .sound i there)
+
+    local1 : s1 .local .0 ≡ b .local
+    local1 = settled-local i room refl
+
+    good1 : Good p credit s1 q1 (ackedB (carried p (r1 .ack)) B0)
+    good1 = settled-slot i room refl
+
+    acks1 : acksIn p (b .local) (ackFrames s1 (r1 .ack)) ≡ carried p (r1 .ack)
+    acks1 = acks-own p (b .local) s1 (r1 .ack) local1
+
+    -- what the first settling wrote
+    abbrev w1 : Work
+    w1 = then (begun (dropped (l .state .header)) l) [] (ackFrames s1 (r1 .ack))
+
+    abbrev reads-fine : Outcome → Type 0
+    reads-fine x = acksOf (b .local) fs ≡ acksIn p (b .local) (x .frames) → Fine p credit ss i x (readB p dir i room received (seenOf x fs) (acksOf (b .local) fs) b)
+
+    -- the book of a read that used nothing
+    unused-book : (a : Answer) (bs : List ℕ) (k : ℕ) → isEarly a ≡ false → readB p dir i room received (record { answer = a; used = 0; sent = fs; got = bs }) k b ≡ handedB bs (ackedB k B0)
+    unfolding readB
+    unused-book a bs k e = cond-false (isEarly a) _ _ e
+
+    -- and of one that used a packet
+    used-book : (a : Answer) (used : ℕ) (bs : List ℕ) (k : ℕ) → isEarly a ≡ false → (used ≡ 0 → ⊥)
+        → readB p dir i room received (record { answer = a; used = used; sent = fs; got = bs }) k b ≡ readUsedB p dir i (b .acked) room received (record { answer = a; used = used; sent = fs; got = bs }) k B0
+    unfolding readB
+    used-book a used bs k e ne = cond-false (isEarly a) _ _ e ∙ cond-false (eqb used 0) _ _ (ne-eqb used 0 ne)
+
+    -- a slot stored at the end of a read that used nothing
+    unused-fine : (t : ChannelSlot) (a : Answer) (bs : List ℕ) → isEarly a ≡ false → Good p credit t (runOf (l .rx) (p .«rx_cap») i t) (handedB bs (ackedB (carried p (r1 .ack)) B0))
+        → reads-fine (ends (then w1 (slotTo i t ∷ []) []) a 0 bs)
+    unfolding ends
+    unused-fine t a bs late f e =
+        let k : acksOf (b .local) fs ≡ carried p (r1 .ack) = e ∙ ap (acksIn p (b .local)) (append-nil (ackFrames s1 (r1 .ack))) ∙ acks1 in
+        ends-fine p credit ss i (then w1 (slotTo i t ∷ []) []) a 0 bs _
+        (good-this i t (l .rx) _ refl (good-by p credit _ _ _ _ _ _ refl refl (unused-book a bs (acksOf (b .local) fs) late ∙ ap (λ (x : ℕ). handedB bs (ackedB x B0)) k) f))
+
+    -- data at once
+    read-data : (n : ℕ) → n ≡ takeLen s1 room → reads-fine (ends (then w1 (slotTo i (tookOf s1 n) ∷ []) []) (Read n) 0 (frontOf (l .rx) (p .«rx_cap») i s1 n))
+    unfolding numberOf
+    read-data n e =
+        unused-fine (tookOf s1 n) (Read n) (frontOf (l .rx) (p .«rx_cap») i s1 n) refl
+        (taken-slot s1 sound1 n (subst (λ (x : ℕ). x ≤ s1 .buffered) (sym e) (take-held s1 room (sound1 .settled-buffered))) _ good1)
+
+    -- an answer with nothing handed over
+    read-plain : (a : Answer) → isEarly a ≡ false → reads-fine (ends (then w1 (slotTo i s1 ∷ []) []) a 0 [])
+    read-plain a late = unused-fine s1 a [] late (handed-none p credit s1 q1 _ good1)
+
+    late-error : (e : ChannelError) → isEarly (Refused (errorRefusal e)) ≡ false
+    unfolding numberOf refusalNumber errorRefusal faultRefusal
+    late-error ErrorClosed = refl
+    late-error (Fault RxOverflow) = refl
+    late-error (Fault ShortReadyPayload) = refl
+    late-error (Fault UnexpectedCommand) = refl
+
+    damaged-book : (a : Answer) (used k : ℕ) → eqb (numberOf a) 4 ≡ true
+        → readUsedB p dir i (b .acked) room received (record { answer = a; used = used; sent = fs; got = [] }) k B0 ≡ ackedB k (damagedB (b .acked) (headerAt received) (payloadAt received used) B0)
+    unfolding readUsedB
+    damaged-book a used k u = cond-true (eqb (numberOf a) 4) _ _ u
+
+    -- with nothing buffered, a packet is looked at
+    module _ (nodata : hasData s1 ≡ false) (live : isClosed (s1 .state) ≡ false) where
+      none1 : s1 .buffered ≡ 0
+      unfolding hasData
+      none1 =
+          eqb-true (s1 .buffered) 0
+          (by-test (eqb (s1 .buffered) 0) (λ t. t)
+          (λ t. absurd (true≢false (sym (cond-true (s1 .«has_remote») _ _ (alike1 .known ∙ g .known) ∙ ap not t) ∙ nodata))))
+
+      zero1 : carried p (r1 .ack) ≡ 0
+      zero1 = settle-empty (slotIn ss i) p room (g .known) (sym (settled-run (slotIn ss i) p room (g .known) .more) ∙ none1)
+
+      good0 : Good p credit s1 q1 B0
+      good0 = acked-drop p credit s1 q1 B0 _ zero1 good1
+
+      nil1 : q1 ≡ []
+      nil1 = nil-of q1 (good0 .run ∙ none1)
+
+      -- no credit but that of `more`
+      acks2 : (more : List Frame) → acksIn p (b .local) (ackFrames s1 (r1 .ack) ++ more) ≡ acksIn p (b .local) more
+      acks2 more = let e = acks-append p (b .local) (ackFrames s1 (r1 .ack)) more in let a = acks1 in let z = zero1 in omega arith
+
+      read-stop : (a : Answer) (used : ℕ) → Stops a used → reads-fine (ends (then w1 (slotTo i s1 ∷ []) []) a used [])
+      unfolding ends
+      read-stop a used st e =
+          by-test (eqb used 0)
+          (λ t. let z = eqb-true used 0 t in
+          subst (λ (x : ℕ). Fine p credit ss i (ends (then w1 (slotTo i s1 ∷ []) []) a x []) (readB p dir i room received (seenOf (ends (then w1 (slotTo i s1 ∷ []) []) a x []) fs) (acksOf (b .local) fs) b)) (sym z)
+          (read-plain a (st .late) e))
+          (λ t. let ne = eqb-false used 0 t in
+          by-test (eqb (numberOf a) 4)
+          (λ u. ends-fine p credit ss i (then w1 (slotTo i s1 ∷ []) []) a used [] _
+          (good-this i s1 (l .rx) _ refl
+          (good-by p credit _ _ _ _ _ _ refl refl (used-book a used [] (acksOf (b .local) fs) (st .late) ne ∙ damaged-book a used (acksOf (b .local) fs) u)
+          (acked-none p credit s1 q1 _ (damaged-good p credit _ lim s1 q1 B0 good0 dir i received never (b .acked) (headerAt received) (payloadAt received used)) (acksOf (b .local) fs) (e ∙ acks2 [])))))
+          (λ u. absurd (ne (st .quiet u))))
+
+      -- packets
+      module _ (k : Packet) (sy : Says received (l .state .header .negotiated .config .«max_payload») k) where
+        abbrev limit : ℕ
+        limit = l .state .header .negotiated .config .«max_payload»
+
+        abbrev m : Message
+        m = headerAt received
+
+        abbrev body : List ℕ
+        body = bodyOf received k
+
+        used-some : frameLen k ≡ 0 → ⊥
+        used-some e = omega arith
+
+        direct-test : (isWrte m && eqb (m .arg1) (b .local) && leb (frameLen k - 24) room) ≡ isDirect s1 room k
+        unfolding isDirect
+        direct-test =
+            let e : frameLen k - 24 ≡ k .«data_length» = omega arith in
+            ap (λ (x : Bool). x && eqb (m .arg1) (b .local) && leb (frameLen k - 24) room) (reads-write received limit k sy)
+            ∙ ap (λ (x : ℕ). isWrite (k .command) && eqb x (b .local) && leb (frameLen k - 24) room) (reads-arg1 received limit k sy)
+            ∙ ap (λ (x : ℕ). isWrite (k .command) && eqb (k .arg1) x && leb (frameLen k - 24) room) (sym local1)
+            ∙ ap (λ (x : ℕ). isWrite (k .command) && eqb (k .arg1) (s1 .local .0) && leb x room) e
+
+        -- straight to the reader
+        abbrev delivered : Settled
+        delivered = deliveredOf s1 p (k .«data_length»)
+
+        direct-book : (c : ℕ) → isDirect s1 room k ≡ true → readUsedB p dir i (b .acked) room received (record { answer = Read (length body); used = frameLen k; sent = fs; got = body }) c B0
+            ≡ ackedB c (handedB body (acceptedB body (sentB (b .acked) (length body) B0)))
+        unfolding readUsedB numberOf
+        direct-book c t =
+            cond-true (isWrte m && eqb (m .arg1) (b .local) && leb (frameLen k - 24) room) _ _ (direct-test ∙ t)
+            ∙ ap (λ (x : List ℕ). ackedB c (handedB body (acceptedB x (sentB (b .acked) (length x) B0)))) (reads-payload received limit k sy)
+
+        delivered-good : Good p credit (delivered .slot) (runOf (l .rx) (p .«rx_cap») i (delivered .slot)) (ackedB (carried p (delivered .ack)) (handedB body (acceptedB body (sentB (b .acked) (length body) B0))))
+        unfolding runOf
+        delivered-good =
+            let w = delivered-same s1 p (k .«data_length») .0 in
+            good-by p credit _ _ q1 _ _ _ refl
+            (ap (λ (x : ℕ). part (shareOf (l .rx) (p .«rx_cap») i) x (delivered .slot .buffered)) (w .head) ∙ ap (part (shareOf (l .rx) (p .«rx_cap») i) (s1 .head)) (w .more)) refl
+            (subst (λ (x : ℕ). Good p credit (deliveredOf s1 p x .slot) q1 (ackedB (carried p (deliveredOf s1 p x .ack)) (handedB body (acceptedB body (sentB (b .acked) (length body) B0))))) (body-length received limit k sy)
+            (deliver-good p credit s1 q1 B0 good0 (b .acked) body nil1))
+
+        read-direct : isDirect s1 room k ≡ true → reads-fine (readDirect (me local) (frameLen k) w1 body delivered)
+        unfolding readDirect ends numberOf
+        read-direct t e =
+            let c : acksOf (b .local) fs ≡ carried p (delivered .ack) =
+            e ∙ acks2 (ackFrames (delivered .slot) (delivered .ack))
+            ∙ acks-own p (b .local) (delivered .slot) (delivered .ack) (ap (λ x. x .0) (delivered-same s1 p (k .«data_length») .1) ∙ local1) in
+            ends-fine p credit ss i (then w1 (slotTo i (delivered .slot) ∷ []) (ackFrames (delivered .slot) (delivered .ack))) (Read (length body)) (frameLen k) body _
+            (good-this i (delivered .slot) (l .rx) _ refl
+            (good-by p credit _ _ _ _ _ _ refl refl (used-book (Read (length body)) (frameLen k) body (acksOf (b .local) fs) refl used-some ∙ direct-book (acksOf (b .local) fs) t ∙ ap (λ (x : ℕ). ackedB x (handedB body (acceptedB body (sentB (b .acked) (length body) B0)))) c) delivered-good))
+
+        -- its own end
+        end-test : ownEnd (b .local) (b .remote) m ≡ closedBy (idsIn s1) k
+        unfolding closedBy
+        end-test =
+            let ids : ChannelIds = record { local = record { 0 = b .local }; remote = record { 0 = b .remote } } in
+            let rem : b .remote ≡ s1 .remote .0 = g .rem ∙ sym (ap (λ x. x .0) (alike1 .remote)) in
+            ap (λ (x : Bool). x && namedBy ids (m .arg0) (m .arg1)) (reads-close received limit k sy)
+            ∙ ap (λ (x : ℕ). isClose (k .command) && namedBy ids x (m .arg1)) (reads-arg0 received limit k sy)
+            ∙ ap (λ (x : ℕ). isClose (k .command) && namedBy ids (k .arg0) x) (reads-arg1 received limit k sy)
+            ∙ ap (λ (x : ℕ). isClose (k .command) && namedBy (record { local = record { 0 = x }; remote = record { 0 = b .remote } }) (k .arg0) (k .arg1)) (sym local1)
+            ∙ ap (λ (x : ℕ). isClose (k .command) && namedBy (record { local = s1 .local; remote = record { 0 = x } }) (k .arg0) (k .arg1)) rem
+            ∙ and-cond (isClose (k .command)) (namedBy (idsIn s1) (k .arg0) (k .arg1))
+
+        end-book : (c : ℕ) → isDirect s1 room k ≡ false → closedBy (idsIn s1) k ≡ true → readUsedB p dir i (b .acked) room received (record { answer = Refused ChannelClosed; used = frameLen k; sent = fs; got = [] }) c B0 ≡ ackedB c (closedB B0)
+        unfolding readUsedB numberOf refusalNumber
+        end-book c t u =
+            cond-false (isWrte m && eqb (m .arg1) (b .local) && leb (frameLen k - 24) room) _ _ (direct-test ∙ t) ∙ cond-true (ownEnd (b .local) (b .remote) m) _ _ (end-test ∙ u)
+
+        read-end : isDirect s1 room k ≡ false → closedBy (idsIn s1) k ≡ true → reads-fine (ends (then w1 (slotTo i (closedSlot s1) ∷ []) []) (Refused ChannelClosed) (frameLen k) [])
+        unfolding ends numberOf refusalNumber runOf closedSlot
+        read-end t u e =
+            ends-fine p credit ss i (then w1 (slotTo i (closedSlot s1) ∷ []) []) (Refused ChannelClosed) (frameLen k) [] _
+            (good-this i (closedSlot s1) (l .rx) _ refl
+            (good-by p credit (closedSlot s1) _ q1 _ _ _ refl refl (used-book (Refused ChannelClosed) (frameLen k) [] (acksOf (b .local) fs) refl used-some ∙ end-book (acksOf (b .local) fs) t u)
+            (acked-none p credit _ _ _ (shut-good p credit s1 q1 B0 good0) (acksOf (b .local) fs) (e ∙ acks2 []))))

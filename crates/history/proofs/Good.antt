@@ -217,6 +217,40 @@ module _ (p : RxPolicy) (credit : ℕ) (s : ChannelSlot) (q : List ℕ) (b : Boo
   pub settle-good : Good p credit (settledOf s p want .slot) q (ackedB (carried p (settledOf s p want .ack)) (settleB p want b))
   settle-good = settle-by (settledOf s p want) (settles s p want (g .known))
 
+len-zero : (k : ℕ) → k ≡ 0 → ackLength (Len k) ≡ 0
+unfolding ackLength
+len-zero k h = h
+
+-- with nothing buffered a settling acknowledges nothing in delayed mode
+carried-by : (s : ChannelSlot) (p : RxPolicy) (n : ℕ) (r : Settled) → n ≡ 0 → Settles s p n r → carried p (r .ack) ≡ 0
+carried-by s p n r z (already y e) = ap (λ (x : Settled). carried p (x .ack)) e ∙ carried-none p
+carried-by s p n r z (not-due y f e) = ap (λ (x : Settled). carried p (x .ack)) e ∙ carried-none p
+carried-by s p n r z (due k y f e) =
+    ap (λ (x : Settled). carried p (x .ack)) e
+    ∙ by-test (p .delayed) (λ d. let h = f d in carried-delayed p (Len k) d ∙ len-zero k (omega arith)) (λ d. carried-plain p (Len k) d)
+
+pub settle-empty : (s : ChannelSlot) (p : RxPolicy) (want : ℕ) → s .«has_remote» ≡ true → s .buffered ≡ 0 → carried p (settledOf s p want .ack) ≡ 0
+settle-empty s p want k z = carried-by s p (min want (s .buffered)) (settledOf s p want) (omega arith) (settles s p want k)
+
+-- credit of 0 is none
+pub acked-drop : (p : RxPolicy) (credit : ℕ) (s : ChannelSlot) (q : List ℕ) (b : Book) (k : ℕ) → k ≡ 0 → Good p credit s q (ackedB k b) → Good p credit s q b
+acked-drop p credit s q b k z g =
+    let m = g .nums in
+    record {
+      filled = g .filled;
+      known = g .known;
+      there = g .there;
+      loc = g .loc;
+      rem = g .rem;
+      opened = g .opened;
+      run = g .run;
+      stream = g .stream;
+      ends = g .ends;
+      kept = g .kept;
+      nums = record { all = m .all; inside = m .inside; room = m .room; within = m .within; counted = m .counted; acks = omega arith };
+      owed = λ d c. let o = g .owed d c in record { same = o .same; held = o .held; low = omega arith; high = omega arith };
+    }
+
 -- ---- the other moves
 
 module _ (p : RxPolicy) (credit : ℕ) (s : ChannelSlot) (q : List ℕ) (b : Book) (g : Good p credit s q b) where

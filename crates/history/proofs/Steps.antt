@@ -21,7 +21,7 @@ use Rattle.slot.specs.declared.Failed.the-variants.{No, By}
 use Rattle.slot.specs.declared.PendingAck.{PendingAck}
 use Rattle.slot.specs.declared.PendingAck.the-variants.{Len, Nothing}
 use Rattle.slot.specs.declared.Settled.{Settled}
-use Rattle.slot.specs.Slot.{withNumbers, acked, isOpening, isFailed, isClosed, settledOf, tookOf, SlotOk}
+use Rattle.slot.specs.Slot.{withNumbers, acked, isOpening, isFailed, isClosed, deliveredOf, settledOf, tookOf, SlotOk}
 use Rattle.slot.proofs.Kept.{pick, settled-sound}
 use Rattle.slot.proofs.Laws.{cond-true, cond-false}
 use Rattle.state.specs.Change.{Change, slotTo, headerTo}
@@ -49,6 +49,14 @@ use Rattle.history.proofs.Places.{slotsBy, slots-append, slot-set-same,
 abbrev pub seenOf : Outcome → List Sent → Seen
 seenOf x fs = record { answer = x .answer; used = x .used; sent = fs; got = x .handed }
 
+pub nil-of : (l : List ℕ) → length l ≡ 0 → l ≡ []
+nil-of [] e = refl
+nil-of (x ∷ l) e = absurd (omega arith)
+
+pub and-cond : (x y : Bool) → (x && y) ≡ cond x y false
+and-cond true y = refl
+and-cond false y = refl
+
 -- ---- slots that are the same channel
 
 pub record Alike (s t : ChannelSlot) : Type 0 where
@@ -75,6 +83,15 @@ run-by s p n r (due k z f e) = subst (λ (x : Settled). SameRun s (x .slot)) (sy
 
 pub settled-run : (s : ChannelSlot) (p : RxPolicy) (want : ℕ) → s .«has_remote» ≡ true → SameRun s (settledOf s p want .slot)
 settled-run s p want k = run-by s p (min want (s .buffered)) (settledOf s p want) (settles s p want k)
+
+-- delivering leaves the run and the numbers of the channel
+pub delivered-same : (s : ChannelSlot) (p : RxPolicy) (n : ℕ) → SameRun s (deliveredOf s p n .slot) × (deliveredOf s p n .slot .local ≡ s .local)
+unfolding deliveredOf
+delivered-same s p n =
+    let P : Settled → Type 0 = λ r. SameRun s (r .slot) × (r .slot .local ≡ s .local) in
+    pick P (p .delayed) (λ d. (record { head = refl; more = refl }, refl))
+    (λ d. pick P (leb (p .watermark) (s .buffered)) (λ t. (record { head = refl; more = refl }, refl))
+    (λ t. pick P (s .«has_remote») (λ k. (record { head = refl; more = refl }, refl)) (λ k. (record { head = refl; more = refl }, refl))))
 
 -- a table stays one where a channel's slot changes in its numbers
 pub table-set : (p : RxPolicy) (n : ℕ) (ss : List ChannelSlot) (rx : List ℕ) (j : ℕ) (t : ChannelSlot) → TableOk p n ss rx → slotIn ss j .filled ≡ true
