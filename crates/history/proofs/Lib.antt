@@ -1,5 +1,5 @@
 pub mod Acts
-pub mod Calls
+pub mod Entries
 pub mod Good
 pub mod Packets
 pub mod Places
