@@ -214,23 +214,23 @@ module _ (l : Lent) (credit : ℕ) (ok : TableOk (policy l) (l .state .header .n
   -- ---- take
 
   -- n bytes from the front of a run: what is handed over, and what stays
-  module _ (s : ChannelSlot) (sound : SlotOk s (p .«rx_cap»)) (n : ℕ) (h : n ≤ s .buffered) where
-    share-long : length (shareOf (l .rx) (p .«rx_cap») i) ≡ 2 * p .«rx_cap»
+  module _ (rx : List ℕ) (len : length rx ≡ length (l .rx)) (s : ChannelSlot) (sound : SlotOk s (p .«rx_cap»)) (n : ℕ) (h : n ≤ s .buffered) where
+    share-long : length (shareOf rx (p .«rx_cap») i) ≡ 2 * p .«rx_cap»
     unfolding shareOf
     share-long =
-        length-part (l .rx) (i * (2 * p .«rx_cap»)) (2 * p .«rx_cap») (share-in i (l .state .header .negotiated .config .channels) (2 * p .«rx_cap») (length (l .rx)) (ok .below i there) (ok .shares))
+        length-part rx (i * (2 * p .«rx_cap»)) (2 * p .«rx_cap») (share-in i (l .state .header .negotiated .config .channels) (2 * p .«rx_cap») (length rx) (ok .below i there) (let z = ok .shares in omega arith))
 
-    front-is : frontOf (l .rx) (p .«rx_cap») i s n ≡ take n (runOf (l .rx) (p .«rx_cap») i s)
+    front-is : frontOf rx (p .«rx_cap») i s n ≡ take n (runOf rx (p .«rx_cap») i s)
     unfolding frontOf runOf part
-    front-is = sym (take-take n (s .buffered) (drop (s .head) (shareOf (l .rx) (p .«rx_cap») i)) h)
+    front-is = sym (take-take n (s .buffered) (drop (s .head) (shareOf rx (p .«rx_cap») i)) h)
 
-    rest-is : runOf (l .rx) (p .«rx_cap») i (tookOf s n) ≡ drop n (runOf (l .rx) (p .«rx_cap») i s)
+    rest-is : runOf rx (p .«rx_cap») i (tookOf s n) ≡ drop n (runOf rx (p .«rx_cap») i s)
     unfolding runOf tookOf
-    rest-is = let e = share-long in let r = sound .run-fits in part-taken (shareOf (l .rx) (p .«rx_cap») i) (s .head) (s .buffered) n h (omega arith)
+    rest-is = let e = share-long in let r = sound .run-fits in part-taken (shareOf rx (p .«rx_cap») i) (s .head) (s .buffered) n h (omega arith)
 
     -- taken, beside the book
-    taken-slot : (c : Book) → Good p credit s (runOf (l .rx) (p .«rx_cap») i s) c
-        → Good p credit (tookOf s n) (runOf (l .rx) (p .«rx_cap») i (tookOf s n)) (handedB (frontOf (l .rx) (p .«rx_cap») i s n) c)
+    taken-slot : (c : Book) → Good p credit s (runOf rx (p .«rx_cap») i s) c
+        → Good p credit (tookOf s n) (runOf rx (p .«rx_cap») i (tookOf s n)) (handedB (frontOf rx (p .«rx_cap») i s n) c)
     taken-slot c f = good-by p credit _ _ _ _ _ _ refl rest-is (ap (λ (x : List ℕ). handedB x c) front-is) (took-good p credit s _ c f n)
 
   -- the channel at this place, as a caller names it
@@ -256,7 +256,7 @@ module _ (l : Lent) (credit : ℕ) (ok : TableOk (policy l) (l .state .header .n
         pick P (hasData s)
         (λ d. ends-fine p credit ss i (then w (slotTo i (tookOf s n) ∷ []) []) (Read n) 0 (frontOf (l .rx) (p .«rx_cap») i s n) _
         (good-this i (tookOf s n) (l .rx) _ refl
-        (good-by p credit _ _ _ _ _ _ refl refl (book (frontOf (l .rx) (p .«rx_cap») i s n)) (taken-slot s sound n (take-held s room (sound .settled-buffered)) b g))))
+        (good-by p credit _ _ _ _ _ _ refl refl (book (frontOf (l .rx) (p .«rx_cap») i s n)) (taken-slot (l .rx) refl s sound n (take-held s room (sound .settled-buffered)) b g))))
         (λ d. pick P (isClosed (s .state))
         (λ c. ends-fine p credit ss i w (Refused (errorRefusal (errorOf (s .failed)))) 0 [] _ (good-by p credit _ _ _ _ _ _ refl refl (book []) (handed-none p credit _ _ b g)))
         (λ c. ends-fine p credit ss i w Nothing 0 [] _ (good-by p credit _ _ _ _ _ _ refl refl (book []) (handed-none p credit _ _ b g))))
@@ -395,7 +395,7 @@ module _ (l : Lent) (credit : ℕ) (ok : TableOk (policy l) (l .state .header .n
     unfolding numberOf
     read-data n e =
         unused-fine (tookOf s1 n) (Read n) (frontOf (l .rx) (p .«rx_cap») i s1 n) refl
-        (taken-slot s1 sound1 n (subst (λ (x : ℕ). x ≤ s1 .buffered) (sym e) (take-held s1 room (sound1 .settled-buffered))) _ good1)
+        (taken-slot (l .rx) refl s1 sound1 n (subst (λ (x : ℕ). x ≤ s1 .buffered) (sym e) (take-held s1 room (sound1 .settled-buffered))) _ good1)
 
     -- an answer with nothing handed over
     read-plain : (a : Answer) → isEarly a ≡ false → reads-fine (ends (then w1 (slotTo i s1 ∷ []) []) a 0 [])
