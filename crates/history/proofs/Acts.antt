@@ -25,6 +25,8 @@ use Rattle.slot.specs.declared.AckDecision.the-variants.{Now, Hold, Overflow, E
 use Rattle.slot.specs.declared.ChannelFault.{ChannelFault as Fault}
 use Rattle.slot.specs.declared.ChannelFault.the-variants.{RxOverflow, ShortReadyPayload, UnexpectedCommand}
 use Rattle.slot.specs.declared.ChannelSlot.{ChannelSlot}
+use Rattle.slot.specs.declared.Credit.{Credit}
+use Rattle.slot.specs.declared.Credit.the-variants.{Of, Short as CreditShort}
 use Rattle.slot.specs.declared.Failed.{Failed}
 use Rattle.slot.specs.declared.Failed.the-variants.{No, By}
 use Rattle.slot.specs.declared.PendingAck.{PendingAck}
@@ -33,7 +35,7 @@ use Rattle.slot.specs.declared.Readied.{Readied}
 use Rattle.slot.specs.declared.Readied.the-variants.{Slot, Short}
 use Rattle.slot.specs.declared.Wrote.{Wrote}
 use Rattle.slot.specs.Ids.{isClose}
-use Rattle.slot.specs.Slot.{isOpening, isClosed, bufferedWith, isFailed, acksNow, wroteOf, readyOf, closedSlot, heldOf, SlotOk}
+use Rattle.slot.specs.Slot.{isOpening, isClosed, bufferedWith, isFailed, acksNow, wroteOf, creditOf, readyBy, readyOf, closedSlot, heldOf, SlotOk}
 use Rattle.slot.proofs.Kept.{pick, wrote-sound, Readied-sound, ready-sound, closed-sound}
 use Rattle.slot.proofs.Laws.{cond-true, cond-false}
 use Rattle.state.specs.declared.Header.{Header}
@@ -317,6 +319,42 @@ module _ (p : RxPolicy) (s : ChannelSlot) (q payload : List ℕ) (sound : SlotOk
   at-sound mine ends t r fault (over e1 h e3 e4 e5) = subst (λ (x : ChannelSlot). SlotOk x (p .«rx_cap»)) (sym e3) sound
   at-sound mine ends t r fault (credited e1 e2 e3 e4) = subst (Readied-sound (p .«rx_cap»)) e3 (ready-sound s payload p (p .«rx_cap») sound)
   at-sound mine ends t r fault (shut e1 e2 e3 e4) = subst (λ (x : ChannelSlot). SlotOk x (p .«rx_cap»)) (sym e3) (closed-sound s (p .«rx_cap») sound)
+
+-- its numbers as a channel
+pub record Named (s t : ChannelSlot) : Type 0 where
+  pub filled : t .filled ≡ s .filled
+  pub local : t .local ≡ s .local
+  pub remote : t .remote ≡ s .remote
+  pub known : t .«has_remote» ≡ s .«has_remote»
+
+wrote-named : (s : ChannelSlot) (p : RxPolicy) (k : ℕ) → Named s (wroteOf s p k .slot)
+unfolding wroteOf bufferedWith
+wrote-named s p k =
+    let P : Wrote → Type 0 = λ w. Named s (w .slot) in
+    let same-one : Named s s = record { filled = refl; local = refl; remote = refl; known = refl } in
+    pick P (isOpening (s .state)) (λ o. same-one)
+    (λ o. pick P (ltb (p .«rx_cap») (heldOf s + k)) (λ h. same-one)
+    (λ h. pick P (acksNow s p (heldOf s + k)) (λ a. record { filled = refl; local = refl; remote = refl; known = refl }) (λ a. record { filled = refl; local = refl; remote = refl; known = refl })))
+
+ready-named-by : (s : ChannelSlot) (c : Credit) → Leaves (Named s) (readyBy s c)
+unfolding readyBy
+ready-named-by s (Of z) = record { filled = refl; local = refl; remote = refl; known = refl }
+ready-named-by s CreditShort = tt
+
+pub ready-named : (s : ChannelSlot) (payload : List ℕ) (p : RxPolicy) → Leaves (Named s) (readyOf s payload p)
+unfolding readyOf
+ready-named s payload p = pick (Leaves (Named s)) (p .delayed) (λ d. ready-named-by s (creditOf payload)) (λ d. record { filled = refl; local = refl; remote = refl; known = refl })
+
+closed-named : (s : ChannelSlot) → Named s (closedSlot s)
+unfolding closedSlot
+closed-named s = record { filled = refl; local = refl; remote = refl; known = refl }
+
+pub at-named : (p : RxPolicy) (s : ChannelSlot) (q payload : List ℕ) (mine ends : Bool) (t : ChannelSlot) (r : List ℕ) (fault : Failed) → At p s q payload mine ends t r fault → Named s t
+at-named p s q payload mine ends t r fault (apart e1 e2 e3 e4) = subst (Named s) (sym e3) (record { filled = refl; local = refl; remote = refl; known = refl })
+at-named p s q payload mine ends t r fault (wrote e1 h e3 e4 e5) = subst (Named s) (sym e3) (wrote-named s p (length payload))
+at-named p s q payload mine ends t r fault (over e1 h e3 e4 e5) = subst (Named s) (sym e3) (record { filled = refl; local = refl; remote = refl; known = refl })
+at-named p s q payload mine ends t r fault (credited e1 e2 e3 e4) = subst (Leaves (Named s)) e3 (ready-named s payload p)
+at-named p s q payload mine ends t r fault (shut e1 e2 e3 e4) = subst (Named s) (sym e3) (closed-named s)
 
 -- a WRTE of its own that fits is not refused, and does not close it
 wrote-state : (s : ChannelSlot) (p : RxPolicy) (k : ℕ) → wroteOf s p k .slot .state ≡ s .state

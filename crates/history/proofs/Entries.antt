@@ -1,5 +1,5 @@
 -- Each call beside the book of a channel that is in the table. Assumes nothing.
-use mathlib.Core.Path.{_≡_, refl, sym, ap, subst, _∙_}
+use mathlib.Core.Path.{_≡_, refl, sym, ap, ap₂, subst, _∙_}
 use mathlib.Core.Bool.{Bool, true, false, not, cond, _&&_, _||_, true≢false}
 use mathlib.Core.List.{List, [], _∷_, _++_, map, append-nil}
 use Prim.Native.Nat.{ℕ, zero, suc, _+_, _-_, _*_, _≤_, _<_, min}
@@ -8,7 +8,7 @@ use lib.Dec.{eqb, ltb, leb}
 use lib.ListN.{length, take, drop, set}
 use borrow.Author.Tests.{eqb-true, eqb-false, eq-eqb, ne-eqb, lt-ltb}
 use Rattle.le.specs.Le.{part}
-use lib.Seq.{take-take}
+use lib.Seq.{take-take, map-set-same}
 use Rattle.le.proofs.Parts.{by-test, length-part}
 use Rattle.rx_store.proofs.Laws.{part-taken}
 use Rattle.table.proofs.DispatchLaws.{share-in}
@@ -29,11 +29,11 @@ use Rattle.slot.specs.declared.Taken.the-variants.{Data, Nothing as NothingTake
 use Rattle.slot.specs.declared.ids.ChannelIds.{ChannelIds}
 use Rattle.slot.specs.declared.ids.LocalId.{LocalId}
 use Rattle.slot.specs.Ids.{isClose, namedBy, closedBy}
-use Rattle.slot.specs.Slot.{closedSlot, deliveredOf, emptySlot, settledOf, tookOf, takenOf, takeLen, hasData, isClosed, errorOf, SlotOk}
+use Rattle.slot.specs.Slot.{closedSlot, deliveredOf, emptySlot, settledOf, tookOf, takenOf, takeLen, hasData, isClosed, errorOf, heldOf, SlotOk}
 use Rattle.slot.proofs.Kept.{pick, settled-sound}
 use Rattle.slot.proofs.Laws.{cond-true, cond-false, take-held}
 use Rattle.state.specs.declared.Header.{Header}
-use Rattle.state.specs.Change.{Step, Change, slotTo, headerTo}
+use Rattle.state.specs.Change.{changedAll, Step, Change, slotTo, headerTo}
 use Rattle.incoming.specs.declared.Front.{Front}
 use Rattle.incoming.specs.declared.Front.the-variants.{Open as FrontOpen, Nothing as NoFront}
 use Rattle.incoming.specs.Incoming.{popped}
@@ -50,13 +50,13 @@ use Rattle.table.specs.declared.ChannelId.{ChannelId}
 use Rattle.table.specs.Table.{wantedBy}
 use Rattle.connection.specs.Calls.{isWrite, faultRefusal, readDirect, readActed, readSettled, reread, isDirect, readBy, readTaken, readFirst, readStep, idsIn, closeStep, frontBy, frontStep, errorRefusal, frontOf, takenBy, takeStep, ackFrames, settledAs, settleStep, isThere, slotFor, Lent, Outcome, Work, begun, then, thenActed, ends, dropped, policy, bodyOf, frameLen, receivedOf, unlessFault, dispatchBy, dispatchStep}
 use Rattle.history.specs.Run.{Sent, Seen}
-use Rattle.history.specs.Book.{ownEnd, acceptedB, sentB, closedB, damagedB, isWrte, payloadAt, Mark, readB, readUsedB, isRefused, handedB, isEarly, settleB, isOn, Book, ackedB, acksOf, acksB, packetB, frameB, headerAt, never}
+use Rattle.history.specs.Book.{noMark, ownEnd, acceptedB, sentB, closedB, damagedB, isWrte, payloadAt, Mark, readB, readUsedB, isRefused, handedB, isEarly, settleB, isOn, Book, ackedB, acksOf, acksB, packetB, frameB, headerAt, never}
 use Rattle.history.specs.Demand3.{runOf}
-use Rattle.history.proofs.Acts.{acks-own, acks-other, acksIn, acks-append, mineOf, endsOf, acted-acks, acted-at, Tells, good-by, at-good}
+use Rattle.history.proofs.Acts.{Named, at-named, at-sound, at-fits, at-live, acted-length, acks-own, acks-other, acksIn, acks-append, mineOf, endsOf, acted-acks, acted-at, Tells, good-by, at-good}
 use Rattle.history.proofs.Good.{deliver-good, shut-good, settle-empty, acked-drop, took-good, handed-none, Good, Limits, acked-none, carried, settle-good}
 use Rattle.history.proofs.Packets.{Stops, Got, stopped, packet, got, markOf, reads-write, reads-close, reads-arg0, reads-arg1, reads-payload, body-length, body-small, closes-agree}
-use Rattle.history.proofs.Places.{slotsBy, slot-set-same, slot-set-other, SameRun, TableOk}
-use Rattle.history.proofs.Steps.{delivered-same, and-cond, damaged-good, nil-of, Alike, settled-alike, settled-run, acted-good, seenOf, stop-good, packet-good, not-four, tells-fault, Fine, ends-fine}
+use Rattle.history.proofs.Places.{At, slots-by, slots-append, slots-length, slotsBy, slot-set-same, slot-set-other, SameRun, TableOk}
+use Rattle.history.proofs.Steps.{table-set, delivered-same, and-cond, damaged-good, nil-of, Alike, settled-alike, settled-run, acted-good, seenOf, stop-good, packet-good, not-four, tells-fault, Fine, ends-fine}
 
 module _ (l : Lent) (credit : ℕ) (ok : TableOk (policy l) (l .state .header .negotiated .config .channels) (l .state .slots) (l .rx))
     (lim : Limits (policy l) credit (l .state .header .negotiated .config .«max_payload»)) (i : ℕ) (there : slotIn (l .state .slots) i .filled ≡ true)
@@ -528,3 +528,205 @@ module _ (l : Lent) (credit : ℕ) (ok : TableOk (policy l) (l .state .header .n
             (good-this i (closedSlot s1) (l .rx) _ refl
             (good-by p credit (closedSlot s1) _ q1 _ _ _ refl refl (used-book (Refused ChannelClosed) (frameLen k) [] (acksOf (b .local) fs) refl used-some ∙ end-book (acksOf (b .local) fs) t u)
             (acked-none p credit _ _ _ (shut-good p credit s1 q1 B0 good0) (acksOf (b .local) fs) (e ∙ acks2 []))))
+
+        -- any other packet: dispatched, then settled and taken again
+        abbrev ss1 : List ChannelSlot
+        ss1 = set ss i s1
+
+        u1 : slotIn ss1 i ≡ s1
+        u1 = let z = ok .size in let y = ok .most in let h = ok .below i there in slot-set-same ss i s1 (omega arith)
+
+        ok1 : TableOk p (l .state .header .negotiated .config .channels) ss1 (l .rx)
+        ok1 = table-set p (l .state .header .negotiated .config .channels) ss (l .rx) i s1 ok there alike1 sound1
+
+        there1 : slotIn ss1 i .filled ≡ true
+        there1 = ap (λ (x : ChannelSlot). x .filled) u1 ∙ alike1 .filled ∙ there
+
+        dir1 : dir ≡ map markOf ss1
+        unfolding slotIn
+        dir1 = sym (map-set-same markOf ss i s1 emptySlot (ap₂ (λ (x : Bool) (y : ℕ). cond x (record { there = true; remote = y }) noMark) (alike1 .filled) (ap (λ x. x .0) (alike1 .remote))))
+
+        abbrev act : Acted
+        act = actOn (dropped (l .state .header)) ss1 (l .state .opens) (l .rx) (l .store) k body
+
+        abbrev ts : List ChannelSlot
+        ts = slotsBy ss1 (act .changes)
+
+        good-in : Good p credit (slotIn ss1 i) (runOf (l .rx) (p .«rx_cap») i (slotIn ss1 i)) B0
+        good-in = good-by p credit s1 _ q1 _ B0 B0 u1 (ap (runOf (l .rx) (p .«rx_cap») i) u1) refl good0
+
+        at2 : At p (slotIn ss1 i) (runOf (l .rx) (p .«rx_cap») i (slotIn ss1 i)) body (mineOf ss1 i k) (endsOf (l .state .header .negotiated .config .channels) ss1 i k) (slotIn ts i) (runOf (act .rx) (p .«rx_cap») i (slotIn ts i)) (act .fault)
+        at2 = acted-at (dropped (l .state .header)) ss1 (l .state .opens) (l .rx) (l .store) k body ok1 i there1
+
+        good2 : (a : Answer) → Tells (mineOf ss1 i k) (act .fault) a → Good p credit (slotIn ts i) (runOf (act .rx) (p .«rx_cap») i (slotIn ts i)) (frameB dir i (b .acked) m body a B0)
+        good2 a tells = acted-good (dropped (l .state .header)) ss1 (l .state .opens) (l .rx) (l .store) ok1 credit lim i there1 B0 good-in dir dir1 received k sy (b .acked) (omega arith) a tells
+
+        sound2 : SlotOk (slotIn ts i) (p .«rx_cap»)
+        sound2 = at-sound p (slotIn ss1 i) _ body (ok1 .sound i there1) _ _ _ _ _ at2
+
+        length2 : length (act .rx) ≡ length (l .rx)
+        length2 = acted-length (dropped (l .state .header)) ss1 (l .state .opens) (l .rx) (l .store) k body ok1
+
+        abbrev r3 : Settled
+        r3 = settledOf (slotIn ts i) p room
+
+        -- what the frames carry: the second settling's credit
+        acks3 : (more : List Frame) → acksIn p (b .local) (((ackFrames s1 (r1 .ack) ++ []) ++ act .frames) ++ more) ≡ acksIn p (b .local) more
+        acks3 more =
+            let e1 = acks-append p (b .local) ((ackFrames s1 (r1 .ack) ++ []) ++ act .frames) more in
+            let e2 = acks-append p (b .local) (ackFrames s1 (r1 .ack) ++ []) (act .frames) in
+            let e3 = acks2 [] in
+            let e4 = acted-acks (dropped (l .state .header)) ss1 (l .state .opens) (l .rx) (l .store) k body (b .local) in
+            omega arith
+
+        -- the book of it
+        acted-book : (a : Answer) (bs : List ℕ) (c : ℕ) → isDirect s1 room k ≡ false → closedBy (idsIn s1) k ≡ false → eqb (numberOf a) 4 ≡ false
+            → readUsedB p dir i (b .acked) room received (record { answer = a; used = frameLen k; sent = fs; got = bs }) c B0 ≡ handedB bs (ackedB c (settleB p room (frameB dir i (b .acked) m body a B0)))
+        unfolding readUsedB
+        acted-book a bs c t u four =
+            cond-false (eqb (numberOf a) 4) _ _ four
+            ∙ cond-false (isWrte m && eqb (m .arg1) (b .local) && leb (frameLen k - 24) room) _ _ (direct-test ∙ t) ∙ cond-false (ownEnd (b .local) (b .remote) m) _ _ (end-test ∙ u)
+            ∙ ap (λ (x : List ℕ). handedB bs (ackedB c (settleB p room (frameB dir i (b .acked) m x a B0)))) (reads-payload received limit k sy)
+
+        -- after the second settling
+        module _ (t : isDirect s1 room k ≡ false) (u : closedBy (idsIn s1) k ≡ false) where
+          good3 : (a : Answer) → Tells (mineOf ss1 i k) (act .fault) a
+              → Good p credit (r3 .slot) (runOf (act .rx) (p .«rx_cap») i (r3 .slot)) (ackedB (carried p (r3 .ack)) (settleB p room (frameB dir i (b .acked) m body a B0)))
+          unfolding runOf
+          good3 a tells =
+              let gg = good2 a tells in
+              let w = settled-run (slotIn ts i) p room (gg .known) in
+              good-by p credit _ _ _ _ _ _ refl
+              (ap (λ (x : ℕ). part (shareOf (act .rx) (p .«rx_cap») i) x (r3 .slot .buffered)) (w .head) ∙ ap (part (shareOf (act .rx) (p .«rx_cap») i) (slotIn ts i .head)) (w .more)) refl
+              (settle-good p credit (slotIn ts i) _ _ room gg)
+
+          named2 : Named (slotIn ss1 i) (slotIn ts i)
+          named2 = at-named p _ _ _ _ _ _ _ _ at2
+
+          known2 : slotIn ts i .«has_remote» ≡ true
+          known2 = named2 .known ∙ ok1 .known i there1
+
+          local3 : r3 .slot .local .0 ≡ b .local
+          local3 =
+              ap (λ x. x .0) (settled-alike (slotIn ts i) p room known2 .local) ∙ ap (λ x. x .0) (named2 .local)
+              ∙ ap (λ (x : ChannelSlot). x .local .0) u1 ∙ local1
+
+          abbrev w3 : Work
+          w3 = then (thenActed (then w1 (slotTo i s1 ∷ []) []) act) [] (ackFrames (r3 .slot) (r3 .ack))
+
+          slot3 : (t : ChannelSlot) → slotIn (slotsBy ss (then w3 (slotTo i t ∷ []) [] .changes)) i ≡ t
+          slot3 t =
+              let xs = act .changes ++ [] in
+              let e = slots-append ss1 xs (slotTo i t ∷ []) in
+              let n1 = slots-length ss1 xs in
+              let z = ok1 .size in
+              let y = ok .most in
+              let h = ok .below i there in
+              ap (λ (x : List ChannelSlot). slotIn x i) e ∙ slot-set-same (slotsBy ss1 xs) i t (omega arith)
+
+          final-fine : (t : ChannelSlot) (a : Answer) (bs : List ℕ) → isEarly a ≡ false → eqb (numberOf a) 4 ≡ false
+              → Good p credit t (runOf (act .rx) (p .«rx_cap») i t) (handedB bs (ackedB (carried p (r3 .ack)) (settleB p room (frameB dir i (b .acked) m body a B0))))
+              → reads-fine (ends (then w3 (slotTo i t ∷ []) []) a (frameLen k) bs)
+          unfolding ends
+          final-fine t' a bs late four f e =
+              let c : acksOf (b .local) fs ≡ carried p (r3 .ack) =
+              e ∙ ap (acksIn p (b .local)) (append-nil (w3 .frames)) ∙ acks3 (ackFrames (r3 .slot) (r3 .ack)) ∙ acks-own p (b .local) (r3 .slot) (r3 .ack) local3 in
+              let s3 = slot3 t' in
+              ends-fine p credit ss i (then w3 (slotTo i t' ∷ []) []) a (frameLen k) bs _
+              (good-by p credit t' _ _ _ _ _ s3 (ap (runOf (act .rx) (p .«rx_cap») i) s3)
+              (used-book a (frameLen k) bs (acksOf (b .local) fs) late used-some ∙ acted-book a bs (acksOf (b .local) fs) t u four ∙ ap (λ (x : ℕ). handedB bs (ackedB x (settleB p room (frameB dir i (b .acked) m body a B0)))) c) f)
+
+          -- what was not there before the packet
+          held1 : heldOf (slotIn ss1 i) + length body ≤ p .«rx_cap»
+          unfolding heldOf
+          held1 =
+              let e : slotIn ss1 i .buffered ≡ 0 = ap (λ (x : ChannelSlot). x .buffered) u1 ∙ none1 in
+              let c = body-small received limit k sy in
+              let d = lim .payload in
+              omega arith
+
+          live1 : isClosed (slotIn ss1 i .state) ≡ false
+          live1 = ap (λ (x : ChannelSlot). isClosed (x .state)) u1 ∙ live
+
+          tells-read : (n : ℕ) → Tells (mineOf ss1 i k) (act .fault) (Read n)
+          tells-read n =
+              record {
+                taken = λ own e. refl;
+                over = λ own e. absurd (at-fits p _ _ _ _ _ _ _ _ at2 own held1 e);
+              }
+
+          tells-error : (x : ChannelError) → isClosed (r3 .slot .state) ≡ true → Tells (mineOf ss1 i k) (act .fault) (unlessFault (act .fault) (Refused (errorRefusal x)))
+          tells-error x c =
+              record {
+                taken = λ own e.
+                    absurd (true≢false (sym c ∙ ap isClosed (settled-alike (slotIn ts i) p room known2 .state) ∙ at-live p _ _ _ _ _ _ _ _ at2 own live1));
+                over = λ own e. absurd (at-fits p _ _ _ _ _ _ _ _ at2 own held1 e);
+              }
+
+          late-unless : (f : Failed) (a : Answer) → isEarly a ≡ false → isEarly (unlessFault f a) ≡ false
+          unfolding unlessFault faultRefusal numberOf refusalNumber
+          late-unless No a e = e
+          late-unless (By RxOverflow) a e = refl
+          late-unless (By ShortReadyPayload) a e = refl
+          late-unless (By UnexpectedCommand) a e = refl
+
+          four-error : (x : ChannelError) → eqb (numberOf (Refused (errorRefusal x))) 4 ≡ false
+          unfolding numberOf refusalNumber errorRefusal faultRefusal
+          four-error ErrorClosed = refl
+          four-error (Fault RxOverflow) = refl
+          four-error (Fault ShortReadyPayload) = refl
+          four-error (Fault UnexpectedCommand) = refl
+
+          abbrev rereads : Taken → Outcome
+          rereads y = reread (me local) (p .«rx_cap») (frameLen k) (act .fault) w3 (r3 .slot) y
+
+          sound3 : SlotOk (r3 .slot) (p .«rx_cap»)
+          sound3 = settled-sound (slotIn ts i) p room (p .«rx_cap») sound2
+
+          read-again : reads-fine (rereads (takenOf (r3 .slot) room))
+          unfolding takenOf reread numberOf
+          read-again =
+              let n = takeLen (r3 .slot) room in
+              pick (λ (y : Taken). reads-fine (rereads y)) (hasData (r3 .slot))
+              (λ d. final-fine (tookOf (r3 .slot) n) (Read n) (frontOf (act .rx) (p .«rx_cap») i (r3 .slot) n) refl refl
+              (taken-slot (act .rx) length2 (r3 .slot) sound3 n (take-held (r3 .slot) room (sound3 .settled-buffered)) _ (good3 (Read n) (tells-read n))))
+              (λ d. pick (λ (y : Taken). reads-fine (rereads y)) (isClosed (r3 .slot .state))
+              (λ c. let x = errorOf (r3 .slot .failed) in
+              let a = unlessFault (act .fault) (Refused (errorRefusal x)) in
+              final-fine (r3 .slot) a [] (late-unless (act .fault) (Refused (errorRefusal x)) (late-error x)) (not-four (act .fault) (Refused (errorRefusal x)) (four-error x))
+              (handed-none p credit _ _ _ (good3 a (tells-error x c))))
+              (λ c. let a = unlessFault (act .fault) Waiting in
+              final-fine (r3 .slot) a [] (late-unless (act .fault) Waiting refl) (not-four (act .fault) Waiting refl)
+              (handed-none p credit _ _ _ (good3 a (tells-fault (mineOf ss1 i k) (act .fault) Waiting refl)))))
+
+        read-acted : isDirect s1 room k ≡ false → closedBy (idsIn s1) k ≡ false → reads-fine (readActed l (me local) room (frameLen k) (then w1 (slotTo i s1 ∷ []) []) act)
+        unfolding readActed readSettled
+        read-acted t u =
+            let e : slotIn (changedAll (l .state) (slotTo i s1 ∷ act .changes) .slots) i ≡ slotIn ts i = ap (λ (x : List ChannelSlot). slotIn x i) (slots-by (l .state) (slotTo i s1 ∷ act .changes)) in
+            subst (λ (x : ChannelSlot). reads-fine (readSettled l (me local) room (frameLen k) (act .fault) (thenActed (then w1 (slotTo i s1 ∷ []) []) act) (settledOf x p room))) (sym e) (read-again t u)
+
+        read-packet : reads-fine (readBy l (me local) room w1 s1 received (PacketIs k))
+        unfolding readBy
+        read-packet =
+            by-test (isDirect s1 room k)
+            (λ t. subst reads-fine (sym (cond-true (isDirect s1 room k) _ _ t)) (read-direct t))
+            (λ t. by-test (closedBy (idsIn s1) k)
+            (λ u. subst reads-fine (sym (cond-false (isDirect s1 room k) _ _ t ∙ cond-true (closedBy (idsIn s1) k) _ _ u)) (read-end t u))
+            (λ u. subst reads-fine (sym (cond-false (isDirect s1 room k) _ _ t ∙ cond-false (closedBy (idsIn s1) k) _ _ u)) (read-acted t u)))
+
+      read-received : (r : Received) → Got received (l .state .header .negotiated .config .«max_payload») r → reads-fine (readBy l (me local) room w1 s1 received r)
+      unfolding readBy
+      read-received r (stopped a used st) = read-stop a used st
+      read-received r (packet k sy) = read-packet k sy
+
+    -- a read on this channel
+    read-this : reads-fine (readFirst l (me local) room received r1)
+    unfolding readFirst readTaken takenOf
+    read-this =
+        let P : Taken → Type 0 = λ y. reads-fine (readTaken l (me local) room w1 s1 received y) in
+        by-test (hasData s1)
+        (λ d. subst P (sym (cond-true (hasData s1) _ _ d)) (read-data (takeLen s1 room) refl))
+        (λ d. by-test (isClosed (s1 .state))
+        (λ c. subst P (sym (cond-false (hasData s1) _ _ d ∙ cond-true (isClosed (s1 .state)) _ _ c)) (read-plain (Refused (errorRefusal (errorOf (s1 .failed)))) (late-error (errorOf (s1 .failed)))))
+        (λ c. subst P (sym (cond-false (hasData s1) _ _ d ∙ cond-false (isClosed (s1 .state)) _ _ c))
+        (subst reads-fine (sym (cond-true (s1 .«has_remote») _ _ (alike1 .known ∙ g .known))) (read-received d c (receivedOf l received) (got l received)))))

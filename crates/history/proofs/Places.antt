@@ -5,7 +5,7 @@ use mathlib.Core.List.{List, [], _∷_, _++_}
 use Prim.Native.Nat.{ℕ, zero, suc, _+_, _-_, _*_, _≤_, _<_, min}
 use native.Mathlib.Omega.{arith}
 use lib.Dec.{eqb, ltb, leb}
-use lib.ListN.{length, take, getD, set}
+use lib.ListN.{length, take, getD, set, length-set}
 use lib.Seq.{getD-take, getD-set-same, getD-set-other, length-take-le}
 use borrow.Author.Tests.{eqb-true, eqb-false, eq-eqb, ne-eqb, ltb-true, ltb-false, lt-ltb, le-ltb}
 use Rattle.le.specs.Le.{part}
@@ -69,6 +69,13 @@ slots-append ss (slotTo i s ∷ xs) ys = slots-append (set ss i s) xs ys
 slots-append ss (headerTo h ∷ xs) ys = slots-append ss xs ys
 slots-append ss (openTo i q ∷ xs) ys = slots-append ss xs ys
 slots-append ss (opensTo qs ∷ xs) ys = slots-append ss xs ys
+
+pub slots-length : (ss : List ChannelSlot) (xs : List Change) → length (slotsBy ss xs) ≡ length ss
+slots-length ss [] = refl
+slots-length ss (slotTo i s ∷ xs) = slots-length (set ss i s) xs ∙ length-set ss i s
+slots-length ss (headerTo h ∷ xs) = slots-length ss xs
+slots-length ss (openTo i q ∷ xs) = slots-length ss xs
+slots-length ss (opensTo qs ∷ xs) = slots-length ss xs
 
 pub slot-set-same : (ss : List ChannelSlot) (i : ℕ) (t : ChannelSlot) → i < length ss → slotIn (set ss i t) i ≡ t
 unfolding slotIn
