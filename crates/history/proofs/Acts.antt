@@ -54,7 +54,7 @@ use Rattle.connection.specs.Frames.{Frame, okayFrame, closeFrame, openFrame, wr
 use Rattle.history.specs.Book.{Book, Mark, sentB, acceptedB, closedB, overB, isRefused, isWrte, closesB, wrteB, frameB}
 use Rattle.history.specs.Demand3.{runOf}
 use Rattle.history.proofs.Good.{Good, Limits, Leaves, carried, carried-none, sent-good, quiet-good, refuse-good, accept-good, shut-good, ready-good}
-use Rattle.history.proofs.Places.{found-filled, room-for, Decides, buffers, overflows, isTaken, decides, slotsBy, slots-append, TableOk, faultOf, At, apart, wrote, over, credited, shut, AtPlace, closes, at-route}
+use Rattle.history.proofs.Places.{SameRun, ready-run, found-filled, room-for, Decides, buffers, overflows, isTaken, decides, slotsBy, slots-append, TableOk, faultOf, At, apart, wrote, over, credited, shut, AtPlace, closes, at-route}
 
 -- ---- the credit of frames
 
@@ -327,6 +327,15 @@ pub record Named (s t : ChannelSlot) : Type 0 where
   pub remote : t .remote ≡ s .remote
   pub known : t .«has_remote» ≡ s .«has_remote»
 
+ready-live-by : (s : ChannelSlot) (c : Credit) → isClosed (s .state) ≡ false → Leaves (λ (x : ChannelSlot). isClosed (x .state) ≡ false) (readyBy s c)
+unfolding readyBy
+ready-live-by s (Of z) h = h
+ready-live-by s CreditShort h = tt
+
+ready-live : (s : ChannelSlot) (payload : List ℕ) (p : RxPolicy) → isClosed (s .state) ≡ false → Leaves (λ (x : ChannelSlot). isClosed (x .state) ≡ false) (readyOf s payload p)
+unfolding readyOf
+ready-live s payload p h = pick (Leaves (λ (x : ChannelSlot). isClosed (x .state) ≡ false)) (p .delayed) (λ d. ready-live-by s (creditOf payload) h) (λ d. h)
+
 wrote-named : (s : ChannelSlot) (p : RxPolicy) (k : ℕ) → Named s (wroteOf s p k .slot)
 unfolding wroteOf bufferedWith
 wrote-named s p k =
@@ -389,6 +398,23 @@ module _ (p : RxPolicy) (s : ChannelSlot) (q payload : List ℕ) (mine ends : Bo
       live-by (credited e1 e2 e3 e4) h = absurd (true≢false (sym own ∙ e1))
       live-by (shut e1 e2 e3 e4) h = absurd (true≢false (sym own ∙ e1))
 
+-- a slot that a WRTE is not for keeps what it has buffered, and stays open
+module _ (p : RxPolicy) (s : ChannelSlot) (q payload : List ℕ) (mine ends : Bool) (t : ChannelSlot) (r : List ℕ) (fault : Failed) where
+  pub at-keeps : At p s q payload mine ends t r fault → mine ≡ false → t .buffered ≡ s .buffered
+  unfolding closedSlot
+  at-keeps (apart e1 e2 e3 e4) nm = ap (λ (x : ChannelSlot). x .buffered) e3
+  at-keeps (wrote e1 h e3 e4 e5) nm = absurd (true≢false (sym e1 ∙ nm))
+  at-keeps (over e1 h e3 e4 e5) nm = absurd (true≢false (sym e1 ∙ nm))
+  at-keeps (credited e1 e2 e3 e4) nm = subst (Leaves (SameRun s)) e3 (ready-run s payload p) .more
+  at-keeps (shut e1 e2 e3 e4) nm = ap (λ (x : ChannelSlot). x .buffered) e3
+
+  pub at-stays : At p s q payload mine ends t r fault → ends ≡ false → isClosed (s .state) ≡ false → isClosed (t .state) ≡ false
+  at-stays (apart e1 e2 e3 e4) nm h = ap (λ (x : ChannelSlot). isClosed (x .state)) e3 ∙ h
+  at-stays (wrote e1 k e3 e4 e5) nm h = ap (λ (x : ChannelSlot). isClosed (x .state)) e3 ∙ ap isClosed (wrote-state s p (length payload)) ∙ h
+  at-stays (over e1 k e3 e4 e5) nm h = ap (λ (x : ChannelSlot). isClosed (x .state)) e3 ∙ h
+  at-stays (credited e1 e2 e3 e4) nm h = subst (Leaves (λ (x : ChannelSlot). isClosed (x .state) ≡ false)) e3 (ready-live s payload p h)
+  at-stays (shut e1 e2 e3 e4) nm h = absurd (true≢false (sym e2 ∙ nm))
+
 -- what an answer tells of a WRTE of the slot's own: not refused where it was taken, 11 where it did not fit
 pub record Tells (mine : Bool) (fault : Failed) (a : Answer) : Type 0 where
   pub taken : mine ≡ true → fault ≡ No → isRefused a ≡ false
@@ -408,7 +434,7 @@ module _ (d : List Mark) (i before : ℕ) (m : Message) (payload : List ℕ) (a 
   unfolding frameB
   frame-end e f = cond-false (isWrte m && eqb (m .arg1) (b .local)) _ _ e ∙ cond-true (closesB d i b m) _ _ f
 
-  frame-none : (isWrte m && eqb (m .arg1) (b .local)) ≡ false → closesB d i b m ≡ false → frameB d i before m payload a b ≡ b
+  pub frame-none : (isWrte m && eqb (m .arg1) (b .local)) ≡ false → closesB d i b m ≡ false → frameB d i before m payload a b ≡ b
   unfolding frameB
   frame-none e f = cond-false (isWrte m && eqb (m .arg1) (b .local)) _ _ e ∙ cond-false (closesB d i b m) _ _ f
 

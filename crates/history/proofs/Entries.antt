@@ -47,16 +47,16 @@ use Rattle.connection.specs.declared.Received.the-variants.{Packet as PacketIs,
 use Rattle.connection.specs.Act.{Acted, actOn}
 use Rattle.connection.specs.Answer.{refusalNumber, numberOf}
 use Rattle.table.specs.declared.ChannelId.{ChannelId}
-use Rattle.table.specs.Table.{wantedBy}
+use Rattle.table.specs.Table.{first, wantedBy}
 use Rattle.connection.specs.Calls.{isWrite, faultRefusal, readDirect, readActed, readSettled, reread, isDirect, readBy, readTaken, readFirst, readStep, idsIn, closeStep, frontBy, frontStep, errorRefusal, frontOf, takenBy, takeStep, ackFrames, settledAs, settleStep, isThere, slotFor, Lent, Outcome, Work, begun, then, thenActed, ends, dropped, policy, bodyOf, frameLen, receivedOf, unlessFault, dispatchBy, dispatchStep}
 use Rattle.history.specs.Run.{Sent, Seen}
-use Rattle.history.specs.Book.{noMark, ownEnd, acceptedB, sentB, closedB, damagedB, isWrte, payloadAt, Mark, readB, readUsedB, isRefused, handedB, isEarly, settleB, isOn, Book, ackedB, acksOf, acksB, packetB, frameB, headerAt, never}
+use Rattle.history.specs.Book.{isClse, hasRemote, endsOther, noMark, ownEnd, acceptedB, sentB, closedB, damagedB, isWrte, payloadAt, Mark, readB, readUsedB, isRefused, handedB, isEarly, settleB, isOn, Book, ackedB, acksOf, acksB, packetB, frameB, headerAt, never}
 use Rattle.history.specs.Demand3.{runOf}
-use Rattle.history.proofs.Acts.{Named, at-named, at-sound, at-fits, at-live, acted-length, acks-own, acks-other, acksIn, acks-append, mineOf, endsOf, acted-acks, acted-at, Tells, good-by, at-good}
+use Rattle.history.proofs.Acts.{frame-none, at-keeps, at-stays, Named, at-named, at-sound, at-fits, at-live, acted-length, acks-own, acks-other, acksIn, acks-append, mineOf, endsOf, acted-acks, acted-at, Tells, good-by, at-good}
 use Rattle.history.proofs.Good.{deliver-good, shut-good, settle-empty, acked-drop, took-good, handed-none, Good, Limits, acked-none, carried, settle-good}
-use Rattle.history.proofs.Packets.{Stops, Got, stopped, packet, got, markOf, reads-write, reads-close, reads-arg0, reads-arg1, reads-payload, body-length, body-small, closes-agree}
+use Rattle.history.proofs.Packets.{Stops, Got, stopped, packet, got, markOf, reads-write, reads-close, reads-arg0, reads-arg1, reads-payload, write-no-close, reads-end, mark-at, body-length, body-small, closes-agree}
 use Rattle.history.proofs.Places.{At, slots-by, slots-append, slots-length, slotsBy, slot-set-same, slot-set-other, SameRun, TableOk}
-use Rattle.history.proofs.Steps.{table-set, delivered-same, and-cond, damaged-good, nil-of, Alike, settled-alike, settled-run, acted-good, seenOf, stop-good, packet-good, not-four, tells-fault, Fine, ends-fine}
+use Rattle.history.proofs.Steps.{table-set, delivered-same, damaged-good, nil-of, Alike, settled-alike, settled-run, acted-good, seenOf, stop-good, packet-good, not-four, tells-fault, Fine, ends-fine}
 
 module _ (l : Lent) (credit : ℕ) (ok : TableOk (policy l) (l .state .header .negotiated .config .channels) (l .state .slots) (l .rx))
     (lim : Limits (policy l) credit (l .state .header .negotiated .config .«max_payload»)) (i : ℕ) (there : slotIn (l .state .slots) i .filled ≡ true)
@@ -134,6 +134,14 @@ module _ (l : Lent) (credit : ℕ) (ok : TableOk (policy l) (l .state .header .n
       ∙ eq-eqb _ _ (ap (λ (x : ℕ). slotIn ss x .local .0) d ∙ sym (g .loc) ∙ e) in
       absurd (true≢false (sym y ∙ t)))
       (λ v. v)))
+
+  -- a channel in the table has the number that it is named by
+  there-local : (ch : ChannelId) → isThere l ch ≡ true → slotIn ss (ch .slot) .local .0 ≡ ch .local .0
+  unfolding isThere wantedBy
+  there-local ch t =
+      let s = slotIn ss (ch .slot) in
+      let t1 = and-true (ltb (ch .slot) (l .state .header .negotiated .config .channels)) (s .filled && eqb (s .local .0) (ch .local .0)) t in
+      eqb-true (s .local .0) (ch .local .0) (and-true (s .filled) (eqb (s .local .0) (ch .local .0)) (t1 .1) .1)
 
   -- a call on no channel leaves the slots
   none-fine : (a : Answer) (c : Book) → Good p credit (slotIn ss i) (runOf (l .rx) (p .«rx_cap») i (slotIn ss i)) c → Fine p credit ss i (ends (begun (dropped (l .state .header)) l) a 0 []) c
@@ -505,16 +513,7 @@ module _ (l : Lent) (credit : ℕ) (ok : TableOk (policy l) (l .state .header .n
 
         -- its own end
         end-test : ownEnd (b .local) (b .remote) m ≡ closedBy (idsIn s1) k
-        unfolding closedBy
-        end-test =
-            let ids : ChannelIds = record { local = record { 0 = b .local }; remote = record { 0 = b .remote } } in
-            let rem : b .remote ≡ s1 .remote .0 = g .rem ∙ sym (ap (λ x. x .0) (alike1 .remote)) in
-            ap (λ (x : Bool). x && namedBy ids (m .arg0) (m .arg1)) (reads-close received limit k sy)
-            ∙ ap (λ (x : ℕ). isClose (k .command) && namedBy ids x (m .arg1)) (reads-arg0 received limit k sy)
-            ∙ ap (λ (x : ℕ). isClose (k .command) && namedBy ids (k .arg0) x) (reads-arg1 received limit k sy)
-            ∙ ap (λ (x : ℕ). isClose (k .command) && namedBy (record { local = record { 0 = x }; remote = record { 0 = b .remote } }) (k .arg0) (k .arg1)) (sym local1)
-            ∙ ap (λ (x : ℕ). isClose (k .command) && namedBy (record { local = s1 .local; remote = record { 0 = x } }) (k .arg0) (k .arg1)) rem
-            ∙ and-cond (isClose (k .command)) (namedBy (idsIn s1) (k .arg0) (k .arg1))
+        end-test = reads-end received limit k sy (b .local) (b .remote) (idsIn s1) (sym local1) (g .rem ∙ sym (ap (λ x. x .0) (alike1 .remote)))
 
         end-book : (c : ℕ) → isDirect s1 room k ≡ false → closedBy (idsIn s1) k ≡ true → readUsedB p dir i (b .acked) room received (record { answer = Refused ChannelClosed; used = frameLen k; sent = fs; got = [] }) c B0 ≡ ackedB c (closedB B0)
         unfolding readUsedB numberOf refusalNumber
@@ -730,3 +729,115 @@ module _ (l : Lent) (credit : ℕ) (ok : TableOk (policy l) (l .state .header .n
         (λ c. subst P (sym (cond-false (hasData s1) _ _ d ∙ cond-true (isClosed (s1 .state)) _ _ c)) (read-plain (Refused (errorRefusal (errorOf (s1 .failed)))) (late-error (errorOf (s1 .failed)))))
         (λ c. subst P (sym (cond-false (hasData s1) _ _ d ∙ cond-false (isClosed (s1 .state)) _ _ c))
         (subst reads-fine (sym (cond-true (s1 .«has_remote») _ _ (alike1 .known ∙ g .known))) (read-received d c (receivedOf l received) (got l received)))))
+
+  -- ---- read, on another channel
+
+  module _ (ch : ChannelId) (away : i ≡ ch .slot → ⊥) (in-table : isThere l ch ≡ true) (fill : slotIn ss (ch .slot) .filled ≡ true) (ne : slotIn ss (ch .slot) .local .0 ≡ b .local → ⊥) (fs : List Sent) (received : List ℕ) where
+    abbrev j : ℕ
+    j = ch .slot
+
+    abbrev dirE : List Mark
+    dirE = map markOf ss
+
+    -- what the book takes of a packet
+    abbrev taken : Answer → ℕ → List ℕ → Book
+    taken a used bs = packetB dirE i received (endsOther dirE ch) (record { answer = a; used = used; sent = fs; got = bs }) b
+
+    abbrev else-fine : Outcome → Type 0
+    else-fine x = acksOf (b .local) fs ≡ acksIn p (b .local) (x .frames) → Fine p credit ss i x (acksB (b .local) (seenOf x fs) (taken (x .answer) (x .used) (x .handed)))
+
+    -- a call's end that leaves this slot
+    else-ends : (w : Work) (a : Answer) (used : ℕ) (bs : List ℕ) → slotIn (slotsBy ss (w .changes)) i ≡ slotIn ss i → w .rx ≡ l .rx → acksIn p (b .local) (w .frames) ≡ 0
+        → Good p credit (slotIn ss i) (runOf (l .rx) (p .«rx_cap») i (slotIn ss i)) (taken a used bs) → else-fine (ends w a used bs)
+    unfolding ends
+    else-ends w a used bs e1 e2 z f e =
+        ends-fine p credit ss i w a used bs _
+        (acked-none p credit _ _ _
+        (good-by p credit _ _ _ _ _ _ e1 (ap (λ (x : List ℕ). runOf x (p .«rx_cap») i (slotIn (slotsBy ss (w .changes)) i)) e2 ∙ ap (runOf (l .rx) (p .«rx_cap») i) e1) refl f) (acksOf (b .local) fs) (e ∙ z))
+
+    unused : (a : Answer) (bs : List ℕ) → Good p credit (slotIn ss i) (runOf (l .rx) (p .«rx_cap») i (slotIn ss i)) (taken a 0 bs)
+    unfolding packetB
+    unused a bs = g
+
+    module _ (room : ℕ) where
+      abbrev rj : Settled
+      rj = settledOf (slotIn ss j) p room
+
+      abbrev sj : ChannelSlot
+      sj = settledOf (slotIn ss j) p room .slot
+
+      alikej : Alike (slotIn ss j) sj
+      alikej = settled-alike (slotIn ss j) p room (ok .known j fill)
+
+      localj : sj .local .0 ≡ slotIn ss j .local .0
+      localj = ap (λ x. x .0) (alikej .local)
+
+      acksj : acksIn p (b .local) (ackFrames sj (rj .ack)) ≡ 0
+      acksj = acks-other p (b .local) sj (rj .ack) (λ e. ne (sym localj ∙ e))
+
+      abbrev wj : Work
+      wj = then (begun (dropped (l .state .header)) l) [] (ackFrames sj (rj .ack))
+
+      other-slot : (t : ChannelSlot) → slotIn (set ss j t) i ≡ slotIn ss i
+      other-slot t = slot-set-other ss j i t away
+
+      no-acks : acksIn p (b .local) (ackFrames sj (rj .ack) ++ []) ≡ 0
+      no-acks = ap (acksIn p (b .local)) (append-nil (ackFrames sj (rj .ack))) ∙ acksj
+
+      -- nothing was used
+      else-plain : (t : ChannelSlot) (a : Answer) (bs : List ℕ) → else-fine (ends (then wj (slotTo j t ∷ []) []) a 0 bs)
+      else-plain t a bs = else-ends (then wj (slotTo j t ∷ []) []) a 0 bs (other-slot t) refl no-acks (unused a bs)
+
+      else-stop : (a : Answer) (used : ℕ) → Stops a used → else-fine (ends (then wj (slotTo j sj ∷ []) []) a used [])
+      else-stop a used st =
+          else-ends (then wj (slotTo j sj ∷ []) []) a used [] (other-slot sj) refl no-acks (stop-good p credit _ lim _ _ b g dirE i received (endsOther dirE ch) a used fs [] st)
+
+      module _ (k : Packet) (sy : Says received (l .state .header .negotiated .config .«max_payload») k) where
+        abbrev limitE : ℕ
+        limitE = l .state .header .negotiated .config .«max_payload»
+
+        -- the other channel's own end
+        else-test : endsOther dirE ch (headerAt received) ≡ closedBy (idsIn sj) k
+        else-test =
+            reads-end received limitE k sy (ch .local .0) _ (idsIn sj) (sym (localj ∙ there-local ch in-table))
+            (ap (λ (x : Mark). x .remote) (mark-at ss j ∙ cond-true (slotIn ss j .filled) _ _ fill) ∙ sym (ap (λ x. x .0) (alikej .remote)))
+
+        -- a packet that is not for this slot
+        else-none : (a : Answer) (bs : List ℕ) → eqb (numberOf a) 4 ≡ false → endsOther dirE ch (headerAt received) ≡ true → taken a (frameLen k) bs ≡ b
+        unfolding packetB
+        else-none a bs four e =
+            cond-false (eqb (frameLen k) 0) _ _ (ne-eqb (frameLen k) 0 (λ x. omega arith)) ∙ cond-false (eqb (numberOf a) 4) _ _ four ∙ cond-true (endsOther dirE ch (headerAt received)) _ _ e
+
+        else-end : closedBy (idsIn sj) k ≡ true → else-fine (ends (then wj (slotTo j (closedSlot sj) ∷ []) []) (Refused ChannelClosed) (frameLen k) [])
+        unfolding numberOf refusalNumber
+        else-end t =
+            else-ends (then wj (slotTo j (closedSlot sj) ∷ []) []) (Refused ChannelClosed) (frameLen k) [] (other-slot (closedSlot sj)) refl no-acks
+            (good-by p credit _ _ _ _ b _ refl refl (else-none (Refused ChannelClosed) [] refl (else-test ∙ t)) g)
+
+        -- a packet that the call took for itself, and that is no end
+        else-mine : (a : Answer) (bs : List ℕ) → eqb (numberOf a) 4 ≡ false → isWrite (k .command) ≡ true → (k .arg1 ≡ b .local → ⊥)
+            → Good p credit (slotIn ss i) (runOf (l .rx) (p .«rx_cap») i (slotIn ss i)) (taken a (frameLen k) bs)
+        unfolding closedBy
+        else-mine a bs four wr dif =
+            let m = headerAt received in
+            let nc : isClose (k .command) ≡ false = write-no-close (k .command) wr in
+            let ec : isClse m ≡ false = reads-close received limitE k sy ∙ nc in
+            packet-good p credit _ lim _ _ b g dirE i received (endsOther dirE ch) limitE k a fs bs _ _ sy four (else-test ∙ cond-false (isClose (k .command)) _ false nc)
+            (good-by p credit _ _ _ _ b _ refl refl
+            (frame-none dirE i (b .acked) m (bodyOf received k) a b
+            (by-test (isWrte m && eqb (m .arg1) (b .local))
+            (λ t. absurd (dif (sym (reads-arg1 received limitE k sy) ∙ eqb-true (m .arg1) (b .local) (and-true (isWrte m) (eqb (m .arg1) (b .local)) t .1)))) (λ t. t))
+            (ap (λ (x : Bool). x && cond (eqb (m .arg1) 0) (not (eqb (m .arg0) 0) && (eqb (first (hasRemote (m .arg0)) dirE) i)) (eqb (m .arg1) (b .local))) ec)) g)
+
+        else-direct : isDirect sj room k ≡ true → else-fine (readDirect ch (frameLen k) wj (bodyOf received k) (deliveredOf sj p (k .«data_length»)))
+        unfolding readDirect isDirect numberOf
+        else-direct t =
+            let d = deliveredOf sj p (k .«data_length») in
+            let t1 = and-true (isWrite (k .command) && eqb (k .arg1) (sj .local .0)) (leb (k .«data_length») room) t in
+            let t2 = and-true (isWrite (k .command)) (eqb (k .arg1) (sj .local .0)) (t1 .0) in
+            let e2 = eqb-true (k .arg1) (sj .local .0) (t2 .1) in
+            let ad = acks-other p (b .local) (d .slot) (d .ack) (λ e. ne (sym localj ∙ sym (ap (λ x. x .0) (delivered-same sj p (k .«data_length») .1)) ∙ e)) in
+            let aa = acks-append p (b .local) (ackFrames sj (rj .ack)) (ackFrames (d .slot) (d .ack)) in
+            let az = acksj in
+            else-ends (then wj (slotTo j (d .slot) ∷ []) (ackFrames (d .slot) (d .ack))) (Read (length (bodyOf received k))) (frameLen k) (bodyOf received k) (other-slot (d .slot)) refl (omega arith)
+            (else-mine (Read (length (bodyOf received k))) (bodyOf received k) refl (t2 .0) (λ e. ne (sym localj ∙ sym e2 ∙ e)))

@@ -21,7 +21,8 @@ use Rattle.protocol.specs.Message.{messageOf}
 use Rattle.protocol.specs.Packet.{maxPayload, payloadOf, packetOf, decodeOf}
 use Rattle.protocol.proofs.RoundTrip.{Says, says}
 use Rattle.slot.specs.declared.ChannelSlot.{ChannelSlot}
-use Rattle.slot.specs.Ids.{isClose}
+use Rattle.slot.specs.declared.ids.ChannelIds.{ChannelIds}
+use Rattle.slot.specs.Ids.{isClose, namedBy, closedBy}
 use Rattle.slot.specs.Slot.{emptySlot}
 use Rattle.slot.proofs.Laws.{cond-true, cond-false}
 use Rattle.table.specs.declared.Want.the-variants.{Remote}
@@ -35,9 +36,13 @@ use Rattle.connection.specs.declared.Received.the-variants.{Packet as PacketIs,
 use Rattle.connection.specs.declared.Refusal.the-variants.{InvalidCommand, InvalidMagic, PayloadTooLarge, InvalidChecksum}
 use Rattle.connection.specs.Answer.{refusalNumber, numberOf}
 use Rattle.connection.specs.Calls.{Lent, receivedBy, receivedOf, isWrite, isReady, bodyOf, frameLen}
-use Rattle.history.specs.Book.{Book, Mark, noMark, hasRemote, isWrte, isClse, isEarly, headerAt, payloadAt, closesB}
+use Rattle.history.specs.Book.{Book, Mark, noMark, hasRemote, isWrte, isClse, isEarly, headerAt, payloadAt, closesB, ownEnd}
 use Rattle.history.proofs.Places.{TableOk, first-le, place-found, place-le}
 use Rattle.history.proofs.Acts.{endsOf}
+
+and-cond : (x y : Bool) → (x && y) ≡ cond x y false
+and-cond true y = refl
+and-cond false y = refl
 
 -- ---- a packet, or none
 
@@ -75,6 +80,18 @@ word-write Close = refl
 word-write Write = refl
 word-write Auth = refl
 word-write StartTls = refl
+
+-- a WRTE is no CLSE
+pub write-no-close : (c : Command) → isWrite c ≡ true → isClose c ≡ false
+unfolding isWrite isClose
+write-no-close Sync e = refl
+write-no-close Connect e = refl
+write-no-close Open e = refl
+write-no-close Ready e = refl
+write-no-close Close e = sym e
+write-no-close Write e = refl
+write-no-close Auth e = refl
+write-no-close StartTls e = refl
 
 word-close : (c : Command) → eqb (wordOf c) (wordOf Close) ≡ isClose c
 unfolding wordOf lettersOf numOf isClose
@@ -116,6 +133,18 @@ module _ (received : List ℕ) (limit : ℕ) (k : Packet) (r : Says received lim
 
   pub body-small : length (bodyOf received k) ≤ limit
   body-small = let b = body-length in let w = r .known .within in let e = length-is in omega arith
+
+  -- a channel's own end, by `closed_by`
+  pub reads-end : (x y : ℕ) (ids : ChannelIds) → x ≡ ids .local .0 → y ≡ ids .remote .0 → ownEnd x y (headerAt received) ≡ closedBy ids k
+  unfolding closedBy
+  reads-end x y ids e f =
+      let m = headerAt received in
+      ap (λ (z : Bool). z && namedBy (record { local = record { 0 = x }; remote = record { 0 = y } }) (m .arg0) (m .arg1)) reads-close
+      ∙ ap (λ (z : ℕ). isClose (k .command) && namedBy (record { local = record { 0 = x }; remote = record { 0 = y } }) z (m .arg1)) reads-arg0
+      ∙ ap (λ (z : ℕ). isClose (k .command) && namedBy (record { local = record { 0 = x }; remote = record { 0 = y } }) (k .arg0) z) reads-arg1
+      ∙ ap (λ (z : ℕ). isClose (k .command) && namedBy (record { local = record { 0 = z }; remote = record { 0 = y } }) (k .arg0) (k .arg1)) e
+      ∙ ap (λ (z : ℕ). isClose (k .command) && namedBy (record { local = ids .local; remote = record { 0 = z } }) (k .arg0) (k .arg1)) f
+      ∙ and-cond (isClose (k .command)) (namedBy ids (k .arg0) (k .arg1))
 
 -- ---- marks beside slots
 

@@ -53,10 +53,6 @@ pub nil-of : (l : List ℕ) → length l ≡ 0 → l ≡ []
 nil-of [] e = refl
 nil-of (x ∷ l) e = absurd (omega arith)
 
-pub and-cond : (x y : Bool) → (x && y) ≡ cond x y false
-and-cond true y = refl
-and-cond false y = refl
-
 -- ---- slots that are the same channel
 
 pub record Alike (s t : ChannelSlot) : Type 0 where
