@@ -47,7 +47,8 @@ use Rattle.connection.specs.declared.Received.the-variants.{Packet as PacketIs,
 use Rattle.connection.specs.Act.{Acted, actOn}
 use Rattle.connection.specs.Answer.{refusalNumber, numberOf}
 use Rattle.table.specs.declared.ChannelId.{ChannelId}
-use Rattle.table.specs.Table.{first, wantedBy}
+use Rattle.table.specs.declared.Want.the-variants.{Remote}
+use Rattle.table.specs.Table.{first, wantedBy, placeOf}
 use Rattle.connection.specs.Calls.{isWrite, faultRefusal, readDirect, readActed, readSettled, reread, isDirect, readBy, readTaken, readFirst, readStep, idsIn, closeStep, frontBy, frontStep, errorRefusal, frontOf, takenBy, takeStep, ackFrames, settledAs, settleStep, isThere, slotFor, Lent, Outcome, Work, begun, then, thenActed, ends, dropped, policy, bodyOf, frameLen, receivedOf, unlessFault, dispatchBy, dispatchStep}
 use Rattle.history.specs.Run.{Sent, Seen}
 use Rattle.history.specs.Book.{isClse, hasRemote, endsOther, noMark, ownEnd, acceptedB, sentB, closedB, damagedB, isWrte, payloadAt, Mark, readB, readUsedB, isRefused, handedB, isEarly, settleB, isOn, Book, ackedB, acksOf, acksB, packetB, frameB, headerAt, never}
@@ -56,7 +57,7 @@ use Rattle.history.proofs.Acts.{frame-none, at-keeps, at-stays, Named, 
 use Rattle.history.proofs.Good.{deliver-good, shut-good, settle-empty, acked-drop, took-good, handed-none, Good, Limits, acked-none, carried, settle-good}
 use Rattle.history.proofs.Packets.{Stops, Got, stopped, packet, got, markOf, reads-write, reads-close, reads-arg0, reads-arg1, reads-payload, write-no-close, reads-end, mark-at, body-length, body-small, closes-agree}
 use Rattle.history.proofs.Places.{At, slots-by, slots-append, slots-length, slotsBy, slot-set-same, slot-set-other, SameRun, TableOk}
-use Rattle.history.proofs.Steps.{table-set, delivered-same, damaged-good, nil-of, Alike, settled-alike, settled-run, acted-good, seenOf, stop-good, packet-good, not-four, tells-fault, Fine, ends-fine}
+use Rattle.history.proofs.Steps.{late-error, late-unless, four-error, over-told, table-set, delivered-same, damaged-good, nil-of, Alike, settled-alike, settled-run, acted-good, seenOf, stop-good, packet-good, not-four, tells-fault, Fine, ends-fine}
 
 module _ (l : Lent) (credit : ℕ) (ok : TableOk (policy l) (l .state .header .negotiated .config .channels) (l .state .slots) (l .rx))
     (lim : Limits (policy l) credit (l .state .header .negotiated .config .«max_payload»)) (i : ℕ) (there : slotIn (l .state .slots) i .filled ≡ true)
@@ -142,6 +143,17 @@ module _ (l : Lent) (credit : ℕ) (ok : TableOk (policy l) (l .state .header .n
       let s = slotIn ss (ch .slot) in
       let t1 = and-true (ltb (ch .slot) (l .state .header .negotiated .config .channels)) (s .filled && eqb (s .local .0) (ch .local .0)) t in
       eqb-true (s .local .0) (ch .local .0) (and-true (s .filled) (eqb (s .local .0) (ch .local .0)) (t1 .1) .1)
+
+  none-acks : acksIn p (b .local) (ends (begun (dropped (l .state .header)) l) (Refused ChannelClosed) 0 [] .frames) ≡ 0
+  unfolding ends
+  none-acks = refl
+
+  -- and uses nothing
+  none-taken : (ch : ChannelId) (fs : List Sent) (received : List ℕ)
+      → Good p credit (slotIn ss i) (runOf (l .rx) (p .«rx_cap») i (slotIn ss i))
+      (packetB (map markOf ss) i received (endsOther (map markOf ss) ch) (seenOf (ends (begun (dropped (l .state .header)) l) (Refused ChannelClosed) 0 []) fs) b)
+  unfolding packetB ends
+  none-taken ch fs received = g
 
   -- a call on no channel leaves the slots
   none-fine : (a : Answer) (c : Book) → Good p credit (slotIn ss i) (runOf (l .rx) (p .«rx_cap») i (slotIn ss i)) c → Fine p credit ss i (ends (begun (dropped (l .state .header)) l) a 0 []) c
@@ -409,13 +421,6 @@ module _ (l : Lent) (credit : ℕ) (ok : TableOk (policy l) (l .state .header .n
     read-plain : (a : Answer) → isEarly a ≡ false → reads-fine (ends (then w1 (slotTo i s1 ∷ []) []) a 0 [])
     read-plain a late = unused-fine s1 a [] late (handed-none p credit s1 q1 _ good1)
 
-    late-error : (e : ChannelError) → isEarly (Refused (errorRefusal e)) ≡ false
-    unfolding numberOf refusalNumber errorRefusal faultRefusal
-    late-error ErrorClosed = refl
-    late-error (Fault RxOverflow) = refl
-    late-error (Fault ShortReadyPayload) = refl
-    late-error (Fault UnexpectedCommand) = refl
-
     damaged-book : (a : Answer) (used k : ℕ) → eqb (numberOf a) 4 ≡ true
         → readUsedB p dir i (b .acked) room received (record { answer = a; used = used; sent = fs; got = [] }) k B0 ≡ ackedB k (damagedB (b .acked) (headerAt received) (payloadAt received used) B0)
     unfolding readUsedB
@@ -662,20 +667,6 @@ module _ (l : Lent) (credit : ℕ) (ok : TableOk (policy l) (l .state .header .n
                 over = λ own e. absurd (at-fits p _ _ _ _ _ _ _ _ at2 own held1 e);
               }
 
-          late-unless : (f : Failed) (a : Answer) → isEarly a ≡ false → isEarly (unlessFault f a) ≡ false
-          unfolding unlessFault faultRefusal numberOf refusalNumber
-          late-unless No a e = e
-          late-unless (By RxOverflow) a e = refl
-          late-unless (By ShortReadyPayload) a e = refl
-          late-unless (By UnexpectedCommand) a e = refl
-
-          four-error : (x : ChannelError) → eqb (numberOf (Refused (errorRefusal x))) 4 ≡ false
-          unfolding numberOf refusalNumber errorRefusal faultRefusal
-          four-error ErrorClosed = refl
-          four-error (Fault RxOverflow) = refl
-          four-error (Fault ShortReadyPayload) = refl
-          four-error (Fault UnexpectedCommand) = refl
-
           abbrev rereads : Taken → Outcome
           rereads y = reread (me local) (p .«rx_cap») (frameLen k) (act .fault) w3 (r3 .slot) y
 
@@ -841,3 +832,186 @@ module _ (l : Lent) (credit : ℕ) (ok : TableOk (policy l) (l .state .header .n
             let az = acksj in
             else-ends (then wj (slotTo j (d .slot) ∷ []) (ackFrames (d .slot) (d .ack))) (Read (length (bodyOf received k))) (frameLen k) (bodyOf received k) (other-slot (d .slot)) refl (omega arith)
             (else-mine (Read (length (bodyOf received k))) (bodyOf received k) refl (t2 .0) (λ e. ne (sym localj ∙ sym e2 ∙ e)))
+
+        -- any other packet: dispatched, then the other channel settles and takes again
+        abbrev ssj : List ChannelSlot
+        ssj = set ss j sj
+
+        okj : TableOk p (l .state .header .negotiated .config .channels) ssj (l .rx)
+        okj = table-set p (l .state .header .negotiated .config .channels) ss (l .rx) j sj ok fill alikej (settled-sound (slotIn ss j) p room (p .«rx_cap») (ok .sound j fill))
+
+        uj : slotIn ssj j ≡ sj
+        uj = let z = ok .size in let y = ok .most in let h = ok .below j fill in slot-set-same ss j sj (omega arith)
+
+        ui : slotIn ssj i ≡ slotIn ss i
+        ui = other-slot sj
+
+        therei : slotIn ssj i .filled ≡ true
+        therei = ap (λ (x : ChannelSlot). x .filled) ui ∙ there
+
+        therej : slotIn ssj j .filled ≡ true
+        therej = ap (λ (x : ChannelSlot). x .filled) uj ∙ alikej .filled ∙ fill
+
+        dirj : dirE ≡ map markOf ssj
+        unfolding slotIn
+        dirj = sym (map-set-same markOf ss j sj emptySlot (ap₂ (λ (x : Bool) (y : ℕ). cond x (record { there = true; remote = y }) noMark) (alikej .filled) (ap (λ x. x .0) (alikej .remote))))
+
+        abbrev actj : Acted
+        actj = actOn (dropped (l .state .header)) ssj (l .state .opens) (l .rx) (l .store) k (bodyOf received k)
+
+        abbrev tsj : List ChannelSlot
+        tsj = slotsBy ssj (actj .changes)
+
+        good-i : Good p credit (slotIn ssj i) (runOf (l .rx) (p .«rx_cap») i (slotIn ssj i)) b
+        good-i = good-by p credit _ _ _ _ b b ui (ap (runOf (l .rx) (p .«rx_cap») i) ui) refl g
+
+        -- this slot after the packet, and its book
+        acted-i : (a : Answer) (bs : List ℕ) → eqb (numberOf a) 4 ≡ false → closedBy (idsIn sj) k ≡ false → Tells (mineOf ssj i k) (actj .fault) a
+            → Good p credit (slotIn tsj i) (runOf (actj .rx) (p .«rx_cap») i (slotIn tsj i)) (taken a (frameLen k) bs)
+        acted-i a bs four u tells =
+            packet-good p credit _ lim _ _ b good-i dirE i received (endsOther dirE ch) limitE k a fs bs _ _ sy four (else-test ∙ u)
+            (acted-good (dropped (l .state .header)) ssj (l .state .opens) (l .rx) (l .store) okj credit lim i therei b good-i dirE dirj received k sy (b .acked) (omega arith) a tells)
+
+        atj : At p (slotIn ssj j) (runOf (l .rx) (p .«rx_cap») j (slotIn ssj j)) (bodyOf received k) (mineOf ssj j k) (endsOf (l .state .header .negotiated .config .channels) ssj j k) (slotIn tsj j) (runOf (actj .rx) (p .«rx_cap») j (slotIn tsj j)) (actj .fault)
+        atj = acted-at (dropped (l .state .header)) ssj (l .state .opens) (l .rx) (l .store) k (bodyOf received k) okj j therej
+
+        knownj : slotIn tsj j .«has_remote» ≡ true
+        knownj = at-named p _ _ _ _ _ _ _ _ atj .known ∙ okj .known j therej
+
+        abbrev rj3 : Settled
+        rj3 = settledOf (slotIn tsj j) p room
+
+        localj3 : rj3 .slot .local .0 ≡ slotIn ss j .local .0
+        localj3 =
+            ap (λ x. x .0) (settled-alike (slotIn tsj j) p room knownj .local) ∙ ap (λ x. x .0) (at-named p _ _ _ _ _ _ _ _ atj .local)
+            ∙ ap (λ (x : ChannelSlot). x .local .0) uj ∙ localj
+
+        abbrev wj3 : Work
+        wj3 = then (thenActed (then wj (slotTo j sj ∷ []) []) actj) [] (ackFrames (rj3 .slot) (rj3 .ack))
+
+        acksj3 : acksIn p (b .local) (wj3 .frames ++ []) ≡ 0
+        acksj3 =
+            let e0 = ap (acksIn p (b .local)) (append-nil (wj3 .frames)) in
+            let e1 = acks-append p (b .local) ((ackFrames sj (rj .ack) ++ []) ++ actj .frames) (ackFrames (rj3 .slot) (rj3 .ack)) in
+            let e2 = acks-append p (b .local) (ackFrames sj (rj .ack) ++ []) (actj .frames) in
+            let e3 = no-acks in
+            let e4 = acted-acks (dropped (l .state .header)) ssj (l .state .opens) (l .rx) (l .store) k (bodyOf received k) (b .local) in
+            let e5 = acks-other p (b .local) (rj3 .slot) (rj3 .ack) (λ e. ne (sym localj3 ∙ e)) in
+            omega arith
+
+        slot-i : (t : ChannelSlot) → slotIn (slotsBy ss (then wj3 (slotTo j t ∷ []) [] .changes)) i ≡ slotIn tsj i
+        slot-i t =
+            let xs = actj .changes ++ [] in
+            ap (λ (x : List ChannelSlot). slotIn x i) (slots-append ssj xs (slotTo j t ∷ [])) ∙ slot-set-other (slotsBy ssj xs) j i t away
+            ∙ ap (λ (x : List Change). slotIn (slotsBy ssj x) i) (append-nil (actj .changes))
+
+        final-else : (t : ChannelSlot) (a : Answer) (bs : List ℕ) → Good p credit (slotIn tsj i) (runOf (actj .rx) (p .«rx_cap») i (slotIn tsj i)) (taken a (frameLen k) bs)
+            → else-fine (ends (then wj3 (slotTo j t ∷ []) []) a (frameLen k) bs)
+        unfolding ends
+        final-else t a bs f e =
+            let s = slot-i t in
+            ends-fine p credit ss i (then wj3 (slotTo j t ∷ []) []) a (frameLen k) bs _
+            (acked-none p credit _ _ _ (good-by p credit _ _ _ _ _ _ s (ap (runOf (actj .rx) (p .«rx_cap») i) s) refl f) (acksOf (b .local) fs) (e ∙ acksj3))
+
+        -- a WRTE for this slot leaves the other as it was
+        module _ (nodata : hasData sj ≡ false) (live : isClosed (sj .state) ≡ false) (own : mineOf ssj i k ≡ true) where
+          own-write : isWrite (k .command) ≡ true
+          own-write = and-true (isWrite (k .command)) (eqb (k .arg1) (slotIn ssj i .local .0)) own .0
+
+          not-j : mineOf ssj j k ≡ false
+          not-j =
+              by-test (mineOf ssj j k)
+              (λ t. let x = eqb-true (k .arg1) (slotIn ssj i .local .0) (and-true (isWrite (k .command)) (eqb (k .arg1) (slotIn ssj i .local .0)) own .1) in
+              let y = eqb-true (k .arg1) (slotIn ssj j .local .0) (and-true (isWrite (k .command)) (eqb (k .arg1) (slotIn ssj j .local .0)) t .1) in
+              absurd (away (okj .apart i j therei therej (sym x ∙ y))))
+              (λ t. t)
+
+          still-none : hasData (rj3 .slot) ≡ false
+          unfolding hasData
+          still-none =
+              let e0 : rj3 .slot .buffered ≡ sj .buffered = settled-run (slotIn tsj j) p room knownj .more ∙ at-keeps p _ _ _ _ _ _ _ _ atj not-j ∙ ap (λ (x : ChannelSlot). x .buffered) uj in
+              let e1 : rj3 .slot .«has_remote» ≡ sj .«has_remote» = settled-alike (slotIn tsj j) p room knownj .known ∙ at-named p _ _ _ _ _ _ _ _ atj .known ∙ ap (λ (x : ChannelSlot). x .«has_remote») uj in
+              ap₂ (λ (x : Bool) (y : ℕ). cond x (not (eqb y 0)) false) e1 e0 ∙ nodata
+
+          still-live : isClosed (rj3 .slot .state) ≡ false
+          still-live =
+              let nc = write-no-close (k .command) own-write in
+              ap isClosed (settled-alike (slotIn tsj j) p room knownj .state)
+              ∙ at-stays p _ _ _ _ _ _ _ _ atj (ap (λ (x : Bool). x && cond (eqb (k .arg1) 0) (not (eqb (k .arg0) 0) && eqb (placeOf (Remote (record { 0 = k .arg0 })) (l .state .header .negotiated .config .channels) ssj) j) (eqb (k .arg1) (slotIn ssj j .local .0))) nc)
+              (ap (λ (x : ChannelSlot). isClosed (x .state)) uj ∙ live)
+
+        else-again : hasData sj ≡ false → isClosed (sj .state) ≡ false → closedBy (idsIn sj) k ≡ false → else-fine (reread ch (p .«rx_cap») (frameLen k) (actj .fault) wj3 (rj3 .slot) (takenOf (rj3 .slot) room))
+        unfolding takenOf reread numberOf
+        else-again nodata live u =
+            let n = takeLen (rj3 .slot) room in
+            let P : Taken → Type 0 = λ y. else-fine (reread ch (p .«rx_cap») (frameLen k) (actj .fault) wj3 (rj3 .slot) y) in
+            pick P (hasData (rj3 .slot))
+            (λ d. final-else (tookOf (rj3 .slot) n) (Read n) _
+            (acted-i (Read n) _ refl u (record { taken = λ own e. refl; over = λ own e. absurd (true≢false (sym d ∙ still-none nodata live own)) })))
+            (λ d. pick P (isClosed (rj3 .slot .state))
+            (λ c. let x = errorOf (rj3 .slot .failed) in
+            let a = unlessFault (actj .fault) (Refused (errorRefusal x)) in
+            final-else (rj3 .slot) a []
+            (acted-i a [] (not-four (actj .fault) (Refused (errorRefusal x)) (four-error x)) u
+            (record { taken = λ own e. absurd (true≢false (sym c ∙ still-live nodata live own)); over = λ own e. over-told (actj .fault) (Refused (errorRefusal x)) e })))
+            (λ c. let a = unlessFault (actj .fault) Waiting in
+            final-else (rj3 .slot) a [] (acted-i a [] (not-four (actj .fault) Waiting refl) u (tells-fault (mineOf ssj i k) (actj .fault) Waiting refl))))
+
+        else-acted : hasData sj ≡ false → isClosed (sj .state) ≡ false → closedBy (idsIn sj) k ≡ false → else-fine (readActed l ch room (frameLen k) (then wj (slotTo j sj ∷ []) []) actj)
+        unfolding readActed readSettled
+        else-acted nodata live u =
+            let e : slotIn (changedAll (l .state) (slotTo j sj ∷ actj .changes) .slots) j ≡ slotIn tsj j = ap (λ (x : List ChannelSlot). slotIn x j) (slots-by (l .state) (slotTo j sj ∷ actj .changes)) in
+            subst (λ (x : ChannelSlot). else-fine (readSettled l ch room (frameLen k) (actj .fault) (thenActed (then wj (slotTo j sj ∷ []) []) actj) (settledOf x p room))) (sym e) (else-again nodata live u)
+
+        else-packet : hasData sj ≡ false → isClosed (sj .state) ≡ false → else-fine (readBy l ch room wj sj received (PacketIs k))
+        unfolding readBy
+        else-packet nodata live =
+            by-test (isDirect sj room k)
+            (λ t. subst else-fine (sym (cond-true (isDirect sj room k) _ _ t)) (else-direct t))
+            (λ t. by-test (closedBy (idsIn sj) k)
+            (λ u. subst else-fine (sym (cond-false (isDirect sj room k) _ _ t ∙ cond-true (closedBy (idsIn sj) k) _ _ u)) (else-end u))
+            (λ u. subst else-fine (sym (cond-false (isDirect sj room k) _ _ t ∙ cond-false (closedBy (idsIn sj) k) _ _ u)) (else-acted nodata live u)))
+
+      else-received : hasData sj ≡ false → isClosed (sj .state) ≡ false → (r : Received) → Got received (l .state .header .negotiated .config .«max_payload») r → else-fine (readBy l ch room wj sj received r)
+      unfolding readBy
+      else-received nodata live r (stopped a used st) = else-stop a used st
+      else-received nodata live r (packet k sy) = else-packet k sy nodata live
+
+      -- a read on another channel
+      read-else : else-fine (readFirst l ch room received rj)
+      unfolding readFirst readTaken takenOf
+      read-else =
+          let P : Taken → Type 0 = λ y. else-fine (readTaken l ch room wj sj received y) in
+          by-test (hasData sj)
+          (λ d. subst P (sym (cond-true (hasData sj) _ _ d)) (else-plain (tookOf sj (takeLen sj room)) (Read (takeLen sj room)) _))
+          (λ d. by-test (isClosed (sj .state))
+          (λ c. subst P (sym (cond-false (hasData sj) _ _ d ∙ cond-true (isClosed (sj .state)) _ _ c)) (else-plain sj (Refused (errorRefusal (errorOf (sj .failed)))) []))
+          (λ c. subst P (sym (cond-false (hasData sj) _ _ d ∙ cond-false (isClosed (sj .state)) _ _ c))
+          (subst else-fine (sym (cond-true (sj .«has_remote») _ _ (alikej .known ∙ ok .known j fill))) (else-received d c (receivedOf l received) (got l received)))))
+
+  -- ---- read
+
+  module _ (room : ℕ) (received : List ℕ) (fs : List Sent) where
+    abbrev read-fine : ChannelId → Outcome → Type 0
+    read-fine ch x =
+        acksOf (b .local) fs ≡ acksIn p (b .local) (x .frames)
+        → Fine p credit ss i x
+        (cond (isOn i b ch) (readB p (map markOf ss) i room received (seenOf x fs) (acksOf (b .local) fs) b)
+        (acksB (b .local) (seenOf x fs) (packetB (map markOf ss) i received (endsOther (map markOf ss) ch) (seenOf x fs) b)))
+
+    read-by : (ch : ChannelId) → On ch → read-fine ch (readStep l ch room received)
+    unfolding readStep slotFor
+    read-by ch (this d t o) =
+        subst (read-fine ch) (sym (cond-true (isThere l ch) _ _ t))
+        (subst (λ (x : ChannelId). read-fine x (readFirst l x room received (settledOf (slotIn ss (x .slot)) p room))) (sym (is-me ch d))
+        (λ e. good-by p credit _ _ _ _ _ _ refl refl (cond-true (isOn i b (me (ch .local))) _ _ (ap (isOn i b) (sym (is-me ch d)) ∙ o)) (read-this room received fs (ch .local) e)))
+    read-by ch (another d t f ne o) =
+        subst (read-fine ch) (sym (cond-true (isThere l ch) _ _ t))
+        (λ e. good-by p credit _ _ _ _ _ _ refl refl (cond-false (isOn i b ch) _ _ o) (read-else ch d t f ne fs received room e))
+    read-by ch (none t o) =
+        subst (read-fine ch) (sym (cond-false (isThere l ch) _ _ t))
+        (λ e. good-by p credit _ _ _ _ _ _ refl refl (cond-false (isOn i b ch) _ _ o)
+        (quiet-acks (ends (begun (dropped (l .state .header)) l) (Refused ChannelClosed) 0 []) fs _ e none-acks (none-fine (Refused ChannelClosed) _ (none-taken ch fs received))))
+
+    pub read-call : (ch : ChannelId) → read-fine ch (readStep l ch room received)
+    read-call ch = read-by ch (on ch)

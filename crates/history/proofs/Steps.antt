@@ -14,6 +14,8 @@ use Rattle.config.specs.Negotiated.{policyOf}
 use Rattle.protocol.specs.declared.packet.Packet.{Packet}
 use Rattle.protocol.specs.declared.message.Message.{Message}
 use Rattle.protocol.proofs.RoundTrip.{Says}
+use Rattle.slot.specs.declared.ChannelError.{ChannelError}
+use Rattle.slot.specs.declared.ChannelError.the-variants.{Closed as ErrorClosed, Fault}
 use Rattle.slot.specs.declared.ChannelFault.the-variants.{RxOverflow, ShortReadyPayload, UnexpectedCommand}
 use Rattle.slot.specs.declared.ChannelSlot.{ChannelSlot}
 use Rattle.slot.specs.declared.Failed.{Failed}
@@ -33,10 +35,10 @@ use Rattle.connection.specs.declared.Answer.the-variants.{Done, Waiting, Refuse
 use Rattle.connection.specs.declared.Refusal.{Refusal}
 use Rattle.connection.specs.Act.{Acted, actOn}
 use Rattle.connection.specs.Answer.{refusalNumber, numberOf}
-use Rattle.connection.specs.Calls.{Lent, Outcome, Work, begun, then, thenActed, ends, policy, bodyOf, frameLen, unlessFault, faultRefusal, isWrite}
+use Rattle.connection.specs.Calls.{Lent, Outcome, Work, begun, then, thenActed, ends, policy, bodyOf, frameLen, unlessFault, errorRefusal, faultRefusal, isWrite}
 use Rattle.connection.specs.Frames.{Frame}
 use Rattle.history.specs.Run.{Sent, Seen}
-use Rattle.history.specs.Book.{Book, Mark, sentB, ackedB, handedB, settleB, isRefused, isWrte, headerAt, payloadAt, damagedB, frameB, packetB, acksOf, acksB, closesB}
+use Rattle.history.specs.Book.{Book, Mark, sentB, ackedB, handedB, settleB, isRefused, isEarly, isWrte, headerAt, payloadAt, damagedB, frameB, packetB, acksOf, acksB, closesB}
 use Rattle.history.specs.Demand3.{runOf}
 use Rattle.history.proofs.Acts.{acksIn, acks-append, mineOf, endsOf, acted-acks, acted-at, Tells, good-by, at-good}
 use Rattle.history.proofs.Good.{Good, Limits, Settles, already, not-due, due, settles, sent-good, acked-none}
@@ -163,6 +165,33 @@ tells-fault mine fault a e =
       taken = λ m f. ap (λ (x : Failed). isRefused (unlessFault x a)) f ∙ e;
       over = λ m f. (ap (λ (x : Failed). isRefused (unlessFault x a)) f, ap (λ (x : Failed). eqb (numberOf (unlessFault x a)) 11) f);
     }
+
+-- the other half of it, whatever else the answer would be
+pub over-told : (fault : Failed) (a : Answer) → fault ≡ By RxOverflow → (isRefused (unlessFault fault a) ≡ true) × (eqb (numberOf (unlessFault fault a)) 11 ≡ true)
+unfolding unlessFault faultRefusal numberOf refusalNumber
+over-told fault a e = (ap (λ (x : Failed). isRefused (unlessFault x a)) e, ap (λ (x : Failed). eqb (numberOf (unlessFault x a)) 11) e)
+
+-- these answers are none of 8, 9 and 13, nor 4
+pub late-error : (e : ChannelError) → isEarly (Refused (errorRefusal e)) ≡ false
+unfolding numberOf refusalNumber errorRefusal faultRefusal
+late-error ErrorClosed = refl
+late-error (Fault RxOverflow) = refl
+late-error (Fault ShortReadyPayload) = refl
+late-error (Fault UnexpectedCommand) = refl
+
+pub late-unless : (f : Failed) (a : Answer) → isEarly a ≡ false → isEarly (unlessFault f a) ≡ false
+unfolding unlessFault faultRefusal numberOf refusalNumber
+late-unless No a e = e
+late-unless (By RxOverflow) a e = refl
+late-unless (By ShortReadyPayload) a e = refl
+late-unless (By UnexpectedCommand) a e = refl
+
+pub four-error : (x : ChannelError) → eqb (numberOf (Refused (errorRefusal x))) 4 ≡ false
+unfolding numberOf refusalNumber errorRefusal faultRefusal
+four-error ErrorClosed = refl
+four-error (Fault RxOverflow) = refl
+four-error (Fault ShortReadyPayload) = refl
+four-error (Fault UnexpectedCommand) = refl
 
 -- ---- the place of one channel in a call
 
