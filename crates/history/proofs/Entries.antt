@@ -24,12 +24,14 @@ use Rattle.slot.specs.declared.Settled.{Settled}
 use Rattle.slot.specs.declared.ChannelError.{ChannelError}
 use Rattle.slot.specs.declared.ChannelError.the-variants.{Closed as ErrorClosed, Fault}
 use Rattle.slot.specs.declared.ChannelFault.the-variants.{RxOverflow, ShortReadyPayload, UnexpectedCommand}
+use Rattle.slot.specs.declared.Budget.{Budget}
+use Rattle.slot.specs.declared.Budget.the-variants.{Bytes, Nothing as NoBudget}
 use Rattle.slot.specs.declared.Taken.{Taken}
 use Rattle.slot.specs.declared.Taken.the-variants.{Data, Nothing as NothingTaken, Closed as ClosedTaken}
 use Rattle.slot.specs.declared.ids.ChannelIds.{ChannelIds}
 use Rattle.slot.specs.declared.ids.LocalId.{LocalId}
 use Rattle.slot.specs.Ids.{isClose, namedBy, closedBy}
-use Rattle.slot.specs.Slot.{closedSlot, deliveredOf, emptySlot, settledOf, tookOf, takenOf, takeLen, hasData, isClosed, errorOf, heldOf, SlotOk}
+use Rattle.slot.specs.Slot.{budgetOf, spentOf, readyOf, closedSlot, deliveredOf, emptySlot, settledOf, tookOf, takenOf, takeLen, hasData, isClosed, errorOf, heldOf, SlotOk}
 use Rattle.slot.proofs.Kept.{pick, settled-sound}
 use Rattle.slot.proofs.Laws.{cond-true, cond-false, take-held}
 use Rattle.state.specs.declared.Header.{Header}
@@ -37,11 +39,11 @@ use Rattle.state.specs.Change.{changedAll, Step, Change, slotTo, headerTo}
 use Rattle.incoming.specs.declared.Front.{Front}
 use Rattle.incoming.specs.declared.Front.the-variants.{Open as FrontOpen, Nothing as NoFront}
 use Rattle.incoming.specs.Incoming.{popped}
-use Rattle.connection.specs.Frames.{Frame, closeFrame}
+use Rattle.connection.specs.Frames.{Frame, closeFrame, writeFrame, framesBytes}
 use Rattle.table.specs.Dispatch.{slotIn, shareOf}
 use Rattle.connection.specs.declared.Answer.{Answer}
 use Rattle.connection.specs.declared.Answer.the-variants.{Done, Waiting, Nothing, Settled as SettledIs, Read, Written, Front as FrontIs, Refused}
-use Rattle.connection.specs.declared.Refusal.the-variants.{ChannelClosed}
+use Rattle.connection.specs.declared.Refusal.the-variants.{ChannelClosed, OutShort, ShortReadyPayload as ReadyShort}
 use Rattle.connection.specs.declared.Received.{Received}
 use Rattle.connection.specs.declared.Received.the-variants.{Packet as PacketIs, Stop}
 use Rattle.connection.specs.Act.{Acted, actOn}
@@ -49,15 +51,15 @@ use Rattle.connection.specs.Answer.{refusalNumber, numberOf}
 use Rattle.table.specs.declared.ChannelId.{ChannelId}
 use Rattle.table.specs.declared.Want.the-variants.{Remote}
 use Rattle.table.specs.Table.{first, wantedBy, placeOf}
-use Rattle.connection.specs.Calls.{isWrite, faultRefusal, readDirect, readActed, readSettled, reread, isDirect, readBy, readTaken, readFirst, readStep, idsIn, closeStep, frontBy, frontStep, errorRefusal, frontOf, takenBy, takeStep, ackFrames, settledAs, settleStep, isThere, slotFor, Lent, Outcome, Work, begun, then, thenActed, ends, dropped, policy, bodyOf, frameLen, receivedOf, unlessFault, dispatchBy, dispatchStep}
+use Rattle.connection.specs.Calls.{untouched, sendLen, sendSome, sendBy, sendAgain, writeReadied, writeActed, writeAct, writeBy, writeFirst, writeOn, writeStep, isReady, isWrite, faultRefusal, readDirect, readActed, readSettled, reread, isDirect, readBy, readTaken, readFirst, readStep, idsIn, closeStep, frontBy, frontStep, errorRefusal, frontOf, takenBy, takeStep, ackFrames, settledAs, settleStep, isThere, slotFor, Lent, Outcome, Work, begun, then, thenActed, ends, dropped, policy, bodyOf, frameLen, receivedOf, unlessFault, dispatchBy, dispatchStep}
 use Rattle.history.specs.Run.{Sent, Seen}
-use Rattle.history.specs.Book.{isClse, hasRemote, endsOther, noMark, ownEnd, acceptedB, sentB, closedB, damagedB, isWrte, payloadAt, Mark, readB, readUsedB, isRefused, handedB, isEarly, settleB, isOn, Book, ackedB, acksOf, acksB, packetB, frameB, headerAt, never}
+use Rattle.history.specs.Book.{writeB, isClse, hasRemote, endsOther, noMark, ownEnd, acceptedB, sentB, closedB, damagedB, isWrte, payloadAt, Mark, readB, readUsedB, isRefused, handedB, isEarly, settleB, isOn, Book, ackedB, acksOf, acksB, packetB, frameB, headerAt, never}
 use Rattle.history.specs.Demand3.{runOf}
 use Rattle.history.proofs.Acts.{frame-none, at-keeps, at-stays, Named, at-named, at-sound, at-fits, at-live, acted-length, acks-own, acks-other, acksIn, acks-append, mineOf, endsOf, acted-acks, acted-at, Tells, good-by, at-good}
-use Rattle.history.proofs.Good.{deliver-good, shut-good, settle-empty, acked-drop, took-good, handed-none, Good, Limits, acked-none, carried, settle-good}
+use Rattle.history.proofs.Good.{ready-good, spent-good, Leaves, deliver-good, shut-good, settle-empty, acked-drop, took-good, handed-none, Good, Limits, acked-none, carried, settle-good}
 use Rattle.history.proofs.Packets.{Stops, Got, stopped, packet, got, markOf, reads-write, reads-close, reads-arg0, reads-arg1, reads-payload, write-no-close, reads-end, mark-at, body-length, body-small, closes-agree}
-use Rattle.history.proofs.Places.{At, slots-by, slots-append, slots-length, slotsBy, slot-set-same, slot-set-other, SameRun, TableOk}
-use Rattle.history.proofs.Steps.{late-error, late-unless, four-error, over-told, table-set, delivered-same, damaged-good, nil-of, Alike, settled-alike, settled-run, acted-good, seenOf, stop-good, packet-good, not-four, tells-fault, Fine, ends-fine}
+use Rattle.history.proofs.Places.{closed-run, ready-run, At, slots-by, slots-append, slots-length, slotsBy, slot-set-same, slot-set-other, SameRun, TableOk}
+use Rattle.history.proofs.Steps.{spent-run, late-error, late-unless, four-error, over-told, table-set, delivered-same, damaged-good, nil-of, Alike, settled-alike, settled-run, acted-good, seenOf, stop-good, packet-good, not-four, tells-fault, Fine, ends-fine}
 
 module _ (l : Lent) (credit : ℕ) (ok : TableOk (policy l) (l .state .header .negotiated .config .channels) (l .state .slots) (l .rx))
     (lim : Limits (policy l) credit (l .state .header .negotiated .config .«max_payload»)) (i : ℕ) (there : slotIn (l .state .slots) i .filled ≡ true)
@@ -1015,3 +1017,132 @@ module _ (l : Lent) (credit : ℕ) (ok : TableOk (policy l) (l .state .header .n
 
     pub read-call : (ch : ChannelId) → read-fine ch (readStep l ch room received)
     read-call ch = read-by ch (on ch)
+
+  -- ---- write
+
+  module _ (ch : ChannelId) (out : ℕ) (bytes received : List ℕ) (fs : List Sent) where
+    abbrev dirW : List Mark
+    dirW = map markOf ss
+
+    -- the book, before the credit that was written
+    abbrev entered : Answer → ℕ → List ℕ → Book
+    entered a used bs =
+        cond (isOn i b ch) (writeB dirW i received (record { answer = a; used = used; sent = fs; got = bs }) b)
+        (packetB dirW i received (endsOther dirW ch) (record { answer = a; used = used; sent = fs; got = bs }) b)
+
+    abbrev write-fine : Outcome → Type 0
+    write-fine x = acksOf (b .local) fs ≡ acksIn p (b .local) (x .frames) → Fine p credit ss i x (acksB (b .local) (seenOf x fs) (entered (x .answer) (x .used) (x .handed)))
+
+    -- with no packet used the book stays
+    entered-none : (a : Answer) (bs : List ℕ) → entered a 0 bs ≡ b
+    unfolding writeB packetB
+    entered-none a bs = by-test (isOn i b ch) (λ t. cond-true (isOn i b ch) _ _ t) (λ t. cond-false (isOn i b ch) _ _ t)
+
+    -- nothing was changed
+    write-untouched : write-fine (untouched l OutShort)
+    write-untouched e = acked-none p credit _ _ _ (good-by p credit _ _ _ _ b _ refl refl (entered-none (Refused OutShort) []) g) (acksOf (b .local) fs) e
+
+    -- the slot at this place after a call's end, beside the book
+    abbrev Left : Work → Answer → ℕ → Type 0
+    Left w a used = Good p credit (slotIn (slotsBy ss (w .changes)) i) (runOf (w .rx) (p .«rx_cap») i (slotIn (slotsBy ss (w .changes)) i)) (entered a used [])
+
+    write-ends : (w : Work) (a : Answer) (used : ℕ) → acksIn p (b .local) (w .frames) ≡ 0 → Left w a used → write-fine (ends w a used [])
+    unfolding ends
+    write-ends w a used z f e = ends-fine p credit ss i w a used [] _ (acked-none p credit _ _ _ f (acksOf (b .local) fs) (e ∙ z))
+
+    -- a turn of the loop: closed, sent, or waiting
+    module _ (used : ℕ) (w : Work) (s : ChannelSlot) (quiet : acksIn p (b .local) (w .frames) ≡ 0) where
+      still-quiet : (f : List Frame) → acksIn p (b .local) f ≡ 0 → acksIn p (b .local) (w .frames ++ f) ≡ 0
+      still-quiet f z = let e = acks-append p (b .local) (w .frames) f in omega arith
+
+      sent-fine : (n : ℕ) → Left (then w (slotTo (ch .slot) (spentOf s p n) ∷ []) (writeFrame (idsIn s) (take n bytes) ∷ [])) (Written n) used → write-fine (sendSome l ch out bytes used w s n)
+      unfolding sendSome
+      sent-fine n f =
+          pick write-fine (ltb out (length (framesBytes (w .header .negotiated) (w .frames)) + 24 + n)) (λ t. write-untouched)
+          (λ t. write-ends (then w (slotTo (ch .slot) (spentOf s p n) ∷ []) (writeFrame (idsIn s) (take n bytes) ∷ [])) (Written n) used (still-quiet (writeFrame (idsIn s) (take n bytes) ∷ []) refl) f)
+
+      module _ (h2 : (n : ℕ) → Left (then w (slotTo (ch .slot) (spentOf s p n) ∷ []) (writeFrame (idsIn s) (take n bytes) ∷ [])) (Written n) used)
+          (h3 : Left (then w (slotTo (ch .slot) s ∷ []) []) Waiting used) where
+        by-budget : (x : Budget) → write-fine (sendBy l ch out bytes used w s x)
+        unfolding sendBy
+        by-budget (Bytes most) = sent-fine (sendLen l bytes most) (h2 (sendLen l bytes most))
+        by-budget NoBudget = write-ends (then w (slotTo (ch .slot) s ∷ []) []) Waiting used (still-quiet [] refl) h3
+
+        turn-fine : (isClosed (s .state) ≡ true → Left (then w (slotTo (ch .slot) s ∷ []) []) (Refused ChannelClosed) used) → write-fine (sendAgain l ch out bytes used w s)
+        unfolding sendAgain
+        turn-fine h1 =
+            pick write-fine (isClosed (s .state))
+            (λ t. write-ends (then w (slotTo (ch .slot) s ∷ []) []) (Refused ChannelClosed) used (still-quiet [] refl) (h1 t))
+            (λ t. by-budget (budgetOf s p))
+
+    -- ---- write, on this channel
+
+    module _ (d : ch .slot ≡ i) (o : isOn i b ch ≡ true) where
+      abbrev s0 : ChannelSlot
+      s0 = slotIn ss i
+
+      abbrev q0 : List ℕ
+      q0 = runOf (l .rx) (p .«rx_cap») i (slotIn ss i)
+
+      abbrev w0 : Work
+      w0 = begun (dropped (l .state .header)) l
+
+      this-book : (a : Answer) (used : ℕ) (bs : List ℕ) → entered a used bs ≡ writeB dirW i received (record { answer = a; used = used; sent = fs; got = bs }) b
+      this-book a used bs = cond-true (isOn i b ch) _ _ o
+
+      -- a slot stored at the end
+      this-left : (t : ChannelSlot) (f : List Frame) (a : Answer) (used : ℕ) → SameRun s0 t → Good p credit t q0 (entered a used []) → Left (then w0 (slotTo (ch .slot) t ∷ []) f) a used
+      this-left t f a used w x = good-this (ch .slot) t (l .rx) _ d (run-stays t _ w x)
+
+      sent-run : (n : ℕ) → SameRun s0 (spentOf s0 p n)
+      sent-run n = spent-run s0 p n
+
+      -- sent at once
+      first-sent : (n : ℕ) → Left (then w0 (slotTo (ch .slot) (spentOf s0 p n) ∷ []) (writeFrame (idsIn s0) (take n bytes) ∷ [])) (Written n) 0
+      first-sent n =
+          this-left (spentOf s0 p n) (writeFrame (idsIn s0) (take n bytes) ∷ []) (Written n) 0 (spent-run s0 p n)
+          (good-by p credit _ _ _ _ _ _ refl refl (entered-none (Written n) []) (spent-good p credit s0 q0 b g n))
+
+      this-plain : (a : Answer) → write-fine (ends w0 a 0 [])
+      this-plain a = write-ends w0 a 0 refl (good-by p credit _ _ _ _ _ _ refl refl (entered-none a []) g)
+
+      stopped-book : (a : Answer) (used : ℕ) → Stops a used → Good p credit s0 q0 (writeB dirW i received (record { answer = a; used = used; sent = fs; got = [] }) b)
+      unfolding writeB
+      stopped-book a used st =
+          pick (Good p credit s0 q0) (eqb used 0) (λ t. g)
+          (λ t. pick (Good p credit s0 q0) (eqb (numberOf a) 4) (λ u. damaged-good p credit _ lim s0 q0 b g dirW i received never (b .acked) (headerAt received) (payloadAt received used))
+          (λ u. absurd (eqb-false used 0 t (st .quiet u))))
+
+      this-stop : (a : Answer) (used : ℕ) → Stops a used → write-fine (ends w0 a used [])
+      this-stop a used st = write-ends w0 a used refl (good-by p credit _ _ _ _ _ _ refl refl (this-book a used []) (stopped-book a used st))
+
+      module _ (open0 : isClosed (s0 .state) ≡ false) (k : Packet) (sy : Says received (l .state .header .negotiated .config .«max_payload») k) where
+        abbrev limW : ℕ
+        limW = l .state .header .negotiated .config .«max_payload»
+
+        abbrev mW : Message
+        mW = headerAt received
+
+        abbrev bodyW : List ℕ
+        bodyW = bodyOf received k
+
+        end-testW : ownEnd (b .local) (b .remote) mW ≡ closedBy (idsIn s0) k
+        end-testW = reads-end received limW k sy (b .local) (b .remote) (idsIn s0) (g .loc) (g .rem)
+
+        used-book-end : (a : Answer) → eqb (numberOf a) 4 ≡ false → closedBy (idsIn s0) k ≡ true → entered a (frameLen k) [] ≡ closedB b
+        unfolding writeB
+        used-book-end a four u =
+            this-book a (frameLen k) [] ∙ cond-false (eqb (frameLen k) 0) _ _ (ne-eqb (frameLen k) 0 (λ x. omega arith)) ∙ cond-false (eqb (numberOf a) 4) _ _ four ∙ cond-true (ownEnd (b .local) (b .remote) mW) _ _ (end-testW ∙ u)
+
+        used-book-frame : (a : Answer) → eqb (numberOf a) 4 ≡ false → closedBy (idsIn s0) k ≡ false → entered a (frameLen k) [] ≡ frameB dirW i (b .acked) mW bodyW a b
+        unfolding writeB
+        used-book-frame a four u =
+            this-book a (frameLen k) [] ∙ cond-false (eqb (frameLen k) 0) _ _ (ne-eqb (frameLen k) 0 (λ x. omega arith)) ∙ cond-false (eqb (numberOf a) 4) _ _ four ∙ cond-false (ownEnd (b .local) (b .remote) mW) _ _ (end-testW ∙ u)
+            ∙ ap (λ (x : List ℕ). frameB dirW i (b .acked) mW x a b) (reads-payload received limW k sy)
+
+        this-end : closedBy (idsIn s0) k ≡ true → write-fine (ends (then w0 (slotTo (ch .slot) (closedSlot s0) ∷ []) []) (Refused ChannelClosed) (frameLen k) [])
+        unfolding numberOf refusalNumber
+        this-end u =
+            write-ends (then w0 (slotTo (ch .slot) (closedSlot s0) ∷ []) []) (Refused ChannelClosed) (frameLen k) refl
+            (this-left (closedSlot s0) [] (Refused ChannelClosed) (frameLen k) (closed-run s0)
+            (good-by p credit _ _ _ _ _ _ refl refl (used-book-end (Refused ChannelClosed) refl u) (shut-good p credit s0 q0 b g)))

@@ -23,7 +23,7 @@ use Rattle.slot.specs.declared.Failed.the-variants.{No, By}
 use Rattle.slot.specs.declared.PendingAck.{PendingAck}
 use Rattle.slot.specs.declared.PendingAck.the-variants.{Len, Nothing}
 use Rattle.slot.specs.declared.Settled.{Settled}
-use Rattle.slot.specs.Slot.{withNumbers, acked, isOpening, isFailed, isClosed, deliveredOf, settledOf, tookOf, SlotOk}
+use Rattle.slot.specs.Slot.{withNumbers, acked, isOpening, isFailed, isClosed, spentOf, deliveredOf, settledOf, tookOf, SlotOk}
 use Rattle.slot.proofs.Kept.{pick, settled-sound}
 use Rattle.slot.proofs.Laws.{cond-true, cond-false}
 use Rattle.state.specs.Change.{Change, slotTo, headerTo}
@@ -81,6 +81,11 @@ run-by s p n r (due k z f e) = subst (λ (x : Settled). SameRun s (x .slot)) (sy
 
 pub settled-run : (s : ChannelSlot) (p : RxPolicy) (want : ℕ) → s .«has_remote» ≡ true → SameRun s (settledOf s p want .slot)
 settled-run s p want k = run-by s p (min want (s .buffered)) (settledOf s p want) (settles s p want k)
+
+-- sending leaves the run
+pub spent-run : (s : ChannelSlot) (p : RxPolicy) (n : ℕ) → SameRun s (spentOf s p n)
+unfolding spentOf
+spent-run s p n = pick (SameRun s) (p .delayed) (λ d. record { head = refl; more = refl }) (λ d. record { head = refl; more = refl })
 
 -- delivering leaves the run and the numbers of the channel
 pub delivered-same : (s : ChannelSlot) (p : RxPolicy) (n : ℕ) → SameRun s (deliveredOf s p n .slot) × (deliveredOf s p n .slot .local ≡ s .local)
