@@ -26,6 +26,8 @@ use Rattle.slot.specs.declared.ChannelError.the-variants.{Closed as ErrorClosed
 use Rattle.slot.specs.declared.ChannelFault.the-variants.{RxOverflow, ShortReadyPayload, UnexpectedCommand}
 use Rattle.slot.specs.declared.Budget.{Budget}
 use Rattle.slot.specs.declared.Budget.the-variants.{Bytes, Nothing as NoBudget}
+use Rattle.slot.specs.declared.Readied.{Readied}
+use Rattle.slot.specs.declared.Readied.the-variants.{Slot, Short}
 use Rattle.slot.specs.declared.Taken.{Taken}
 use Rattle.slot.specs.declared.Taken.the-variants.{Data, Nothing as NothingTaken, Closed as ClosedTaken}
 use Rattle.slot.specs.declared.ids.ChannelIds.{ChannelIds}
@@ -57,9 +59,9 @@ use Rattle.history.specs.Book.{writeB, isClse, hasRemote, endsOther, noM
 use Rattle.history.specs.Demand3.{runOf}
 use Rattle.history.proofs.Acts.{frame-none, at-keeps, at-stays, Named, at-named, at-sound, at-fits, at-live, acted-length, acks-own, acks-other, acksIn, acks-append, mineOf, endsOf, acted-acks, acted-at, Tells, good-by, at-good}
 use Rattle.history.proofs.Good.{ready-good, spent-good, Leaves, deliver-good, shut-good, settle-empty, acked-drop, took-good, handed-none, Good, Limits, acked-none, carried, settle-good}
-use Rattle.history.proofs.Packets.{Stops, Got, stopped, packet, got, markOf, reads-write, reads-close, reads-arg0, reads-arg1, reads-payload, write-no-close, reads-end, mark-at, body-length, body-small, closes-agree}
+use Rattle.history.proofs.Packets.{Stops, Got, stopped, packet, got, markOf, reads-write, reads-close, reads-arg0, reads-arg1, reads-payload, ready-no-write, write-no-close, reads-end, mark-at, body-length, body-small, closes-agree}
 use Rattle.history.proofs.Places.{closed-run, ready-run, At, slots-by, slots-append, slots-length, slotsBy, slot-set-same, slot-set-other, SameRun, TableOk}
-use Rattle.history.proofs.Steps.{spent-run, late-error, late-unless, four-error, over-told, table-set, delivered-same, damaged-good, nil-of, Alike, settled-alike, settled-run, acted-good, seenOf, stop-good, packet-good, not-four, tells-fault, Fine, ends-fine}
+use Rattle.history.proofs.Steps.{fault-apart, unless-is, waiting-four, spent-run, late-error, late-unless, four-error, over-told, table-set, delivered-same, damaged-good, nil-of, Alike, settled-alike, settled-run, acted-good, seenOf, stop-good, packet-good, not-four, tells-fault, Fine, ends-fine}
 
 module _ (l : Lent) (credit : ℕ) (ok : TableOk (policy l) (l .state .header .negotiated .config .channels) (l .state .slots) (l .rx))
     (lim : Limits (policy l) credit (l .state .header .negotiated .config .«max_payload»)) (i : ℕ) (there : slotIn (l .state .slots) i .filled ≡ true)
@@ -1146,3 +1148,95 @@ module _ (l : Lent) (credit : ℕ) (ok : TableOk (policy l) (l .state .header .n
             write-ends (then w0 (slotTo (ch .slot) (closedSlot s0) ∷ []) []) (Refused ChannelClosed) (frameLen k) refl
             (this-left (closedSlot s0) [] (Refused ChannelClosed) (frameLen k) (closed-run s0)
             (good-by p credit _ _ _ _ _ _ refl refl (used-book-end (Refused ChannelClosed) refl u) (shut-good p credit s0 q0 b g)))
+
+        -- its own OKAY
+        module _ (rd : isReady (k .command) ≡ true) where
+          not-end : closedBy (idsIn s0) k ≡ false
+          unfolding closedBy
+          not-end = cond-false (isClose (k .command)) _ false (ready-no-write (k .command) rd .1)
+
+          ready-book : (a : Answer) → eqb (numberOf a) 4 ≡ false → entered a (frameLen k) [] ≡ b
+          ready-book a four =
+              used-book-frame a four not-end
+              ∙ frame-none dirW i (b .acked) mW bodyW a b
+              (ap (λ (x : Bool). x && eqb (mW .arg1) (b .local)) (reads-write received limW k sy ∙ ready-no-write (k .command) rd .0))
+              (ap (λ (x : Bool). x && cond (eqb (mW .arg1) 0) (not (eqb (mW .arg0) 0) && (eqb (first (hasRemote (mW .arg0)) dirW) i)) (eqb (mW .arg1) (b .local))) (reads-close received limW k sy ∙ ready-no-write (k .command) rd .1))
+
+          readied-left : (t : ChannelSlot) (f : List Frame) (a : Answer) → eqb (numberOf a) 4 ≡ false → SameRun s0 t → Good p credit t q0 b → Left (then w0 (slotTo (ch .slot) t ∷ []) f) a (frameLen k)
+          readied-left t f a four w x = this-left t f a (frameLen k) w (good-by p credit _ _ _ _ _ _ refl refl (ready-book a four) x)
+
+          readied-by : (r : Readied) → Leaves (SameRun s0) r → Leaves (λ (t : ChannelSlot). Good p credit t q0 b) r → write-fine (writeReadied l ch out bytes (frameLen k) w0 s0 r)
+          unfolding writeReadied numberOf refusalNumber
+          readied-by (Slot t) w x =
+              turn-fine (frameLen k) w0 t refl
+              (λ n. readied-left (spentOf t p n) (writeFrame (idsIn t) (take n bytes) ∷ []) (Written n) refl (record { head = spent-run t p n .head ∙ w .head; more = spent-run t p n .more ∙ w .more }) (spent-good p credit t q0 b x n))
+              (readied-left t [] Waiting refl w x)
+              (λ c. readied-left t [] (Refused ChannelClosed) refl w x)
+          readied-by Short w x = write-ends w0 (Refused ReadyShort) (frameLen k) refl (good-by p credit _ _ _ _ _ _ refl refl (ready-book (Refused ReadyShort) refl) g)
+
+          this-readied : write-fine (writeReadied l ch out bytes (frameLen k) w0 s0 (readyOf s0 bodyW p))
+          this-readied = readied-by (readyOf s0 bodyW p) (ready-run s0 bodyW p) (ready-good p credit s0 q0 b g bodyW)
+
+        -- any other packet: dispatched, and another turn
+        module _ (u : closedBy (idsIn s0) k ≡ false) where
+          abbrev actW : Acted
+          actW = actOn (dropped (l .state .header)) ss (l .state .opens) (l .rx) (l .store) k bodyW
+
+          abbrev tsW : List ChannelSlot
+          tsW = slotsBy ss (actW .changes)
+
+          abbrev sW : ChannelSlot
+          sW = slotIn tsW i
+
+          atW : At p s0 q0 bodyW (mineOf ss i k) (endsOf (l .state .header .negotiated .config .channels) ss i k) sW (runOf (actW .rx) (p .«rx_cap») i sW) (actW .fault)
+          atW = acted-at (dropped (l .state .header)) ss (l .state .opens) (l .rx) (l .store) k bodyW ok i there
+
+          quietW : acksIn p (b .local) (thenActed w0 actW .frames) ≡ 0
+          quietW = acted-acks (dropped (l .state .header)) ss (l .state .opens) (l .rx) (l .store) k bodyW (b .local)
+
+          goodW : (a : Answer) → eqb (numberOf a) 4 ≡ false → Tells (mineOf ss i k) (actW .fault) a → Good p credit sW (runOf (actW .rx) (p .«rx_cap») i sW) (entered a (frameLen k) [])
+          goodW a four tells =
+              good-by p credit _ _ _ _ _ _ refl refl (used-book-frame a four u)
+              (acted-good (dropped (l .state .header)) ss (l .state .opens) (l .rx) (l .store) ok credit lim i there b g dirW refl received k sy (b .acked) (omega arith) a tells)
+
+          -- a slot stored after it
+          slotW : (t : ChannelSlot) → slotIn (slotsBy ss (actW .changes ++ slotTo (ch .slot) t ∷ [])) i ≡ t
+          slotW t =
+              let n1 = slots-length ss (actW .changes) in
+              let z = ok .size in
+              let y = ok .most in
+              let h = ok .below i there in
+              ap (λ (x : List ChannelSlot). slotIn x i) (slots-append ss (actW .changes) (slotTo (ch .slot) t ∷ [])) ∙ ap (λ (x : ℕ). slotIn (set tsW x t) i) d ∙ slot-set-same tsW i t (omega arith)
+
+          leftW : (t : ChannelSlot) (f : List Frame) (a : Answer) → SameRun sW t → Good p credit t (runOf (actW .rx) (p .«rx_cap») i sW) (entered a (frameLen k) []) → Left (then (thenActed w0 actW) (slotTo (ch .slot) t ∷ []) f) a (frameLen k)
+          unfolding runOf
+          leftW t f a w x =
+              let e = slotW t in
+              good-by p credit t _ _ _ _ _ e
+              (ap (runOf (actW .rx) (p .«rx_cap») i) e ∙ ap (λ (y : ℕ). part (shareOf (actW .rx) (p .«rx_cap») i) y (t .buffered)) (w .head) ∙ ap (part (shareOf (actW .rx) (p .«rx_cap») i) (sW .head)) (w .more)) refl x
+
+          tells-no : (a : Answer) → actW .fault ≡ No → isRefused a ≡ false → Tells (mineOf ss i k) (actW .fault) a
+          tells-no a e r = record { taken = λ own f. r; over = λ own f. absurd (fault-apart (sym e ∙ f)) }
+
+          tells-closed : isClosed (sW .state) ≡ true → actW .fault ≡ No → Tells (mineOf ss i k) (actW .fault) (Refused ChannelClosed)
+          tells-closed c e =
+              record { taken = λ own f. absurd (true≢false (sym c ∙ at-live p _ _ _ _ _ _ _ _ atW own open0)); over = λ own f. absurd (fault-apart (sym e ∙ f)) }
+
+          this-again : actW .fault ≡ No → write-fine (sendAgain l ch out bytes (frameLen k) (thenActed w0 actW) sW)
+          unfolding numberOf refusalNumber
+          this-again e =
+              turn-fine (frameLen k) (thenActed w0 actW) sW quietW
+              (λ n. leftW (spentOf sW p n) (writeFrame (idsIn sW) (take n bytes) ∷ []) (Written n) (spent-run sW p n) (spent-good p credit sW _ _ (goodW (Written n) refl (tells-no (Written n) e refl)) n))
+              (leftW sW [] Waiting (record { head = refl; more = refl }) (goodW Waiting refl (tells-no Waiting e refl)))
+              (λ c. leftW sW [] (Refused ChannelClosed) (record { head = refl; more = refl }) (goodW (Refused ChannelClosed) refl (tells-closed c e)))
+
+          acted-by : (f : Failed) → actW .fault ≡ f → write-fine (writeActed l ch out bytes (frameLen k) w0 actW f)
+          unfolding writeActed
+          acted-by (By f) e =
+              let a : Answer = Refused (faultRefusal f) in
+              let z : unlessFault (actW .fault) Waiting ≡ a = unless-is (actW .fault) f e in
+              write-ends (thenActed w0 actW) a (frameLen k) quietW
+              (subst (λ (x : Answer). Left (thenActed w0 actW) x (frameLen k)) z (goodW (unlessFault (actW .fault) Waiting) (not-four (actW .fault) Waiting waiting-four) (tells-fault (mineOf ss i k) (actW .fault) Waiting refl)))
+          acted-by No e =
+              let sl : slotIn (changedAll (l .state) (actW .changes) .slots) (ch .slot) ≡ sW = ap (λ (x : List ChannelSlot). slotIn x (ch .slot)) (slots-by (l .state) (actW .changes)) ∙ ap (slotIn tsW) d in
+              subst (λ (x : ChannelSlot). write-fine (sendAgain l ch out bytes (frameLen k) (thenActed w0 actW) x)) (sym sl) (this-again e)

@@ -93,6 +93,18 @@ write-no-close Write e = refl
 write-no-close Auth e = refl
 write-no-close StartTls e = refl
 
+-- an OKAY is neither
+pub ready-no-write : (c : Command) → isReady c ≡ true → (isWrite c ≡ false) × (isClose c ≡ false)
+unfolding isReady isWrite isClose
+ready-no-write Sync e = (refl, refl)
+ready-no-write Connect e = (refl, refl)
+ready-no-write Open e = (refl, refl)
+ready-no-write Ready e = (refl, refl)
+ready-no-write Close e = (refl, sym e)
+ready-no-write Write e = (sym e, refl)
+ready-no-write Auth e = (refl, refl)
+ready-no-write StartTls e = (refl, refl)
+
 word-close : (c : Command) → eqb (wordOf c) (wordOf Close) ≡ isClose c
 unfolding wordOf lettersOf numOf isClose
 word-close Sync = refl

@@ -16,6 +16,7 @@ use Rattle.protocol.specs.declared.message.Message.{Message}
 use Rattle.protocol.proofs.RoundTrip.{Says}
 use Rattle.slot.specs.declared.ChannelError.{ChannelError}
 use Rattle.slot.specs.declared.ChannelError.the-variants.{Closed as ErrorClosed, Fault}
+use Rattle.slot.specs.declared.ChannelFault.{ChannelFault}
 use Rattle.slot.specs.declared.ChannelFault.the-variants.{RxOverflow, ShortReadyPayload, UnexpectedCommand}
 use Rattle.slot.specs.declared.ChannelSlot.{ChannelSlot}
 use Rattle.slot.specs.declared.Failed.{Failed}
@@ -175,6 +176,21 @@ tells-fault mine fault a e =
 pub over-told : (fault : Failed) (a : Answer) → fault ≡ By RxOverflow → (isRefused (unlessFault fault a) ≡ true) × (eqb (numberOf (unlessFault fault a)) 11 ≡ true)
 unfolding unlessFault faultRefusal numberOf refusalNumber
 over-told fault a e = (ap (λ (x : Failed). isRefused (unlessFault x a)) e, ap (λ (x : Failed). eqb (numberOf (unlessFault x a)) 11) e)
+
+abbrev isFault : Failed → Bool
+isFault No = false
+isFault (By f) = true
+
+pub fault-apart : No ≡ By RxOverflow → ⊥
+fault-apart e = true≢false (sym (ap isFault e))
+
+pub unless-is : (fault : Failed) (f : ChannelFault) → fault ≡ By f → unlessFault fault Waiting ≡ Refused (faultRefusal f)
+unfolding unlessFault
+unless-is fault f e = ap (λ (x : Failed). unlessFault x Waiting) e
+
+pub waiting-four : eqb (numberOf Waiting) 4 ≡ false
+unfolding numberOf
+waiting-four = refl
 
 -- these answers are none of 8, 9 and 13, nor 4
 pub late-error : (e : ChannelError) → isEarly (Refused (errorRefusal e)) ≡ false
