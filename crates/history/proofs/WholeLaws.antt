@@ -1,0 +1,246 @@
+-- What a whole state is, as facts about its header, its slots and its waiting opens; these facts make it whole, and its
+-- numbers fit their bytes. Assumes nothing.
+use mathlib.Core.Path.{_≡_, refl, sym, ap, subst, _∙_}
+use mathlib.Core.Bool.{Bool, true, false, not, cond, _&&_}
+use mathlib.Core.List.{List, [], _∷_}
+use Prim.Native.Nat.{ℕ, zero, suc, _+_, _*_, _^_, _≤_, _<_}
+use native.Mathlib.Nat.{zero-add, suc-add}
+use native.Mathlib.Omega.{arith}
+use lib.Dec.{ltb, leb, eqb}
+use lib.Signed.{mag}
+use lib.ListN.{length, take, getD, set, length-set}
+use lib.Seq.{getD-set-same, getD-set-other}
+use borrow.Author.Tests.{eqb-true, eqb-false, ne-eqb, lt-ltb, le-leb}
+use Rattle.le.proofs.Parts.{by-test}
+use Rattle.config.specs.declared.negotiated.Negotiated.{Negotiated}
+use Rattle.config.specs.Config.{Within, capOf, withinLimits}
+use Rattle.config.specs.Negotiated.{policyOf}
+use Rattle.config.proofs.Laws.{within-holds}
+use Rattle.slot.specs.declared.ChannelSlot.{ChannelSlot}
+use Rattle.slot.specs.Slot.{emptySlot, isOpening, isFailed, slotOk, SlotOk}
+use Rattle.slot.proofs.Kept.{sound-holds}
+use Rattle.slot.proofs.Laws.{cond-true, cond-false}
+use Rattle.state.specs.declared.Header.{Header}
+use Rattle.state.specs.declared.PendingOpen.{PendingOpen}
+use Rattle.state.specs.State.{Connection}
+use Rattle.state.specs.Valid.{filledOk, slotFine, slotsFine, opensFine, waitingFine, headerFine, filledAt, whole}
+use Rattle.state.proofs.RowLaws.{Every, never}
+use Rattle.state.proofs.StateLaws.{Full, Fits, SlotFits, HeaderFits, OpenFits}
+
+-- ---- the facts
+
+-- limits kept, negotiated values within theirs
+pub record Limits (n : Negotiated) : Type 0 where
+  pub within : Within (n .config)
+  pub payload : n .«max_payload» ≤ 1_048_576
+  pub version : n .«protocol_version» ≤ 0x0100_0001
+
+-- a filled slot at place i
+pub record Live (n : Negotiated) (i : ℕ) (s : ChannelSlot) : Type 0 where
+  pub filled : s .filled ≡ true
+  pub place : i < n .config .channels
+  pub opening : isOpening (s .state) ≡ false
+  pub failed : isFailed (s .failed) ≡ false
+  pub remote : s .«has_remote» ≡ true
+  pub ok : SlotOk s (policyOf n .«rx_cap»)
+  pub fits : SlotFits s
+
+-- any slot at place i
+pub record SlotGood (n : Negotiated) (i : ℕ) (s : ChannelSlot) : Type 0 where
+  pub fits : SlotFits s
+  pub live : s .filled ≡ true → Live n i s
+
+pub record SlotsGood (n : Negotiated) (ss : List ChannelSlot) : Type 0 where
+  pub full : length ss ≡ 64
+  pub each : (i : ℕ) → SlotGood n i (getD ss i emptySlot)
+
+-- the place of an open that waits for its OKAY
+pub record PlaceGood (n : Negotiated) (i : ℕ) (ss : List ChannelSlot) : Type 0 where
+  pub place : i < n .config .channels
+  pub empty : getD ss i emptySlot .filled ≡ false
+
+-- the first q of the waiting opens are within their shares
+pub record OpensGood (n : Negotiated) (q : ℕ) (os : List PendingOpen) : Type 0 where
+  pub full : length os ≡ 64
+  pub fits : Every OpenFits os
+  pub fine : opensFine (n .config .channels) (n .config .«max_payload») (take q os) ≡ true
+
+pub record HeaderGood (n : Negotiated) (h : Header) : Type 0 where
+  pub negotiated : h .negotiated ≡ n
+  pub next-some : 1 ≤ h .«next_local»
+  pub next-fits : h .«next_local» < 2 ^ 32
+  pub place-fits : h .waiting .slot < 2 ^ 64
+  pub local-fits : h .waiting .local .0 < 2 ^ 32
+  pub queue-fits : h .queued ≤ n .config .channels
+
+pub record Good (n : Negotiated) (h : Header) (ss : List ChannelSlot) (os : List PendingOpen) : Type 0 where
+  pub limits : Limits n
+  pub header : HeaderGood n h
+  pub slots : SlotsGood n ss
+  pub waits : h .waiting .on ≡ true → PlaceGood n (h .waiting .slot) ss
+  pub opens : OpensGood n (h .queued) os
+
+-- ---- slots
+
+pub live-good : (n : Negotiated) (i : ℕ) (s : ChannelSlot) → Live n i s → SlotGood n i s
+live-good n i s v = record { fits = v .fits; live = λ e. v }
+
+pub empty-good : (n : Negotiated) (i : ℕ) → SlotGood n i emptySlot
+unfolding emptySlot
+empty-good n i =
+    record {
+      fits =
+          record {
+            local = omega arith;
+            remote = omega arith;
+            budget = omega arith;
+            unacked = omega arith;
+            settled = omega arith;
+            head = omega arith;
+            buffered = omega arith;
+          };
+      live = λ e. never e;
+    }
+
+-- one slot is put
+pub put-good : (n : Negotiated) (ss : List ChannelSlot) (i : ℕ) (t : ChannelSlot) → SlotsGood n ss → i < 64 → SlotGood n i t → SlotsGood n (set ss i t)
+put-good n ss i t g h s =
+    let f = g .full in
+    record {
+      full = length-set ss i t ∙ f;
+      each = λ j. by-test (eqb j i)
+      (λ e. let k = eqb-true j i e in
+      subst (λ (x : ℕ). SlotGood n x (getD (set ss i t) x emptySlot)) (sym k)
+      (subst (SlotGood n i) (sym (getD-set-same ss i t emptySlot (omega arith))) s))
+      (λ e. subst (SlotGood n j) (sym (getD-set-other ss i j t emptySlot (eqb-false j i e))) (g .each j));
+    }
+
+module _ (n : Negotiated) (h : Header) (ss : List ChannelSlot) (os : List PendingOpen) (g : Good n h ss os) where
+  -- a slot is put, but not where an open waits
+  pub good-put : (i : ℕ) (t : ChannelSlot) → (h .waiting .on ≡ true → h .waiting .slot ≡ i → ⊥) → i < 64 → SlotGood n i t → Good n h (set ss i t) os
+  good-put i t w k s =
+      record {
+        limits = g .limits;
+        header = g .header;
+        slots = put-good n ss i t (g .slots) k s;
+        waits = λ e.
+        record {
+          place = g .waits e .place;
+          empty = ap (λ (x : ChannelSlot). x .filled) (getD-set-other ss i (h .waiting .slot) t emptySlot (w e)) ∙ g .waits e .empty;
+        };
+        opens = g .opens;
+      }
+
+  -- where there was a channel
+  pub good-live : (i : ℕ) (t : ChannelSlot) → Live n i (getD ss i emptySlot) → Live n i t → Good n h (set ss i t) os
+  good-live i t v u =
+      let k = g .limits .within .most-channels in
+      let p = v .place in
+      good-put i t (λ e z. never (sym (g .waits e .empty) ∙ ap (λ (x : ℕ). getD ss x emptySlot .filled) z ∙ v .filled)) (omega arith) (live-good n i t u)
+
+  pub good-own : Good (h .negotiated) h ss os
+  good-own = subst (λ (m : Negotiated). Good m h ss os) (sym (g .header .negotiated)) g
+
+-- ---- the facts make a state whole
+
+and-both : (a b : Bool) → a ≡ true → b ≡ true → (a && b) ≡ true
+and-both a b e f = rw (e, f)
+
+live-ok : (n : Negotiated) (i : ℕ) (s : ChannelSlot) → Live n i s → filledOk s (capOf (n .config)) ≡ true
+unfolding filledOk policyOf
+live-ok n i s v =
+    and-both _ _
+    (and-both _ _ (and-both _ _ (ap not (v .opening)) (ap not (v .failed))) (v .remote))
+    (sound-holds s (capOf (n .config)) (v .ok))
+
+slot-fine : (n : Negotiated) (i : ℕ) (s : ChannelSlot) → SlotGood n i s → slotFine (n .config .channels) (capOf (n .config)) i s ≡ true
+unfolding slotFine
+slot-fine n i s g =
+    by-test (s .filled)
+    (λ t. cond-true (s .filled) _ true t
+    ∙ and-both _ _ (lt-ltb i (n .config .channels) (g .live t .place)) (live-ok n i s (g .live t)))
+    (λ t. cond-false (s .filled) _ true t)
+
+slots-fine : (n : Negotiated) (ss : List ChannelSlot) (i : ℕ) → ((j : ℕ) → SlotGood n (i + j) (getD ss j emptySlot)) → slotsFine (n .config .channels) (capOf (n .config)) i ss ≡ true
+unfolding slotsFine
+slots-fine n [] i g = refl
+slots-fine n (s ∷ ss) i g =
+    let e : i + 0 ≡ i = omega arith in
+    and-both _ _ (slot-fine n i s (subst (λ (x : ℕ). SlotGood n x s) e (g 0)))
+    (slots-fine n ss (suc i) (λ j. let f : i + suc j ≡ suc i + j = omega arith in subst (λ (x : ℕ). SlotGood n x (getD ss j emptySlot)) f (g (suc j))))
+
+filled-in : (ss : List ChannelSlot) (i : ℕ) → filledAt ss i ≡ getD ss i emptySlot .filled
+unfolding filledAt emptySlot
+filled-in [] i = refl
+filled-in (s ∷ ss) zero = refl
+filled-in (s ∷ ss) (suc i) = filled-in ss i
+
+module _ (h : Header) (ss : List ChannelSlot) (os : List PendingOpen) (g : Good (h .negotiated) h ss os) where
+  header-fine : headerFine h ≡ true
+  unfolding headerFine
+  header-fine =
+      let k = g .header .next-some in
+      and-both _ _
+      (and-both _ _
+      (and-both _ _ (and-both _ _ (within-holds (h .negotiated .config) (g .limits .within)) (le-leb _ _ (g .limits .payload))) (le-leb _ _ (g .limits .version)))
+      (ap not (ne-eqb (h .«next_local») 0 (λ e. omega arith))))
+      (le-leb _ _ (g .header .queue-fits))
+
+  waiting-fine : waitingFine h (filledAt ss (h .waiting .slot)) ≡ true
+  unfolding waitingFine
+  waiting-fine =
+      by-test (h .waiting .on)
+      (λ t. let p = g .waits t in
+      cond-true (h .waiting .on) _ true t
+      ∙ and-both _ _ (lt-ltb (h .waiting .slot) (h .negotiated .config .channels) (p .place)) (ap not (filled-in ss (h .waiting .slot) ∙ p .empty)))
+      (λ t. cond-false (h .waiting .on) _ true t)
+
+every-at : {A : Type 0} (P : A → Type 0) (d : A) (l : List A) → ((i : ℕ) → P (getD l i d)) → Every P l
+every-at P d [] f = tt
+every-at P d (a ∷ l) f = (f 0, every-at P d l (λ i. f (suc i)))
+
+module _ (n : Negotiated) (c : Connection) (g : Good n (c .header) (c .slots) (c .opens)) where
+  own : Good (c .header .negotiated) (c .header) (c .slots) (c .opens)
+  own = good-own n (c .header) (c .slots) (c .opens) g
+
+  pub good-whole : whole c ≡ true
+  unfolding whole
+  good-whole =
+      and-both _ _
+      (and-both _ _
+      (and-both _ _ (header-fine (c .header) (c .slots) (c .opens) own)
+      (slots-fine (c .header .negotiated) (c .slots) 0 (λ j. subst (λ (x : ℕ). SlotGood (c .header .negotiated) x (getD (c .slots) j emptySlot)) (sym (zero-add j)) (own .slots .each j))))
+      (waiting-fine (c .header) (c .slots) (c .opens) own))
+      (own .opens .fine)
+
+  pub good-full : Full c
+  good-full = record { slots = g .slots .full; opens = g .opens .full }
+
+  header-fits : HeaderFits (c .header)
+  header-fits =
+      let o = own in
+      let w = o .limits .within in
+      let p = o .limits .payload in
+      let v = o .limits .version in
+      let h = o .header in
+      record {
+        channels = omega arith;
+        rx = omega arith;
+        place = h .place-fits;
+        queued = omega arith;
+        payload = omega arith;
+        initial = omega arith;
+        most = omega arith;
+        version = omega arith;
+        next = h .next-fits;
+        local = h .local-fits;
+      }
+
+  pub good-fits : Fits c
+  good-fits =
+      record {
+        header = header-fits;
+        full = good-full;
+        slots = every-at SlotFits emptySlot (c .slots) (λ i. g .slots .each i .fits);
+        opens = g .opens .fits;
+      }
