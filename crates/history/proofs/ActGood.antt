@@ -5,6 +5,7 @@ use mathlib.Core.List.{List, [], _∷_, _++_}
 use Prim.Native.Nat.{ℕ, _+_, _*_, _^_, _≤_, _<_}
 use native.Mathlib.Omega.{arith}
 use lib.ListN.{length}
+use Rattle.le.specs.Le.{Bytes}
 use Rattle.config.specs.declared.negotiated.Negotiated.{Negotiated}
 use Rattle.config.specs.Negotiated.{policyOf}
 use Rattle.incoming.specs.declared.Pushed.{Pushed}
@@ -45,6 +46,7 @@ pub record PacketGood (n : Negotiated) (p : Packet) (payload : List ℕ) : Type 
   pub arg0 : p .arg0 < 2 ^ 32
   pub arg1 : p .arg1 < 2 ^ 32
   pub small : length payload ≤ n .config .«max_payload»
+  pub bytes : Bytes payload
 
 module _ (h : Header) (c : Connection) (rx store : List ℕ) (g : Good (h .negotiated) h (c .slots) (c .opens)) where
   tabled-good : (fault : Failed) (d : Dispatched) (fs : List Frame) → TableGood (h .negotiated) h c rx d

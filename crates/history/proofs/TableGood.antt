@@ -55,7 +55,7 @@ place-found w m ss k h =
     let f = first-found (wantedBy w) (take m ss) emptySlot (rw n h) in
     ap (wantedBy w) (sym (getD-take m ss (first (wantedBy w) (take m ss)) emptySlot h)) ∙ f
 
-local-filled : (l : LocalId) (s : ChannelSlot) → wantedBy (Local l) s ≡ true → s .filled ≡ true
+pub local-filled : (l : LocalId) (s : ChannelSlot) → wantedBy (Local l) s ≡ true → s .filled ≡ true
 unfolding wantedBy
 local-filled l s e = and-true (s .filled) _ e .0
 
