@@ -183,3 +183,146 @@ module _ (l : Lent) (g : Good (negotiated l) (l .state .header) (l .state .slots
   pub front-kept : Kept l (frontStep l)
   unfolding frontStep
   front-kept = front-by _ _ (pop-good (dropped (l .state .header)) (l .state .slots) (l .state .opens) gd)
+
+  -- ---- calls that look at a packet
+
+  module _ (long : Long (negotiated l) (length (l .rx)) (length (l .store))) (received : List ℕ) where
+    -- what acting on it leaves, with the state as it was lent, the open that waits dropped
+    acted : (p : Packet) → PacketGood (negotiated l) p (bodyOf received p) → ActedGood (negotiated l) (l .state) (length (l .rx)) (length (l .store))
+        (actOn (dropped (l .state .header)) (l .state .slots) (l .state .opens) (l .rx) (l .store) p (bodyOf received p))
+    acted p k = acted-good (dropped (l .state .header)) (l .state) (l .rx) (l .store) gd (long .rx-long) (long .store-long) p (bodyOf received p) k
+
+    -- ---- dispatch
+
+    dispatch-by : (r : Received) → ReceivedGood (negotiated l) received r → Kept l (dispatchBy l (dropped (l .state .header)) received r)
+    unfolding dispatchBy
+    dispatch-by (Stop a used) k = ends-kept l _ (dropped-good l g) a used [] k
+    dispatch-by (PacketIs p) k = ends-kept l _ (act-good l _ (dropped-good l g) _ (acted p k)) _ (frameLen p) [] (unless-fine _ Done done-fine)
+
+    pub dispatch-kept : Bytes received → Kept l (dispatchStep l received)
+    unfolding dispatchStep
+    dispatch-kept y = dispatch-by (receivedOf l received) (received-good l received y)
+
+    -- ---- read
+
+    module _ (ch : ChannelId) (room : ℕ) where
+      reread-kept : (used : ℕ) (fault : Failed) (w : Work) (s : ChannelSlot) → At l (ch .slot) w → Live (negotiated l) (ch .slot) s → (r : Taken) → TakenLive (negotiated l) (ch .slot) r
+          → Kept l (reread ch (policy l .«rx_cap») used fault w s r)
+      unfolding reread
+      reread-kept used fault w s k v (Data t n) u = at-ends l (ch .slot) _ (at-slot l (ch .slot) w k t [] u) (Read n) used _ (read-fine n)
+      reread-kept used fault w s k v NothingTaken u =
+          at-ends l (ch .slot) _ (at-slot l (ch .slot) w k s [] v) (unlessFault fault Waiting) used [] (unless-fine fault Waiting waiting-fine)
+      reread-kept used fault w s k v (ClosedTaken e) u =
+          at-ends l (ch .slot) _ (at-slot l (ch .slot) w k s [] v) (unlessFault fault (Refused (errorRefusal e))) used [] (unless-fine fault (Refused (errorRefusal e)) (error-fine e))
+
+      settled-kept : (used : ℕ) (fault : Failed) (w : Work) (s : SettledSlot) → At l (ch .slot) w → Live (negotiated l) (ch .slot) (s .slot) → Kept l (readSettled l ch room used fault w s)
+      unfolding readSettled
+      settled-kept used fault w s k v =
+          reread-kept used fault _ (s .slot) (at-frames l (ch .slot) w k (ackFrames (s .slot) (s .ack))) v (takenOf (s .slot) room) (taken-live (negotiated l) (ch .slot) (s .slot) v room)
+
+      read-acted : (used : ℕ) (w : Work) (a : Acted) → At l (ch .slot) w → ActedGood (negotiated l) (changedAll (l .state) (w .changes)) (length (l .rx)) (length (l .store)) a
+          → Kept l (readActed l ch room used w a)
+      unfolding readActed
+      read-acted used w a k d =
+          let m = at-act l (ch .slot) w k a d in
+          settled-kept used (a .fault) (thenActed w a) _ m (settled-live (negotiated l) (ch .slot) _ (m .live) room)
+
+      -- what a read has done before it looks at a packet: an OKAY may be written
+      module _ (fs : List Frame) (start : At l (ch .slot) (then (begun (dropped (l .state .header)) l) [] fs)) (s : ChannelSlot) (v : Live (negotiated l) (ch .slot) s) where
+        stored : At l (ch .slot) (then (then (begun (dropped (l .state .header)) l) [] fs) (slotTo (ch .slot) s ∷ []) [])
+        stored = at-slot l (ch .slot) _ start s [] v
+
+        acted-stored : (p : Packet) → PacketGood (negotiated l) p (bodyOf received p) → ActedGood (negotiated l) (withSlot (l .state) (ch .slot) s) (length (l .rx)) (length (l .store))
+            (actOn (dropped (l .state .header)) (set (l .state .slots) (ch .slot) s) (l .state .opens) (l .rx) (l .store) p (bodyOf received p))
+        acted-stored p k =
+            acted-good (dropped (l .state .header)) (withSlot (l .state) (ch .slot) s) (l .rx) (l .store) (stored .work .good) (long .rx-long) (long .store-long) p (bodyOf received p) k
+
+        read-by : (r : Received) → ReceivedGood (negotiated l) received r → Kept l (readBy l ch room (then (begun (dropped (l .state .header)) l) [] fs) s received r)
+        unfolding readBy readDirect
+        read-by (Stop a used) k = at-ends l (ch .slot) _ stored a used [] k
+        read-by (PacketIs p) k =
+            pick (Kept l) (isDirect s room p)
+            (λ t. at-ends l (ch .slot) _ (at-slot l (ch .slot) _ start _ _ (delivered-live (negotiated l) (ch .slot) s v (p .«data_length»))) _ (frameLen p) _ (read-fine _))
+            (λ t. pick (Kept l) (closedBy (idsIn s) p)
+            (λ u. at-ends l (ch .slot) _ (at-slot l (ch .slot) _ start (closedSlot s) [] (closed-live (negotiated l) (ch .slot) s v)) (Refused ChannelClosed) (frameLen p) [] closed-fine)
+            (λ u. read-acted (frameLen p) _ _ stored (acted-stored p k)))
+
+        read-taken : Bytes received → (r : Taken) → TakenLive (negotiated l) (ch .slot) r → Kept l (readTaken l ch room (then (begun (dropped (l .state .header)) l) [] fs) s received r)
+        unfolding readTaken
+        read-taken y (Data t n) u = at-ends l (ch .slot) _ (at-slot l (ch .slot) _ start t [] u) (Read n) 0 _ (read-fine n)
+        read-taken y NothingTaken u =
+            pick (Kept l) (s .«has_remote») (λ t. read-by (receivedOf l received) (received-good l received y))
+            (λ t. at-ends l (ch .slot) _ stored (Refused ChannelClosed) 0 [] closed-fine)
+        read-taken y (ClosedTaken e) u = at-ends l (ch .slot) _ stored (Refused (errorRefusal e)) 0 [] (error-fine e)
+
+      read-first : Bytes received → (s : SettledSlot) → At l (ch .slot) (begun (dropped (l .state .header)) l) → Live (negotiated l) (ch .slot) (s .slot) → Kept l (readFirst l ch room received s)
+      unfolding readFirst
+      read-first y s k v =
+          read-taken (ackFrames (s .slot) (s .ack)) (at-frames l (ch .slot) _ k (ackFrames (s .slot) (s .ack))) (s .slot) v y (takenOf (s .slot) room) (taken-live (negotiated l) (ch .slot) (s .slot) v room)
+
+      pub read-kept : Bytes received → Kept l (readStep l ch room received)
+      unfolding readStep
+      read-kept y =
+          pick (Kept l) (isThere l ch)
+          (λ t. read-first y _ (there-at l g ch t) (settled-live (negotiated l) (ch .slot) (slotFor l ch) (there-live l g ch t) room))
+          (λ t. gone-kept)
+
+    -- ---- write
+
+    module _ (ch : ChannelId) (out : ℕ) (bytes : List ℕ) where
+      send-some : (used : ℕ) (w : Work) (s : ChannelSlot) (n : ℕ) → At l (ch .slot) w → Live (negotiated l) (ch .slot) s → Kept l (sendSome l ch out bytes used w s n)
+      unfolding sendSome
+      send-some used w s n k v =
+          pick (Kept l) (ltb out (length (framesBytes (w .header .negotiated) (w .frames)) + 24 + n)) (λ t. untouched-kept l g OutShort out-fine)
+          (λ t. at-ends l (ch .slot) _ (at-slot l (ch .slot) w k _ _ (spent-live (negotiated l) (ch .slot) s v n)) (Written n) used [] (written-fine n))
+
+      send-by : (used : ℕ) (w : Work) (s : ChannelSlot) → At l (ch .slot) w → Live (negotiated l) (ch .slot) s → (b : Budget) → Kept l (sendBy l ch out bytes used w s b)
+      unfolding sendBy
+      send-by used w s k v (Most most) = send-some used w s (sendLen l bytes most) k v
+      send-by used w s k v NoBudget = at-ends l (ch .slot) _ (at-slot l (ch .slot) w k s [] v) Waiting used [] waiting-fine
+
+      send-again : (used : ℕ) (w : Work) (s : ChannelSlot) → At l (ch .slot) w → Live (negotiated l) (ch .slot) s → Kept l (sendAgain l ch out bytes used w s)
+      unfolding sendAgain
+      send-again used w s k v =
+          pick (Kept l) (isClosed (s .state)) (λ t. at-ends l (ch .slot) _ (at-slot l (ch .slot) w k s [] v) (Refused ChannelClosed) used [] closed-fine)
+          (λ t. send-by used w s k v (budgetOf s (policy l)))
+
+      write-readied : (used : ℕ) (w : Work) (s : ChannelSlot) → At l (ch .slot) w → (r : Readied) → ReadiedLive (negotiated l) (ch .slot) r → Kept l (writeReadied l ch out bytes used w s r)
+      unfolding writeReadied
+      write-readied used w s k (Slot t) v = send-again used w t k v
+      write-readied used w s k Short v = at-ends l (ch .slot) w k (Refused ShortReadyPayload) used [] short-fine
+
+      write-acted : (used : ℕ) (w : Work) (a : Acted) → At l (ch .slot) (thenActed w a) → (f : Failed) → Kept l (writeActed l ch out bytes used w a f)
+      unfolding writeActed
+      write-acted used w a k (By f) = at-ends l (ch .slot) _ k (Refused (faultRefusal f)) used [] (fault-fine f)
+      write-acted used w a k No = send-again used (thenActed w a) _ k (k .live)
+
+      module _ (start : At l (ch .slot) (begun (dropped (l .state .header)) l)) (s : ChannelSlot) (v : Live (negotiated l) (ch .slot) s) where
+        write-by : (r : Received) → ReceivedGood (negotiated l) received r → Kept l (writeBy l ch out bytes (begun (dropped (l .state .header)) l) s received r)
+        unfolding writeBy writeAct
+        write-by (Stop a used) k = at-ends l (ch .slot) _ start a used [] k
+        write-by (PacketIs p) k =
+            pick (Kept l) (isReady (p .command) && eqb (p .arg1) (s .local .0))
+            (λ t. write-readied (frameLen p) _ s start (readyOf s (bodyOf received p) (policy l)) (ready-live (negotiated l) (ch .slot) s (bodyOf received p) v))
+            (λ t. pick (Kept l) (closedBy (idsIn s) p)
+            (λ u. at-ends l (ch .slot) _ (at-slot l (ch .slot) _ start (closedSlot s) [] (closed-live (negotiated l) (ch .slot) s v)) (Refused ChannelClosed) (frameLen p) [] closed-fine)
+            (λ u. write-acted (frameLen p) _ _ (at-act l (ch .slot) _ start _ (acted p k)) _))
+
+        write-first : Bytes received → (b : Budget) → Kept l (writeFirst l ch out bytes received (begun (dropped (l .state .header)) l) s b)
+        unfolding writeFirst
+        write-first y (Most most) = send-some 0 _ s (sendLen l bytes most) start v
+        write-first y NoBudget =
+            pick (Kept l) (s .«has_remote») (λ t. write-by (receivedOf l received) (received-good l received y))
+            (λ t. at-ends l (ch .slot) _ start (Refused ChannelClosed) 0 [] closed-fine)
+
+        write-on : Bytes received → Kept l (writeOn l ch out bytes received (begun (dropped (l .state .header)) l) s)
+        unfolding writeOn
+        write-on y =
+            pick (Kept l) (isClosed (s .state)) (λ t. at-ends l (ch .slot) _ start (Refused ChannelClosed) 0 [] closed-fine)
+            (λ t. write-first y (budgetOf s (policy l)))
+
+      pub write-kept : Bytes received → Kept l (writeStep l ch out bytes received)
+      unfolding writeStep
+      write-kept y =
+          pick (Kept l) (eqb (length bytes) 0) (λ z. ends-kept l _ (dropped-good l g) (Written 0) 0 [] (written-fine 0))
+          (λ z. pick (Kept l) (isThere l ch) (λ t. write-on (there-at l g ch t) (slotFor l ch) (there-live l g ch t) y) (λ t. gone-kept))
