@@ -1,6 +1,6 @@
 -- Every call leaves a whole state and does not answer refusal 13. Assumes nothing.
 use mathlib.Core.Path.{_≡_, refl, sym, ap, subst, _∙_}
-use mathlib.Core.Bool.{Bool, true, false, cond, _&&_}
+use mathlib.Core.Bool.{Bool, true, false, not, cond, _&&_}
 use mathlib.Core.List.{List, [], _∷_, _++_}
 use Prim.Native.Nat.{ℕ, _+_, _*_, _%_, _^_, _≤_, _<_, max}
 use native.Mathlib.Omega.{arith}
@@ -326,3 +326,149 @@ module _ (l : Lent) (g : Good (negotiated l) (l .state .header) (l .state .slots
       write-kept y =
           pick (Kept l) (eqb (length bytes) 0) (λ z. ends-kept l _ (dropped-good l g) (Written 0) 0 [] (written-fine 0))
           (λ z. pick (Kept l) (isThere l ch) (λ t. write-on (there-at l g ch t) (slotFor l ch) (there-live l g ch t) y) (λ t. gone-kept))
+
+    -- ---- open, while one waits
+
+    still-good : (c : Connection) (h : Header) (a : Answer) → Good (negotiated l) h (c .slots) (c .opens) → Good (negotiated l) (stillWaits a h) (c .slots) (c .opens)
+    unfolding stillWaits
+    still-good c h Done k = drop-good (negotiated l) h c k
+    still-good c h Waiting k = k
+    still-good c h Nothing k = drop-good (negotiated l) h c k
+    still-good c h (Opened ch) k = drop-good (negotiated l) h c k
+    still-good c h (Settled a) k = drop-good (negotiated l) h c k
+    still-good c h (Read n) k = drop-good (negotiated l) h c k
+    still-good c h (Written n) k = drop-good (negotiated l) h c k
+    still-good c h (FrontIs r credit place len) k = drop-good (negotiated l) h c k
+    still-good c h (Refused r) k = drop-good (negotiated l) h c k
+
+    open-acted : (used : ℕ) (a : Acted) → ActedGood (negotiated l) (l .state) (length (l .rx)) (length (l .store)) a → Kept l (openActed l used a)
+    unfolding openActed
+    open-acted used a k =
+        let m = act-good l (begun (l .state .header) l) (begun-good l (l .state .header) g) a k in
+        ends-kept l _
+        (record {
+          within = m .within;
+          good = still-good (changedAll (l .state) (a .changes)) (a .header) (unlessFault (a .fault) Waiting) (m .good);
+          rx-length = m .rx-length;
+          store-length = m .store-length;
+        })
+        (unlessFault (a .fault) Waiting) used [] (unless-fine (a .fault) Waiting waiting-fine)
+
+    module _ (ch : ChannelId) (place : ch .slot < negotiated l .config .channels) (local : ch .local .0 < 2 ^ 32) where
+      open-readied : (remote used : ℕ) (r : Readied) → ReadiedLive (negotiated l) (ch .slot) r → Kept l (openReadied l ch remote used r)
+      unfolding openReadied
+      open-readied remote used (Slot t) v =
+          let most = g .limits .within .most-channels in
+          ends-kept l _ (slot-good l _ (dropped-good l g) (ch .slot) t [] (omega arith) (λ e. never e) (live-good (negotiated l) (ch .slot) t v)) (Opened ch) used [] (opened-fine ch)
+      open-readied remote used Short v = ends-kept l _ (frames-good l _ (dropped-good l g) _) (Refused ShortReadyPayload) used [] short-fine
+
+      cap-small : policyOf (negotiated l) .«rx_cap» ≤ 16777216
+      unfolding policyOf
+      cap-small = sound (negotiated l .config) (g .limits .within) .cap-small
+
+      open-by : (r : Received) → ReceivedGood (negotiated l) received r → Kept l (openBy l ch received r)
+      unfolding openBy
+      open-by (Stop a used) k = ends-kept l _ (begun-good l _ (still-good (l .state) (l .state .header) a g)) a used [] k
+      open-by (PacketIs p) k =
+          pick (Kept l) (isReady (p .command) && eqb (p .arg1) (ch .local .0))
+          (λ t. open-readied (p .arg0) (frameLen p) _
+          (opened-live (negotiated l) (ch .slot) (ch .local) (record { 0 = p .arg0 }) place cap-small local (k .arg0) (bodyOf received p) (k .bytes)))
+          (λ t. pick (Kept l) (isWrite (p .command) && eqb (p .arg1) (ch .local .0))
+          (λ u. ends-kept l _ (frames-good l _ (dropped-good l g) _) (Refused UnexpectedCommand) (frameLen p) [] early-fine)
+          (λ u. pick (Kept l) (isClose (p .command) && eqb (p .arg1) (ch .local .0))
+          (λ w. ends-kept l _ (dropped-good l g) (Refused ChannelClosed) (frameLen p) [] closed-fine)
+          (λ w. open-acted (frameLen p) _
+          (acted-good (l .state .header) (l .state) (l .rx) (l .store) g (long .rx-long) (long .store-long) p (bodyOf received p) k))))
+
+    -- ---- an open begins
+
+    next-fits : (n : ℕ) → (1 ≤ nextLocal n) × (nextLocal n < 2 ^ 32)
+    unfolding nextLocal
+    next-fits n = (omega arith, omega arith)
+
+    numbered-good : Good (negotiated l) (numbered (l .state .header)) (l .state .slots) (l .state .opens)
+    numbered-good =
+        let k = next-fits (l .state .header .«next_local») in
+        record {
+          limits = g .limits;
+          header =
+              record {
+                negotiated = refl;
+                next-some = k .0;
+                next-fits = k .1;
+                place-fits = g .header .place-fits;
+                local-fits = g .header .local-fits;
+                queue-fits = g .header .queue-fits;
+              };
+          slots = g .slots;
+          waits = g .waits;
+          opens = g .opens;
+        }
+
+    -- a place that was allocated is below channels and empty, and its number is of 32 bits
+    pub record Free (ch : ChannelId) : Type 0 where
+      pub place : ch .slot < negotiated l .config .channels
+      pub empty : slotIn (l .state .slots) (ch .slot) .filled ≡ false
+      pub local : ch .local .0 < 2 ^ 32
+
+    abbrev AllocatedGood : Allocated → Type 0
+    AllocatedGood (Channel ch) = Free ch
+    AllocatedGood NoFree = Unit {0}
+
+    not-filled : (s : ChannelSlot) → wantedBy Empty s ≡ true → s .filled ≡ false
+    unfolding wantedBy
+    not-filled s e = not-true (s .filled) e
+      where
+        not-true : (b : Bool) → not b ≡ true → b ≡ false
+        not-true true f = never f
+        not-true false f = refl
+
+    allocated-good : AllocatedGood (allocated (l .state .header) (l .state .slots))
+    unfolding allocated
+    allocated-good =
+        let n = negotiated l .config .channels in
+        let i = placeOf Empty n (l .state .slots) in
+        let most = g .limits .within .most-channels in
+        let full = g .slots .full in
+        pick AllocatedGood (ltb i n)
+        (λ t. let h = ltb-true i n t in
+        record { place = h; empty = not-filled _ (place-found Empty n (l .state .slots) (omega arith) h); local = g .header .next-fits })
+        (λ t. tt)
+
+    waits-good : (ch : ChannelId) → Free ch → Good (negotiated l) (waitingFor (numbered (l .state .header)) ch) (l .state .slots) (l .state .opens)
+    unfolding slotIn
+    waits-good ch f =
+        let k = next-fits (l .state .header .«next_local») in
+        let most = g .limits .within .most-channels in
+        let p = f .place in
+        record {
+          limits = g .limits;
+          header =
+              record {
+                negotiated = refl;
+                next-some = k .0;
+                next-fits = k .1;
+                place-fits = omega arith;
+                local-fits = f .local;
+                queue-fits = g .header .queue-fits;
+              };
+          slots = g .slots;
+          waits = λ e. record { place = p; empty = f .empty };
+          opens = g .opens;
+        }
+
+    open-on : (out : ℕ) (destination : List ℕ) (r : Allocated) → AllocatedGood r → Kept l (openOn l out destination r)
+    unfolding openOn
+    open-on out destination NoFree k = ends-kept l _ (begun-good l (l .state .header) g) (Refused NoFreeChannels) 0 [] free-fine
+    open-on out destination (Channel ch) k =
+        pick (Kept l) (ltb maxPayload (length destination)) (λ t. ends-kept l _ (begun-good l _ numbered-good) (Refused PayloadTooLarge) 0 [] large-fine)
+        (λ t. pick (Kept l) (ltb out (24 + length destination)) (λ u. untouched-kept l g OutShort out-fine)
+        (λ u. ends-kept l _ (frames-good l _ (begun-good l _ (waits-good ch k)) _) Waiting 0 [] waiting-fine))
+
+    pub open-kept : (out : ℕ) (destination : List ℕ) → Bytes received → Kept l (openStep l out destination received)
+    unfolding openStep
+    open-kept out destination y =
+        pick (Kept l) (l .state .header .waiting .on)
+        (λ t. open-by (record { slot = l .state .header .waiting .slot; local = l .state .header .waiting .local }) (g .waits t .place) (g .header .local-fits)
+        (receivedOf l received) (received-good l received y))
+        (λ t. open-on out destination (allocated (l .state .header) (l .state .slots)) allocated-good)
