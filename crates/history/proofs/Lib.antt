@@ -1,6 +1,7 @@
 pub mod ActGood
 pub mod CallsGood
 pub mod LiveLaws
+pub mod Never13
 pub mod QueueGood
 pub mod Received
 pub mod TableGood
