@@ -1,9 +1,9 @@
-pub mod ActGood
-pub mod CallsGood
-pub mod LiveLaws
+pub mod ActLaws
+pub mod Acts
+pub mod Calls
+pub mod Good
 pub mod Never13
-pub mod QueueGood
+pub mod Packets
+pub mod Places
 pub mod Received
-pub mod TableGood
-pub mod WholeLaws
-pub mod WorkGood
+pub mod Work

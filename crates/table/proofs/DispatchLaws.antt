@@ -159,7 +159,7 @@ module _ (s : ChannelSlot) (p : RxPolicy) (k : ℕ) where
   abbrev decision : Wrote → Bool
   decision w = takes (w .decision)
 
-  fits : takes (wroteOf s p k .decision) ≡ true → heldOf s + k ≤ p .«rx_cap»
+  pub fits : takes (wroteOf s p k .decision) ≡ true → heldOf s + k ≤ p .«rx_cap»
   unfolding wroteOf
   fits e =
       by-test (isOpening (s .state))
@@ -218,7 +218,7 @@ module _ (p : RxPolicy) (i : ℕ) (s₀ s : ChannelSlot) (is : s ≡ s₀) (remo
     wrote-now len after h f = wrote-by (Now len) h ∙ ap (with (stored (AckWrite i (record { local = s .local; remote = s .remote }) len) i (w .slot))) (sym f)
 
 -- the slot that a walk stops at is what was looked for
-first-found : {A : Type 0} (q : A → Bool) (l : List A) (d : A) → first q l < length l → q (getD l (first q l) d) ≡ true
+pub first-found : {A : Type 0} (q : A → Bool) (l : List A) (d : A) → first q l < length l → q (getD l (first q l) d) ≡ true
 unfolding first
 first-found q [] d h = absurd (omega arith)
 first-found q (x ∷ l) d h =

@@ -1,0 +1,204 @@
+-- What received bytes give a call, and what the book reads of them. Assumes nothing.
+use mathlib.Core.Path.{_≡_, refl, sym, ap, subst, _∙_}
+use mathlib.Core.Bool.{Bool, true, false, not, cond, _&&_, _||_, true≢false}
+use mathlib.Core.List.{List, [], _∷_, _++_, map}
+use Prim.Native.Nat.{ℕ, zero, suc, _+_, _-_, _*_, _≤_, _<_, min}
+use native.Mathlib.Omega.{arith}
+use lib.Dec.{eqb, ltb, leb}
+use lib.ListN.{length, getD, length-map, List·getD-map}
+use borrow.Author.Tests.{eqb-true, eqb-false, eq-eqb, ne-eqb}
+use Rattle.le.specs.Le.{part, numOf}
+use Rattle.le.proofs.Parts.{by-test, length-part}
+use Rattle.config.specs.declared.negotiated.RxPolicy.{RxPolicy}
+use Rattle.config.proofs.Laws.{and-true}
+use Rattle.protocol.specs.declared.command.Command.{Command}
+use Rattle.protocol.specs.declared.command.Command.the-variants.{Sync, Connect, Open, Ready, Close, Write, Auth, StartTls}
+use Rattle.protocol.specs.declared.packet.Decoded.{Decoded}
+use Rattle.protocol.specs.declared.packet.Decoded.the-variants.{Waiting as FrameWaiting, InvalidCommand as WordInvalid, InvalidMagic as MagicInvalid, PayloadTooLarge as LengthTooLarge, InvalidChecksum as SumInvalid, Accepted}
+use Rattle.protocol.specs.declared.packet.Packet.{Packet}
+use Rattle.protocol.specs.Command.{lettersOf, wordOf}
+use Rattle.protocol.specs.Message.{messageOf}
+use Rattle.protocol.specs.Packet.{maxPayload, payloadOf, packetOf, decodeOf}
+use Rattle.protocol.proofs.RoundTrip.{Says, says}
+use Rattle.slot.specs.declared.ChannelSlot.{ChannelSlot}
+use Rattle.slot.specs.Ids.{isClose}
+use Rattle.slot.specs.Slot.{emptySlot}
+use Rattle.slot.proofs.Laws.{cond-true, cond-false}
+use Rattle.table.specs.declared.Want.the-variants.{Remote}
+use Rattle.table.specs.Table.{first, wantedBy, placeOf}
+use Rattle.table.specs.Dispatch.{slotIn}
+use Rattle.table.proofs.DispatchLaws.{first-found}
+use Rattle.connection.specs.declared.Answer.{Answer}
+use Rattle.connection.specs.declared.Answer.the-variants.{Waiting, Refused}
+use Rattle.connection.specs.declared.Received.{Received}
+use Rattle.connection.specs.declared.Received.the-variants.{Packet as PacketIs, Stop}
+use Rattle.connection.specs.declared.Refusal.the-variants.{InvalidCommand, InvalidMagic, PayloadTooLarge, InvalidChecksum}
+use Rattle.connection.specs.Answer.{refusalNumber, numberOf}
+use Rattle.connection.specs.Calls.{Lent, receivedBy, receivedOf, isWrite, isReady, bodyOf, frameLen}
+use Rattle.history.specs.Book.{Book, Mark, noMark, hasRemote, isWrte, isClse, isEarly, headerAt, payloadAt, closesB}
+use Rattle.history.proofs.Places.{TableOk, first-le, place-found, place-le}
+use Rattle.history.proofs.Acts.{endsOf}
+
+-- ---- a packet, or none
+
+-- none: nothing is used, or a damaged frame is
+pub record Stops (a : Answer) (used : ℕ) : Type 0 where
+  pub quiet : eqb (numberOf a) 4 ≡ false → used ≡ 0
+  pub late : isEarly a ≡ false
+
+pub data Got (received : List ℕ) (limit : ℕ) : Received → Type 0 where
+  stopped : (a : Answer) (used : ℕ) → Stops a used → Got received limit (Stop a used)
+  packet : (k : Packet) → Says received limit k → Got received limit (PacketIs k)
+
+got-by : (received : List ℕ) (limit : ℕ) (d : Decoded) → decodeOf received limit ≡ d → Got received limit (receivedBy d)
+unfolding receivedBy numberOf refusalNumber
+got-by received limit FrameWaiting e = stopped Waiting 0 (record { quiet = λ n. refl; late = refl })
+got-by received limit (WordInvalid word) e = stopped (Refused (InvalidCommand word)) 0 (record { quiet = λ n. refl; late = refl })
+got-by received limit MagicInvalid e = stopped (Refused InvalidMagic) 0 (record { quiet = λ n. refl; late = refl })
+got-by received limit LengthTooLarge e = stopped (Refused PayloadTooLarge) 0 (record { quiet = λ n. refl; late = refl })
+got-by received limit (SumInvalid used) e = stopped (Refused InvalidChecksum) used (record { quiet = λ n. absurd (true≢false n); late = refl })
+got-by received limit (Accepted k) e = packet k (says received limit k e)
+
+pub got : (l : Lent) (received : List ℕ) → Got received (l .state .header .negotiated .config .«max_payload») (receivedOf l received)
+unfolding receivedOf
+got l received = got-by received (l .state .header .negotiated .config .«max_payload») (decodeOf received (l .state .header .negotiated .config .«max_payload»)) refl
+
+-- ---- what the book reads of a packet
+
+word-write : (c : Command) → eqb (wordOf c) (wordOf Write) ≡ isWrite c
+unfolding wordOf lettersOf numOf isWrite
+word-write Sync = refl
+word-write Connect = refl
+word-write Open = refl
+word-write Ready = refl
+word-write Close = refl
+word-write Write = refl
+word-write Auth = refl
+word-write StartTls = refl
+
+word-close : (c : Command) → eqb (wordOf c) (wordOf Close) ≡ isClose c
+unfolding wordOf lettersOf numOf isClose
+word-close Sync = refl
+word-close Connect = refl
+word-close Open = refl
+word-close Ready = refl
+word-close Close = refl
+word-close Write = refl
+word-close Auth = refl
+word-close StartTls = refl
+
+module _ (received : List ℕ) (limit : ℕ) (k : Packet) (r : Says received limit k) where
+  pub reads-write : isWrte (headerAt received) ≡ isWrite (k .command)
+  reads-write = ap (λ (x : ℕ). eqb x (wordOf Write)) (r .word-is) ∙ word-write (k .command)
+
+  pub reads-close : isClse (headerAt received) ≡ isClose (k .command)
+  reads-close = ap (λ (x : ℕ). eqb x (wordOf Close)) (r .word-is) ∙ word-close (k .command)
+
+  pub reads-arg0 : headerAt received .arg0 ≡ k .arg0
+  unfolding packetOf
+  reads-arg0 = sym (ap (λ (x : Packet). x .arg0) (r .known .packet-is))
+
+  pub reads-arg1 : headerAt received .arg1 ≡ k .arg1
+  unfolding packetOf
+  reads-arg1 = sym (ap (λ (x : Packet). x .arg1) (r .known .packet-is))
+
+  pub reads-payload : payloadAt received (frameLen k) ≡ bodyOf received k
+  unfolding payloadOf
+  reads-payload = let e : 24 + k .«data_length» - 24 ≡ k .«data_length» = omega arith in ap (part received 24) e
+
+  length-is : k .«data_length» ≡ messageOf received .«data_length»
+  unfolding packetOf
+  length-is = ap (λ (x : Packet). x .«data_length») (r .known .packet-is)
+
+  pub body-length : length (bodyOf received k) ≡ k .«data_length»
+  unfolding payloadOf
+  body-length = let w = r .known .whole in let e = length-is in length-part received 24 (k .«data_length») (omega arith)
+
+  pub body-small : length (bodyOf received k) ≤ limit
+  body-small = let b = body-length in let w = r .known .within in let e = length-is in omega arith
+
+-- ---- marks beside slots
+
+-- what is marked of a slot
+abbrev pub markOf : ChannelSlot → Mark
+markOf s = cond (s .filled) (record { there = true; remote = s .remote .0 }) noMark
+
+mark-remote : (r : ℕ) (s : ChannelSlot) → hasRemote r (markOf s) ≡ (s .filled && eqb (s .remote .0) r)
+mark-remote r s =
+    by-test (s .filled)
+    (λ t. ap (hasRemote r) (cond-true (s .filled) _ _ t) ∙ ap (λ (x : Bool). x && eqb (s .remote .0) r) (sym t))
+    (λ t. ap (hasRemote r) (cond-false (s .filled) _ _ t) ∙ ap (λ (x : Bool). x && eqb (s .remote .0) r) (sym t))
+
+pub mark-at : (ss : List ChannelSlot) (i : ℕ) → getD (map markOf ss) i noMark ≡ markOf (slotIn ss i)
+unfolding slotIn emptySlot
+mark-at ss i = List·getD-map markOf ss i emptySlot
+
+module _ (p : RxPolicy) (n : ℕ) (ss : List ChannelSlot) (rx : List ℕ) (ok : TableOk p n ss rx) (r : ℕ) where
+  abbrev F : ℕ
+  F = first (hasRemote r) (map markOf ss)
+
+  abbrev f : ℕ
+  f = placeOf (Remote (record { 0 = r })) n ss
+
+  -- a slot with that remote number has that mark, and the other way
+  wanted-mark : (i : ℕ) → slotIn ss i .filled ≡ true → (hasRemote r (getD (map markOf ss) i noMark)) ≡ wantedBy (Remote (record { 0 = r })) (slotIn ss i)
+  unfolding wantedBy
+  wanted-mark i there =
+      ap (hasRemote r) (mark-at ss i) ∙ mark-remote r (slotIn ss i)
+      ∙ ap (λ (x : Bool). x && eqb (slotIn ss i .remote .0) r) (there ∙ sym (ap (λ (x : Bool). x && slotIn ss i .«has_remote») there ∙ ok .known i there))
+
+  wanted-filled : (j : ℕ) → wantedBy (Remote (record { 0 = r })) (slotIn ss j) ≡ true → slotIn ss j .filled ≡ true
+  unfolding wantedBy
+  wanted-filled j v =
+      let s = slotIn ss j in
+      and-true (s .filled) (s .«has_remote») (and-true (s .filled && s .«has_remote») (eqb (s .remote .0) r) v .0) .0
+
+  -- the first such mark is at a channel's place just where the walk over the slots ends there
+  marked-there : (j : ℕ) → hasRemote r (getD (map markOf ss) j noMark) ≡ true → slotIn ss j .filled ≡ true
+  marked-there j e = and-true (slotIn ss j .filled) (eqb (slotIn ss j .remote .0) r) (sym (ap (hasRemote r) (mark-at ss j) ∙ mark-remote r (slotIn ss j)) ∙ e) .0
+
+  module _ (i : ℕ) (there : slotIn ss i .filled ≡ true) where
+    forth : f ≡ i → F ≡ i
+    forth e =
+        let z = ok .size in
+        let y = ok .most in
+        let b = ok .below i there in
+        let l = length-map ss markOf in
+        let w : wantedBy (Remote (record { 0 = r })) (slotIn ss i) ≡ true = ap (λ (x : ℕ). wantedBy (Remote (record { 0 = r })) (slotIn ss x)) (sym e) ∙ place-found p n ss rx ok (Remote (record { 0 = r })) (omega arith) in
+        let le : F ≤ i = first-le (hasRemote r) (map markOf ss) i noMark (omega arith) (wanted-mark i there ∙ w) in
+        let m = first-found (hasRemote r) (map markOf ss) noMark (omega arith) in
+        let t = marked-there F m in
+        let ge = place-le p n ss rx ok (Remote (record { 0 = r })) F (ok .below F t) (sym (wanted-mark F t) ∙ m) in
+        omega arith
+
+    back : F ≡ i → f ≡ i
+    back e =
+        let z = ok .size in
+        let y = ok .most in
+        let b = ok .below i there in
+        let l = length-map ss markOf in
+        let m = first-found (hasRemote r) (map markOf ss) noMark (omega arith) in
+        let w : wantedBy (Remote (record { 0 = r })) (slotIn ss i) ≡ true = sym (wanted-mark i there) ∙ ap (λ (x : ℕ). hasRemote r (getD (map markOf ss) x noMark)) (sym e) ∙ m in
+        let le = place-le p n ss rx ok (Remote (record { 0 = r })) i b w in
+        let v = place-found p n ss rx ok (Remote (record { 0 = r })) (omega arith) in
+        let t = wanted-filled f v in
+        let ge : F ≤ f = first-le (hasRemote r) (map markOf ss) f noMark (let h = ok .below f t in omega arith) (wanted-mark f t ∙ v) in
+        omega arith
+
+    pub marks-agree : eqb F i ≡ eqb f i
+    marks-agree =
+        by-test (eqb f i) (λ t. eq-eqb F i (forth (eqb-true f i t)) ∙ sym t)
+        (λ t. ne-eqb F i (λ e. eqb-false f i t (back e)) ∙ sym t)
+
+-- so the book takes for the channel's end what dispatching does
+pub closes-agree : (p : RxPolicy) (n : ℕ) (ss : List ChannelSlot) (rx : List ℕ) (ok : TableOk p n ss rx) (i : ℕ) (there : slotIn ss i .filled ≡ true) (b : Book) (received : List ℕ) (limit : ℕ) (k : Packet)
+    (r : Says received limit k) → b .local ≡ slotIn ss i .local .0 → closesB (map markOf ss) i b (headerAt received) ≡ endsOf n ss i k
+closes-agree p n ss rx ok i there b received limit k r e =
+    let m = headerAt received in
+    let a0 = reads-arg0 received limit k r in
+    let a1 = reads-arg1 received limit k r in
+    ap (λ (x : Bool). x && cond (eqb (m .arg1) 0) (not (eqb (m .arg0) 0) && (eqb (first (hasRemote (m .arg0)) (map markOf ss)) i)) (eqb (m .arg1) (b .local))) (reads-close received limit k r)
+    ∙ ap (λ (x : ℕ). isClose (k .command) && cond (eqb x 0) (not (eqb (m .arg0) 0) && (eqb (first (hasRemote (m .arg0)) (map markOf ss)) i)) (eqb x (b .local))) a1
+    ∙ ap (λ (x : ℕ). isClose (k .command) && cond (eqb (k .arg1) 0) (not (eqb x 0) && (eqb (first (hasRemote x) (map markOf ss)) i)) (eqb (k .arg1) (b .local))) a0
+    ∙ ap (λ (x : ℕ). isClose (k .command) && cond (eqb (k .arg1) 0) (not (eqb (k .arg0) 0) && (eqb (first (hasRemote (k .arg0)) (map markOf ss)) i)) (eqb (k .arg1) x)) e
+    ∙ ap (λ (x : Bool). isClose (k .command) && cond (eqb (k .arg1) 0) (not (eqb (k .arg0) 0) && x) (eqb (k .arg1) (slotIn ss i .local .0))) (marks-agree p n ss rx ok (k .arg0) i there)
