@@ -4,7 +4,7 @@ use mathlib.Core.Bool.{Bool, true, false, cond, _&&_}
 use mathlib.Core.List.{List, [], _∷_, _++_}
 use Prim.Native.Nat.{ℕ, zero, suc, _+_, _*_, _≤_, _<_, min}
 use native.Mathlib.Omega.{arith}
-use lib.ListN.{length, drop, getD, replicate, length-append, length-replicate}
+use lib.ListN.{length, drop, getD, replicate, length-replicate}
 use Rattle.le.specs.Le.{put}
 use Rattle.config.specs.declared.ConnectionConfig.{ConnectionConfig}
 use Rattle.config.specs.declared.negotiated.Negotiated.{Negotiated}
@@ -15,27 +15,25 @@ use Rattle.incoming.specs.Incoming.{noOpen}
 use Rattle.slot.specs.Slot.{emptySlot}
 use Rattle.slot.proofs.Laws.{cond-true, cond-false}
 use Rattle.state.specs.Change.{changedAll, putAll}
-use Rattle.state.specs.Rows.{flat}
-use Rattle.state.specs.State.{Connection, slotBytes, openBytes, headerBytes, layout, stateOf, isState}
+use Rattle.state.specs.State.{Connection, layout, stateOf, isState}
 use Rattle.state.specs.Valid.{opensFine, whole, isWhole}
-use Rattle.state.proofs.Fields.{length-slot, length-open, length-header}
-use Rattle.state.proofs.RowLaws.{Every, never, length-flat}
-use Rattle.state.proofs.StateLaws.{Full, OpenFits, state-forth, layout-is-state}
+use Rattle.state.proofs.RowLaws.{Every, never}
+use Rattle.state.proofs.StateLaws.{OpenFits, state-forth, layout-is-state}
 use Rattle.state.proofs.ChangeLaws.{changes-layout}
 use Rattle.connection.specs.declared.Refusal.the-variants.{StoreShort}
 use Rattle.connection.specs.Answer.{refusalNumber, numberOf}
 use Rattle.connection.specs.Calls.{Lent, Outcome, untouched, checked, checkedOut, openOf, dispatchOf, settleOf, takeOf, readOf, writeOf, closeOf, frontCall, openStep, dispatchStep, settleStep, takeStep, readStep, writeStep, closeStep, frontStep, fresh, Made, makeOf}
 use Rattle.history.specs.Run.{bytesIn, Call, openCall, dispatchCall, settleCall, takeCall, readCall, writeCall, closeCall, frontTaken, World, lent, outcome, after, afterAll, made}
 use Rattle.history.specs.Never13.{Unbroken, Never13, Always8}
-use Rattle.history.proofs.WholeLaws.{Limits, SlotGood, Good, good-own, good-whole, good-full, good-fits, empty-good}
+use Rattle.state.proofs.WholeLaws.{length-layout, Bounds, SlotWhole, Whole, whole-own, whole-true, whole-full, whole-fits, empty-whole}
 use Rattle.history.proofs.Received.{bytes-in}
-use Rattle.history.proofs.WorkGood.{negotiated, Kept, checked-kept, checked-out-kept, long}
-use Rattle.history.proofs.CallsGood.{settle-kept, take-kept, close-kept, front-kept, dispatch-kept, read-kept, write-kept, open-kept}
+use Rattle.history.proofs.Work.{negotiated, Kept, checked-kept, checked-out-kept, long}
+use Rattle.history.proofs.Calls.{settle-kept, take-kept, close-kept, front-kept, dispatch-kept, read-kept, write-kept, open-kept}
 
 -- ---- one call
 
 module _ (w : World) (is : isWhole (w .state) ≡ true)
-    (g : Good (negotiated (lent w)) (lent w .state .header) (lent w .state .slots) (lent w .state .opens)) where
+    (g : Whole (negotiated (lent w)) (lent w .state .header) (lent w .state .slots) (lent w .state .opens)) where
   pub call-kept : (x : Call) → Kept (lent w) (outcome w x)
   unfolding outcome openOf dispatchOf settleOf takeOf readOf writeOf closeOf frontCall
   call-kept (openCall out destination received) =
@@ -69,19 +67,19 @@ module _ (w : World) (is : isWhole (w .state) ≡ true)
 -- the facts of the state that the bytes stand for, r behind them, and the stores' lengths
 pub record Holds (n : Negotiated) (r : List ℕ) (rx store : ℕ) (w : World) : Type 0 where
   pub is-layout : w .state ≡ layout (stateOf (w .state)) ++ r
-  pub good : Good n (stateOf (w .state) .header) (stateOf (w .state) .slots) (stateOf (w .state) .opens)
+  pub facts : Whole n (stateOf (w .state) .header) (stateOf (w .state) .slots) (stateOf (w .state) .opens)
   pub rx-length : length (w .rx) ≡ rx
   pub store-length : length (w .store) ≡ store
 
 module _ (n : Negotiated) (r : List ℕ) (rx store : ℕ) where
   -- bytes that are a layout of a state with these facts
-  holds-of : (w : World) (d : Connection) → w .state ≡ layout d ++ r → Good n (d .header) (d .slots) (d .opens) → length (w .rx) ≡ rx → length (w .store) ≡ store
+  holds-of : (w : World) (d : Connection) → w .state ≡ layout d ++ r → Whole n (d .header) (d .slots) (d .opens) → length (w .rx) ≡ rx → length (w .store) ≡ store
       → Holds n r rx store w
   holds-of w d e g a b =
-      let z : stateOf (w .state) ≡ d = ap stateOf e ∙ state-forth d r (good-fits n d g) in
+      let z : stateOf (w .state) ≡ d = ap stateOf e ∙ state-forth d r (whole-fits n d g) in
       record {
         is-layout = e ∙ ap (λ (x : Connection). layout x ++ r) (sym z);
-        good = subst (λ (x : Connection). Good n (x .header) (x .slots) (x .opens)) (sym z) g;
+        facts = subst (λ (x : Connection). Whole n (x .header) (x .slots) (x .opens)) (sym z) g;
         rx-length = a;
         store-length = b;
       }
@@ -90,12 +88,12 @@ module _ (n : Negotiated) (r : List ℕ) (rx store : ℕ) where
     holds-whole : isWhole (w .state) ≡ true
     unfolding isWhole
     holds-whole =
-        let s = ap isState (h .is-layout) ∙ layout-is-state (stateOf (w .state)) r (good-full n (stateOf (w .state)) (h .good)) in
-        let t = good-whole n (stateOf (w .state)) (h .good) in
+        let s = ap isState (h .is-layout) ∙ layout-is-state (stateOf (w .state)) r (whole-full n (stateOf (w .state)) (h .facts)) in
+        let t = whole-true n (stateOf (w .state)) (h .facts) in
         rw (s, t)
 
     holds-kept : (x : Call) → Kept (lent w) (outcome w x)
-    holds-kept x = call-kept w holds-whole (good-own n (stateOf (w .state) .header) (stateOf (w .state) .slots) (stateOf (w .state) .opens) (h .good)) x
+    holds-kept x = call-kept w holds-whole (whole-own n (stateOf (w .state) .header) (stateOf (w .state) .slots) (stateOf (w .state) .opens) (h .facts)) x
 
     holds-after : (x : Call) → Holds n r rx store (after w x)
     unfolding after
@@ -103,8 +101,8 @@ module _ (n : Negotiated) (r : List ℕ) (rx store : ℕ) where
         let k = holds-kept x in
         let c = stateOf (w .state) in
         holds-of _ (changedAll c (outcome w x .changes))
-        (ap (λ (b : List ℕ). putAll b (outcome w x .changes)) (h .is-layout) ∙ changes-layout c r (outcome w x .changes) (good-full n c (h .good)) (k .within))
-        (subst (λ (m : Negotiated). Good m (changedAll c (outcome w x .changes) .header) (changedAll c (outcome w x .changes) .slots) (changedAll c (outcome w x .changes) .opens)) (h .good .header .negotiated) (k .good))
+        (ap (λ (b : List ℕ). putAll b (outcome w x .changes)) (h .is-layout) ∙ changes-layout c r (outcome w x .changes) (whole-full n c (h .facts)) (k .within))
+        (subst (λ (m : Negotiated). Whole m (changedAll c (outcome w x .changes) .header) (changedAll c (outcome w x .changes) .slots) (changedAll c (outcome w x .changes) .opens)) (h .facts .header .negotiated) (k .facts))
         (k .rx-length ∙ h .rx-length)
         (k .store-length ∙ h .store-length)
 
@@ -124,13 +122,13 @@ every-replicate : {A : Type 0} (P : A → Type 0) (k : ℕ) (a : A) → P a → 
 every-replicate P zero a p = tt
 every-replicate P (suc k) a p = (p, every-replicate P k a p)
 
-limits-of : (c : ConnectionConfig) (a b : ℕ) (host device : Bool) → withinLimits c ≡ true → Limits (negotiatedOf host device a b c)
+limits-of : (c : ConnectionConfig) (a b : ℕ) (host device : Bool) → withinLimits c ≡ true → Bounds (negotiatedOf host device a b c)
 unfolding negotiatedOf
 limits-of c a b host device e = record { within = within c e; payload = omega arith; version = omega arith }
 
-fresh-good : (n : Negotiated) → Limits n → Good n (fresh n .header) (fresh n .slots) (fresh n .opens)
+fresh-whole : (n : Negotiated) → Bounds n → Whole n (fresh n .header) (fresh n .slots) (fresh n .opens)
 unfolding fresh opensFine
-fresh-good n k =
+fresh-whole n k =
     record {
       limits = k;
       header =
@@ -142,7 +140,7 @@ fresh-good n k =
             local-fits = omega arith;
             queue-fits = omega arith;
           };
-      slots = record { full = length-replicate 64 emptySlot; each = λ i. subst (SlotGood n i) (sym (in-replicate 64 i emptySlot)) (empty-good n i) };
+      slots = record { full = length-replicate 64 emptySlot; each = λ i. subst (SlotWhole n i) (sym (in-replicate 64 i emptySlot)) (empty-whole n i) };
       waits = λ e. never e;
       opens =
           record {
@@ -151,16 +149,6 @@ fresh-good n k =
             fine = refl;
           };
     }
-
-length-layout : (c : Connection) → Full c → length (layout c) ≡ 4730
-unfolding layout
-length-layout c f =
-    let h = length-header (c .header) in
-    let s = length-flat 49 slotBytes length-slot (c .slots) in
-    let o = length-flat 24 openBytes length-open (c .opens) in
-    let a = f .slots in
-    let b = f .opens in
-    simp length-append (omega arith)
 
 put-start : (state l : List ℕ) → length l ≡ 4730 → put state 0 l ≡ l ++ drop 4730 state
 unfolding put
@@ -171,9 +159,9 @@ module _ (c : ConnectionConfig) (a b : ℕ) (host device : Bool) (state rx store
   unfolding made makeOf
   made-holds =
       let n = negotiatedOf host device a b c in
-      let g = fresh-good n (limits-of c a b host device e) in
+      let g = fresh-whole n (limits-of c a b host device e) in
       holds-of n (drop 4730 state) (length rx) (length store) _ (fresh n)
-      (ap (λ (x : Made). x .state) (cond-true (withinLimits c) _ _ e) ∙ put-start state (layout (fresh n)) (length-layout (fresh n) (good-full n (fresh n) g)))
+      (ap (λ (x : Made). x .state) (cond-true (withinLimits c) _ _ e) ∙ put-start state (layout (fresh n)) (length-layout (fresh n) (whole-full n (fresh n) g)))
       g refl refl
 
   all-holds : (cs : List Call) → Holds (negotiatedOf host device a b c) (drop 4730 state) (length rx) (length store) (afterAll (made c a b host device state rx store) cs)
@@ -184,7 +172,7 @@ module _ (c : ConnectionConfig) (a b : ℕ) (host device : Bool) (state rx store
   unfolding negotiatedOf
   short-made s =
       let k = made-holds in
-      ap (λ (m : Negotiated). storesFit (m .config) (length (made c a b host device state rx store .rx)) (length (made c a b host device state rx store .store))) (k .good .header .negotiated)
+      ap (λ (m : Negotiated). storesFit (m .config) (length (made c a b host device state rx store .rx)) (length (made c a b host device state rx store .store))) (k .facts .header .negotiated)
       ∙ ap (λ (y : ℕ). storesFit c y (length (made c a b host device state rx store .store))) (k .rx-length)
       ∙ ap (λ (y : ℕ). storesFit c (length rx) y) (k .store-length) ∙ s
 
@@ -200,7 +188,7 @@ never-13 c a b host device state rx store e h cs =
       never = λ x. holds-kept n r (length rx) (length store) w k x .answer;
       rx-length = k .rx-length;
       store-length = k .store-length;
-      negotiated = k .good .header .negotiated;
+      negotiated = k .facts .header .negotiated;
     }
 
 -- ---- stores under their lengths

@@ -35,7 +35,7 @@ use Rattle.connection.specs.declared.Received.the-variants.{Packet as PacketIs,
 use Rattle.connection.specs.Answer.{refusalNumber, numberOf}
 use Rattle.connection.specs.Calls.{Lent, bodyOf, faultRefusal, errorRefusal, unlessFault, receivedBy, receivedOf}
 use Rattle.history.specs.Run.{bytesIn}
-use Rattle.history.proofs.ActGood.{PacketGood}
+use Rattle.history.proofs.ActLaws.{PacketFits}
 
 -- ---- bytes
 
@@ -70,44 +70,44 @@ unless-fine (By f) a h = fault-fine f
 -- ---- packets
 
 module _ (n : Negotiated) (received : List ℕ) where
-  abbrev DecodedGood : Decoded → Type 0
-  DecodedGood FrameWaiting = Unit {0}
-  DecodedGood (WordInvalid word) = Unit {0}
-  DecodedGood MagicInvalid = Unit {0}
-  DecodedGood LengthTooLarge = Unit {0}
-  DecodedGood (SumInvalid used) = Unit {0}
-  DecodedGood (Accepted p) = PacketGood n p (bodyOf received p)
+  abbrev DecodedFits : Decoded → Type 0
+  DecodedFits FrameWaiting = Unit {0}
+  DecodedFits (WordInvalid word) = Unit {0}
+  DecodedFits MagicInvalid = Unit {0}
+  DecodedFits LengthTooLarge = Unit {0}
+  DecodedFits (SumInvalid used) = Unit {0}
+  DecodedFits (Accepted p) = PacketFits n p (bodyOf received p)
 
-  abbrev pub ReceivedGood : Received → Type 0
-  ReceivedGood (PacketIs p) = PacketGood n p (bodyOf received p)
-  ReceivedGood (Stop a used) = NotBroken a
+  abbrev pub ReceivedFits : Received → Type 0
+  ReceivedFits (PacketIs p) = PacketFits n p (bodyOf received p)
+  ReceivedFits (Stop a used) = NotBroken a
 
   module _ (y : Bytes received) where
-    known-good : (c : Command) → DecodedGood (knownOf received (n .config .«max_payload») c (messageOf received))
+    known-fits : (c : Command) → DecodedFits (knownOf received (n .config .«max_payload») c (messageOf received))
     unfolding knownOf packetOf messageOf payloadOf
-    known-good c =
+    known-fits c =
         let k = numOf (part received 12 4) in
         let limit = min (n .config .«max_payload») 1_048_576 in
-        pick DecodedGood (not (eqb (numOf (part received 20 4)) (magicOf c))) (λ t. tt)
-        (λ t. pick DecodedGood (ltb limit k) (λ u. tt)
-        (λ u. pick DecodedGood (ltb (length received) (24 + k)) (λ v. tt)
-        (λ v. pick DecodedGood (checkPasses (numOf (part received 16 4)) (part received 24 k))
+        pick DecodedFits (not (eqb (numOf (part received 20 4)) (magicOf c))) (λ t. tt)
+        (λ t. pick DecodedFits (ltb limit k) (λ u. tt)
+        (λ u. pick DecodedFits (ltb (length received) (24 + k)) (λ v. tt)
+        (λ v. pick DecodedFits (checkPasses (numOf (part received 16 4)) (part received 24 k))
         (λ w. let a = ltb-false limit k u in
         let b = ltb-false (length received) (24 + k) v in
         let e = length-part received 24 k b in
         record { arg0 = numOf-part 4 received 4 y; arg1 = numOf-part 4 received 8 y; small = omega arith; bytes = bytes-part received 24 k y })
         (λ w. tt))))
 
-    named-good : (w : CommandWord) → DecodedGood (namedOf received (n .config .«max_payload») (messageOf received) w)
+    named-fits : (w : CommandWord) → DecodedFits (namedOf received (n .config .«max_payload») (messageOf received) w)
     unfolding namedOf
-    named-good (Known c) = known-good c
-    named-good (Invalid word) = tt
+    named-fits (Known c) = known-fits c
+    named-fits (Invalid word) = tt
 
-    decoded-good : DecodedGood (decodeOf received (n .config .«max_payload»))
+    decoded-fits : DecodedFits (decodeOf received (n .config .«max_payload»))
     unfolding decodeOf
-    decoded-good = pick DecodedGood (ltb (length received) 24) (λ t. tt) (λ t. named-good (commandOf (messageOf received .command)))
+    decoded-fits = pick DecodedFits (ltb (length received) 24) (λ t. tt) (λ t. named-fits (commandOf (messageOf received .command)))
 
-    received-by : (d : Decoded) → DecodedGood d → ReceivedGood (receivedBy d)
+    received-by : (d : Decoded) → DecodedFits d → ReceivedFits (receivedBy d)
     unfolding receivedBy numberOf refusalNumber
     received-by FrameWaiting g = λ e. omega arith
     received-by (WordInvalid word) g = λ e. omega arith
@@ -116,8 +116,8 @@ module _ (n : Negotiated) (received : List ℕ) where
     received-by (SumInvalid used) g = λ e. omega arith
     received-by (Accepted p) g = g
 
-pub received-good : (l : Lent) (received : List ℕ) → Bytes received → ReceivedGood (l .state .header .negotiated) received (receivedOf l received)
+pub received-fits : (l : Lent) (received : List ℕ) → Bytes received → ReceivedFits (l .state .header .negotiated) received (receivedOf l received)
 unfolding receivedOf
-received-good l received y =
+received-fits l received y =
     received-by (l .state .header .negotiated) received y (decodeOf received (l .state .header .negotiated .config .«max_payload»))
-    (decoded-good (l .state .header .negotiated) received y)
+    (decoded-fits (l .state .header .negotiated) received y)

@@ -19,6 +19,7 @@ use Rattle.state.specs.declared.Header.{Header}
 use Rattle.state.specs.Change.{Change, slotTo, headerTo, changedAll, Within}
 use Rattle.state.specs.State.{Connection}
 use Rattle.state.proofs.RowLaws.{Every, every-append, never}
+use Rattle.state.proofs.ChangeLaws.{changes-append}
 use Rattle.table.specs.declared.ChannelId.{ChannelId}
 use Rattle.table.specs.declared.Want.the-variants.{Local}
 use Rattle.table.specs.Table.{wantedBy}
@@ -31,10 +32,10 @@ use Rattle.connection.specs.Answer.{refusalNumber, numberOf}
 use Rattle.connection.specs.Act.{Acted}
 use Rattle.connection.specs.Calls.{Lent, Outcome, untouched, Work, begun, then, thenActed, ends, checked, checkedOut, dropped, isThere, slotFor}
 use Rattle.connection.specs.Frames.{Frame}
-use Rattle.history.proofs.WholeLaws.{Live, SlotGood, Good, good-live, good-put}
-use Rattle.history.proofs.ActGood.{changes-append, ActedGood}
+use Rattle.state.proofs.WholeLaws.{Live, SlotWhole, Whole, whole-live, whole-put}
+use Rattle.history.proofs.ActLaws.{ActedKeeps}
 use Rattle.history.proofs.Received.{NotBroken}
-use Rattle.history.proofs.TableGood.{local-filled}
+use Rattle.table.proofs.KeepLaws.{local-filled}
 
 abbrev pub negotiated : Lent → Negotiated
 negotiated l = l .state .header .negotiated
@@ -43,25 +44,25 @@ negotiated l = l .state .header .negotiated
 -- lengths, the answer is not refusal 13
 pub record Kept (l : Lent) (o : Outcome) : Type 0 where
   pub within : Every Within (o .changes)
-  pub good : Good (negotiated l) (changedAll (l .state) (o .changes) .header) (changedAll (l .state) (o .changes) .slots) (changedAll (l .state) (o .changes) .opens)
+  pub facts : Whole (negotiated l) (changedAll (l .state) (o .changes) .header) (changedAll (l .state) (o .changes) .slots) (changedAll (l .state) (o .changes) .opens)
   pub rx-length : length (o .rx) ≡ length (l .rx)
   pub store-length : length (o .store) ≡ length (l .store)
   pub answer : NotBroken (o .answer)
 
 -- the same of what a call has done so far, once its header is stored
-pub record WorkGood (l : Lent) (w : Work) : Type 0 where
+pub record WorkWhole (l : Lent) (w : Work) : Type 0 where
   pub within : Every Within (w .changes)
-  pub good : Good (negotiated l) (w .header) (changedAll (l .state) (w .changes) .slots) (changedAll (l .state) (w .changes) .opens)
+  pub facts : Whole (negotiated l) (w .header) (changedAll (l .state) (w .changes) .slots) (changedAll (l .state) (w .changes) .opens)
   pub rx-length : length (w .rx) ≡ length (l .rx)
   pub store-length : length (w .store) ≡ length (l .store)
 
 -- and there is a channel at place i
 pub record At (l : Lent) (i : ℕ) (w : Work) : Type 0 where
-  pub work : WorkGood l w
+  pub work : WorkWhole l w
   pub live : Live (negotiated l) i (slotIn (changedAll (l .state) (w .changes) .slots) i)
 
-pub drop-good : (n : Negotiated) (h : Header) (c : Connection) → Good n h (c .slots) (c .opens) → Good n (dropped h) (c .slots) (c .opens)
-drop-good n h c g =
+pub drop-whole : (n : Negotiated) (h : Header) (c : Connection) → Whole n h (c .slots) (c .opens) → Whole n (dropped h) (c .slots) (c .opens)
+drop-whole n h c g =
     record {
       limits = g .limits;
       header =
@@ -78,42 +79,42 @@ drop-good n h c g =
       opens = g .opens;
     }
 
-pub begun-good : (l : Lent) (h : Header) → Good (negotiated l) h (l .state .slots) (l .state .opens) → WorkGood l (begun h l)
-begun-good l h g = record { within = tt; good = g; rx-length = refl; store-length = refl }
+pub begun-whole : (l : Lent) (h : Header) → Whole (negotiated l) h (l .state .slots) (l .state .opens) → WorkWhole l (begun h l)
+begun-whole l h g = record { within = tt; facts = g; rx-length = refl; store-length = refl }
 
 -- ---- steps
 
-module _ (l : Lent) (w : Work) (k : WorkGood l w) where
+module _ (l : Lent) (w : Work) (k : WorkWhole l w) where
   abbrev before : Connection
   before = changedAll (l .state) (w .changes)
 
-  pub frames-good : (fs : List Frame) → WorkGood l (then w [] fs)
-  frames-good fs =
+  pub frames-whole : (fs : List Frame) → WorkWhole l (then w [] fs)
+  frames-whole fs =
       record {
         within = every-append Within (w .changes) [] (k .within) tt;
-        good = subst (λ (x : Connection). Good (negotiated l) (w .header) (x .slots) (x .opens)) (sym (changes-append (l .state) (w .changes) [])) (k .good);
+        facts = subst (λ (x : Connection). Whole (negotiated l) (w .header) (x .slots) (x .opens)) (sym (changes-append (l .state) (w .changes) [])) (k .facts);
         rx-length = k .rx-length;
         store-length = k .store-length;
       }
 
   -- a slot is stored
-  pub slot-good : (i : ℕ) (t : ChannelSlot) (fs : List Frame) → i < 64 → (w .header .waiting .on ≡ true → w .header .waiting .slot ≡ i → ⊥) → SlotGood (negotiated l) i t
-      → WorkGood l (then w (slotTo i t ∷ []) fs)
-  slot-good i t fs h f s =
+  pub slot-whole : (i : ℕ) (t : ChannelSlot) (fs : List Frame) → i < 64 → (w .header .waiting .on ≡ true → w .header .waiting .slot ≡ i → ⊥) → SlotWhole (negotiated l) i t
+      → WorkWhole l (then w (slotTo i t ∷ []) fs)
+  slot-whole i t fs h f s =
       record {
         within = every-append Within (w .changes) (slotTo i t ∷ []) (k .within) (h, tt);
-        good = subst (λ (x : Connection). Good (negotiated l) (w .header) (x .slots) (x .opens)) (sym (changes-append (l .state) (w .changes) (slotTo i t ∷ [])))
-        (good-put (negotiated l) (w .header) (before .slots) (before .opens) (k .good) i t f h s);
+        facts = subst (λ (x : Connection). Whole (negotiated l) (w .header) (x .slots) (x .opens)) (sym (changes-append (l .state) (w .changes) (slotTo i t ∷ [])))
+        (whole-put (negotiated l) (w .header) (before .slots) (before .opens) (k .facts) i t f h s);
         rx-length = k .rx-length;
         store-length = k .store-length;
       }
 
   -- a packet was acted on
-  pub act-good : (a : Acted) → ActedGood (negotiated l) (changedAll (l .state) (w .changes)) (length (l .rx)) (length (l .store)) a → WorkGood l (thenActed w a)
-  act-good a g =
+  pub act-whole : (a : Acted) → ActedKeeps (negotiated l) (changedAll (l .state) (w .changes)) (length (l .rx)) (length (l .store)) a → WorkWhole l (thenActed w a)
+  act-whole a g =
       record {
         within = every-append Within (w .changes) (a .changes) (k .within) (g .within);
-        good = subst (λ (x : Connection). Good (negotiated l) (a .header) (x .slots) (x .opens)) (sym (changes-append (l .state) (w .changes) (a .changes))) (g .good);
+        facts = subst (λ (x : Connection). Whole (negotiated l) (a .header) (x .slots) (x .opens)) (sym (changes-append (l .state) (w .changes) (a .changes))) (g .facts);
         rx-length = g .rx-length;
         store-length = g .store-length;
       }
@@ -124,7 +125,7 @@ module _ (l : Lent) (w : Work) (k : WorkGood l w) where
   ends-kept a used handed f =
       record {
         within = every-append Within (w .changes) (headerTo (w .header) ∷ []) (k .within) (tt, tt);
-        good = subst (λ (x : Connection). Good (negotiated l) (x .header) (x .slots) (x .opens)) (sym (changes-append (l .state) (w .changes) (headerTo (w .header) ∷ []))) (k .good);
+        facts = subst (λ (x : Connection). Whole (negotiated l) (x .header) (x .slots) (x .opens)) (sym (changes-append (l .state) (w .changes) (headerTo (w .header) ∷ []))) (k .facts);
         rx-length = k .rx-length;
         store-length = k .store-length;
         answer = f;
@@ -137,14 +138,14 @@ module _ (l : Lent) (i : ℕ) (w : Work) (k : At l i w) where
   pub at-frames : (fs : List Frame) → At l i (then w [] fs)
   at-frames fs =
       record {
-        work = frames-good l w (k .work) fs;
+        work = frames-whole l w (k .work) fs;
         live = subst (λ (x : Connection). Live (negotiated l) i (slotIn (x .slots) i)) (sym (changes-append (l .state) (w .changes) [])) (k .live);
       }
 
   pub at-slot : (t : ChannelSlot) (fs : List Frame) → Live (negotiated l) i t → At l i (then w (slotTo i t ∷ []) fs)
   unfolding slotIn
   at-slot t fs v =
-      let g = k .work .good in
+      let g = k .work .facts in
       let z = changes-append (l .state) (w .changes) (slotTo i t ∷ []) in
       let most = g .limits .within .most-channels in
       let p = v .place in
@@ -153,8 +154,8 @@ module _ (l : Lent) (i : ℕ) (w : Work) (k : At l i w) where
         work =
             record {
               within = every-append Within (w .changes) (slotTo i t ∷ []) (k .work .within) (omega arith, tt);
-              good = subst (λ (x : Connection). Good (negotiated l) (w .header) (x .slots) (x .opens)) (sym z)
-              (good-live (negotiated l) (w .header) (here .slots) (here .opens) g i t (k .live) v);
+              facts = subst (λ (x : Connection). Whole (negotiated l) (w .header) (x .slots) (x .opens)) (sym z)
+              (whole-live (negotiated l) (w .header) (here .slots) (here .opens) g i t (k .live) v);
               rx-length = k .work .rx-length;
               store-length = k .work .store-length;
             };
@@ -162,13 +163,13 @@ module _ (l : Lent) (i : ℕ) (w : Work) (k : At l i w) where
         (subst (Live (negotiated l) i) (sym (getD-set-same (here .slots) i t emptySlot (omega arith))) v);
       }
 
-  pub at-act : (a : Acted) → ActedGood (negotiated l) (changedAll (l .state) (w .changes)) (length (l .rx)) (length (l .store)) a → At l i (thenActed w a)
+  pub at-act : (a : Acted) → ActedKeeps (negotiated l) (changedAll (l .state) (w .changes)) (length (l .rx)) (length (l .store)) a → At l i (thenActed w a)
   unfolding slotIn
   at-act a g =
       let z = changes-append (l .state) (w .changes) (a .changes) in
       record {
-        work = act-good l w (k .work) a g;
-        live = subst (λ (x : Connection). Live (negotiated l) i (getD (x .slots) i emptySlot)) (sym z) (g .good .slots .each i .live (g .filled i (k .live .filled)));
+        work = act-whole l w (k .work) a g;
+        live = subst (λ (x : Connection). Live (negotiated l) i (getD (x .slots) i emptySlot)) (sym z) (g .facts .slots .each i .live (g .filled i (k .live .filled)));
       }
 
   pub at-ends : (a : Answer) (used : ℕ) (handed : List ℕ) → NotBroken a → Kept l (ends w a used handed)
@@ -176,13 +177,13 @@ module _ (l : Lent) (i : ℕ) (w : Work) (k : At l i w) where
 
 -- ---- a call's start
 
-module _ (l : Lent) (g : Good (negotiated l) (l .state .header) (l .state .slots) (l .state .opens)) where
+module _ (l : Lent) (g : Whole (negotiated l) (l .state .header) (l .state .slots) (l .state .opens)) where
   -- a refusal that changes nothing
   pub untouched-kept : (r : Refusal) → NotBroken (Refused r) → Kept l (untouched l r)
-  untouched-kept r f = record { within = tt; good = g; rx-length = refl; store-length = refl; answer = f }
+  untouched-kept r f = record { within = tt; facts = g; rx-length = refl; store-length = refl; answer = f }
 
-  pub dropped-good : WorkGood l (begun (dropped (l .state .header)) l)
-  dropped-good = begun-good l (dropped (l .state .header)) (drop-good (negotiated l) (l .state .header) (l .state) g)
+  pub dropped-whole : WorkWhole l (begun (dropped (l .state .header)) l)
+  dropped-whole = begun-whole l (dropped (l .state .header)) (drop-whole (negotiated l) (l .state .header) (l .state) g)
 
   -- a channel that is in the table
   pub there-live : (ch : ChannelId) → isThere l ch ≡ true → Live (negotiated l) (ch .slot) (slotFor l ch)
@@ -193,7 +194,7 @@ module _ (l : Lent) (g : Good (negotiated l) (l .state .header) (l .state .slots
 
   pub there-at : (ch : ChannelId) → isThere l ch ≡ true → At l (ch .slot) (begun (dropped (l .state .header)) l)
   unfolding slotFor
-  there-at ch e = record { work = dropped-good; live = there-live ch e }
+  there-at ch e = record { work = dropped-whole; live = there-live ch e }
 
   -- the refusals ahead of every step
   pub checked-kept : (o : Outcome) → (storesFit (negotiated l .config) (length (l .rx)) (length (l .store)) ≡ true → Kept l o) → Kept l (checked true l o)

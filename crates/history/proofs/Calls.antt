@@ -52,13 +52,13 @@ use Rattle.connection.specs.Answer.{refusalNumber, numberOf}
 use Rattle.connection.specs.Act.{Acted, actOn}
 use Rattle.connection.specs.Calls.{Lent, Outcome, untouched, Work, begun, then, thenActed, withHeader, ends, dropped, waitingFor, policy, idsIn, isThere, slotFor, ackFrames, faultRefusal, errorRefusal, unlessFault, receivedOf, bodyOf, frameLen, isWrite, isReady, dispatchBy, dispatchStep, settledAs, settleStep, frontOf, takenBy, takeStep, reread, readSettled, readActed, isDirect, readDirect, readBy, readTaken, readFirst, readStep, sendLen, sendSome, sendBy, sendAgain, writeReadied, writeActed, writeAct, writeBy, writeFirst, writeOn, writeStep, closeStep, frontBy, frontStep, openOn, stillWaits, openReadied, openActed, openBy, openStep, openOf, dispatchOf, settleOf, takeOf, readOf, writeOf, closeOf, frontCall}
 use Rattle.connection.specs.Frames.{Frame, framesBytes}
-use Rattle.history.proofs.WholeLaws.{Live, Good, live-good, empty-good}
-use Rattle.history.proofs.LiveLaws.{ReadiedLive, ready-live, opened-live, TakenLive, taken-live, settled-live, delivered-live, spent-live, closed-live}
-use Rattle.history.proofs.TableGood.{place-found}
-use Rattle.history.proofs.QueueGood.{QueueGood, FrontAs, pop-good}
-use Rattle.history.proofs.ActGood.{ActedGood, PacketGood, acted-good}
-use Rattle.history.proofs.Received.{NotBroken, fault-fine, error-fine, unless-fine, ReceivedGood, received-good}
-use Rattle.history.proofs.WorkGood.{negotiated, Kept, WorkGood, At, drop-good, begun-good, frames-good, slot-good, act-good, ends-kept, at-frames, at-slot, at-act, at-ends, untouched-kept, dropped-good, there-live, there-at, checked-kept, checked-out-kept, Long, long}
+use Rattle.state.proofs.WholeLaws.{Live, Whole, live-whole, empty-whole}
+use Rattle.state.proofs.LiveLaws.{ReadiedLive, ready-live, opened-live, TakenLive, taken-live, settled-live, delivered-live, spent-live, closed-live}
+use Rattle.table.proofs.KeepLaws.{place-found}
+use Rattle.incoming.proofs.QueueLaws.{QueueKeeps, FrontAs, pop-keeps}
+use Rattle.history.proofs.ActLaws.{ActedKeeps, PacketFits, acted-keeps}
+use Rattle.history.proofs.Received.{NotBroken, fault-fine, error-fine, unless-fine, ReceivedFits, received-fits}
+use Rattle.history.proofs.Work.{negotiated, Kept, WorkWhole, At, drop-whole, begun-whole, frames-whole, slot-whole, act-whole, ends-kept, at-frames, at-slot, at-act, at-ends, untouched-kept, dropped-whole, there-live, there-at, checked-kept, checked-out-kept, Long, long}
 
 -- ---- answers that are not refusal 13
 
@@ -118,13 +118,13 @@ free-fine : NotBroken (Refused NoFreeChannels)
 unfolding numberOf refusalNumber
 free-fine e = omega arith
 
-module _ (l : Lent) (g : Good (negotiated l) (l .state .header) (l .state .slots) (l .state .opens)) where
-  gd : Good (negotiated l) (dropped (l .state .header)) (l .state .slots) (l .state .opens)
-  gd = drop-good (negotiated l) (l .state .header) (l .state) g
+module _ (l : Lent) (g : Whole (negotiated l) (l .state .header) (l .state .slots) (l .state .opens)) where
+  gd : Whole (negotiated l) (dropped (l .state .header)) (l .state .slots) (l .state .opens)
+  gd = drop-whole (negotiated l) (l .state .header) (l .state) g
 
   -- no such channel
   gone-kept : Kept l (ends (begun (dropped (l .state .header)) l) (Refused ChannelClosed) 0 [])
-  gone-kept = ends-kept l _ (dropped-good l g) (Refused ChannelClosed) 0 [] closed-fine
+  gone-kept = ends-kept l _ (dropped-whole l g) (Refused ChannelClosed) 0 [] closed-fine
 
   -- ---- settle and take
 
@@ -161,16 +161,16 @@ module _ (l : Lent) (g : Good (negotiated l) (l .state .header) (l .state .slots
       (λ t. let v = there-live l g ch (and-true _ _ t .0) in
       let p = v .place in
       let most = g .limits .within .most-channels in
-      ends-kept l _ (slot-good l _ (dropped-good l g) (ch .slot) emptySlot _ (omega arith) (λ e. never e) (empty-good (negotiated l) (ch .slot))) Done 0 [] done-fine)
+      ends-kept l _ (slot-whole l _ (dropped-whole l g) (ch .slot) emptySlot _ (omega arith) (λ e. never e) (empty-whole (negotiated l) (ch .slot))) Done 0 [] done-fine)
       (λ t. gone-kept)
 
   -- ---- take_front
 
-  queue-work : (less : Header) (xs : List Change) → QueueGood (negotiated l) (l .state .slots) (l .state .opens) less xs → WorkGood l (then (begun less l) xs [])
+  queue-work : (less : Header) (xs : List Change) → QueueKeeps (negotiated l) (l .state .slots) (l .state .opens) less xs → WorkWhole l (then (begun less l) xs [])
   queue-work less xs q =
       record {
         within = q .within;
-        good = subst (λ x. Good (negotiated l) less x (changedAll (l .state) xs .opens)) (sym (q .slots (l .state))) (q .good (l .state) refl);
+        facts = subst (λ x. Whole (negotiated l) less x (changedAll (l .state) xs .opens)) (sym (q .slots (l .state))) (q .facts (l .state) refl);
         rx-length = refl;
         store-length = refl;
       }
@@ -178,30 +178,30 @@ module _ (l : Lent) (g : Good (negotiated l) (l .state .header) (l .state .slots
   front-by : (xs : List Change) (f : Front) → FrontAs (dropped (l .state .header)) (l .state .slots) (l .state .opens) gd xs f → Kept l (frontBy l (dropped (l .state .header)) xs f)
   unfolding frontBy
   front-by xs (FrontOpen q less) k = ends-kept l _ (queue-work less xs k) _ 0 [] (front-fine _ _ _ _)
-  front-by xs NoFront k = ends-kept l _ (dropped-good l g) Nothing 0 [] nothing-fine
+  front-by xs NoFront k = ends-kept l _ (dropped-whole l g) Nothing 0 [] nothing-fine
 
   pub front-kept : Kept l (frontStep l)
   unfolding frontStep
-  front-kept = front-by _ _ (pop-good (dropped (l .state .header)) (l .state .slots) (l .state .opens) gd)
+  front-kept = front-by _ _ (pop-keeps (dropped (l .state .header)) (l .state .slots) (l .state .opens) gd)
 
   -- ---- calls that look at a packet
 
   module _ (long : Long (negotiated l) (length (l .rx)) (length (l .store))) (received : List ℕ) where
     -- what acting on it leaves, with the state as it was lent, the open that waits dropped
-    acted : (p : Packet) → PacketGood (negotiated l) p (bodyOf received p) → ActedGood (negotiated l) (l .state) (length (l .rx)) (length (l .store))
+    acted : (p : Packet) → PacketFits (negotiated l) p (bodyOf received p) → ActedKeeps (negotiated l) (l .state) (length (l .rx)) (length (l .store))
         (actOn (dropped (l .state .header)) (l .state .slots) (l .state .opens) (l .rx) (l .store) p (bodyOf received p))
-    acted p k = acted-good (dropped (l .state .header)) (l .state) (l .rx) (l .store) gd (long .rx-long) (long .store-long) p (bodyOf received p) k
+    acted p k = acted-keeps (dropped (l .state .header)) (l .state) (l .rx) (l .store) gd (long .rx-long) (long .store-long) p (bodyOf received p) k
 
     -- ---- dispatch
 
-    dispatch-by : (r : Received) → ReceivedGood (negotiated l) received r → Kept l (dispatchBy l (dropped (l .state .header)) received r)
+    dispatch-by : (r : Received) → ReceivedFits (negotiated l) received r → Kept l (dispatchBy l (dropped (l .state .header)) received r)
     unfolding dispatchBy
-    dispatch-by (Stop a used) k = ends-kept l _ (dropped-good l g) a used [] k
-    dispatch-by (PacketIs p) k = ends-kept l _ (act-good l _ (dropped-good l g) _ (acted p k)) _ (frameLen p) [] (unless-fine _ Done done-fine)
+    dispatch-by (Stop a used) k = ends-kept l _ (dropped-whole l g) a used [] k
+    dispatch-by (PacketIs p) k = ends-kept l _ (act-whole l _ (dropped-whole l g) _ (acted p k)) _ (frameLen p) [] (unless-fine _ Done done-fine)
 
     pub dispatch-kept : Bytes received → Kept l (dispatchStep l received)
     unfolding dispatchStep
-    dispatch-kept y = dispatch-by (receivedOf l received) (received-good l received y)
+    dispatch-kept y = dispatch-by (receivedOf l received) (received-fits l received y)
 
     -- ---- read
 
@@ -220,7 +220,7 @@ module _ (l : Lent) (g : Good (negotiated l) (l .state .header) (l .state .slots
       settled-kept used fault w s k v =
           reread-kept used fault _ (s .slot) (at-frames l (ch .slot) w k (ackFrames (s .slot) (s .ack))) v (takenOf (s .slot) room) (taken-live (negotiated l) (ch .slot) (s .slot) v room)
 
-      read-acted : (used : ℕ) (w : Work) (a : Acted) → At l (ch .slot) w → ActedGood (negotiated l) (changedAll (l .state) (w .changes)) (length (l .rx)) (length (l .store)) a
+      read-acted : (used : ℕ) (w : Work) (a : Acted) → At l (ch .slot) w → ActedKeeps (negotiated l) (changedAll (l .state) (w .changes)) (length (l .rx)) (length (l .store)) a
           → Kept l (readActed l ch room used w a)
       unfolding readActed
       read-acted used w a k d =
@@ -232,12 +232,12 @@ module _ (l : Lent) (g : Good (negotiated l) (l .state .header) (l .state .slots
         stored : At l (ch .slot) (then (then (begun (dropped (l .state .header)) l) [] fs) (slotTo (ch .slot) s ∷ []) [])
         stored = at-slot l (ch .slot) _ start s [] v
 
-        acted-stored : (p : Packet) → PacketGood (negotiated l) p (bodyOf received p) → ActedGood (negotiated l) (withSlot (l .state) (ch .slot) s) (length (l .rx)) (length (l .store))
+        acted-stored : (p : Packet) → PacketFits (negotiated l) p (bodyOf received p) → ActedKeeps (negotiated l) (withSlot (l .state) (ch .slot) s) (length (l .rx)) (length (l .store))
             (actOn (dropped (l .state .header)) (set (l .state .slots) (ch .slot) s) (l .state .opens) (l .rx) (l .store) p (bodyOf received p))
         acted-stored p k =
-            acted-good (dropped (l .state .header)) (withSlot (l .state) (ch .slot) s) (l .rx) (l .store) (stored .work .good) (long .rx-long) (long .store-long) p (bodyOf received p) k
+            acted-keeps (dropped (l .state .header)) (withSlot (l .state) (ch .slot) s) (l .rx) (l .store) (stored .work .facts) (long .rx-long) (long .store-long) p (bodyOf received p) k
 
-        read-by : (r : Received) → ReceivedGood (negotiated l) received r → Kept l (readBy l ch room (then (begun (dropped (l .state .header)) l) [] fs) s received r)
+        read-by : (r : Received) → ReceivedFits (negotiated l) received r → Kept l (readBy l ch room (then (begun (dropped (l .state .header)) l) [] fs) s received r)
         unfolding readBy readDirect
         read-by (Stop a used) k = at-ends l (ch .slot) _ stored a used [] k
         read-by (PacketIs p) k =
@@ -251,7 +251,7 @@ module _ (l : Lent) (g : Good (negotiated l) (l .state .header) (l .state .slots
         unfolding readTaken
         read-taken y (Data t n) u = at-ends l (ch .slot) _ (at-slot l (ch .slot) _ start t [] u) (Read n) 0 _ (read-fine n)
         read-taken y NothingTaken u =
-            pick (Kept l) (s .«has_remote») (λ t. read-by (receivedOf l received) (received-good l received y))
+            pick (Kept l) (s .«has_remote») (λ t. read-by (receivedOf l received) (received-fits l received y))
             (λ t. at-ends l (ch .slot) _ stored (Refused ChannelClosed) 0 [] closed-fine)
         read-taken y (ClosedTaken e) u = at-ends l (ch .slot) _ stored (Refused (errorRefusal e)) 0 [] (error-fine e)
 
@@ -298,7 +298,7 @@ module _ (l : Lent) (g : Good (negotiated l) (l .state .header) (l .state .slots
       write-acted used w a k No = send-again used (thenActed w a) _ k (k .live)
 
       module _ (start : At l (ch .slot) (begun (dropped (l .state .header)) l)) (s : ChannelSlot) (v : Live (negotiated l) (ch .slot) s) where
-        write-by : (r : Received) → ReceivedGood (negotiated l) received r → Kept l (writeBy l ch out bytes (begun (dropped (l .state .header)) l) s received r)
+        write-by : (r : Received) → ReceivedFits (negotiated l) received r → Kept l (writeBy l ch out bytes (begun (dropped (l .state .header)) l) s received r)
         unfolding writeBy writeAct
         write-by (Stop a used) k = at-ends l (ch .slot) _ start a used [] k
         write-by (PacketIs p) k =
@@ -312,7 +312,7 @@ module _ (l : Lent) (g : Good (negotiated l) (l .state .header) (l .state .slots
         unfolding writeFirst
         write-first y (Most most) = send-some 0 _ s (sendLen l bytes most) start v
         write-first y NoBudget =
-            pick (Kept l) (s .«has_remote») (λ t. write-by (receivedOf l received) (received-good l received y))
+            pick (Kept l) (s .«has_remote») (λ t. write-by (receivedOf l received) (received-fits l received y))
             (λ t. at-ends l (ch .slot) _ start (Refused ChannelClosed) 0 [] closed-fine)
 
         write-on : Bytes received → Kept l (writeOn l ch out bytes received (begun (dropped (l .state .header)) l) s)
@@ -324,31 +324,31 @@ module _ (l : Lent) (g : Good (negotiated l) (l .state .header) (l .state .slots
       pub write-kept : Bytes received → Kept l (writeStep l ch out bytes received)
       unfolding writeStep
       write-kept y =
-          pick (Kept l) (eqb (length bytes) 0) (λ z. ends-kept l _ (dropped-good l g) (Written 0) 0 [] (written-fine 0))
+          pick (Kept l) (eqb (length bytes) 0) (λ z. ends-kept l _ (dropped-whole l g) (Written 0) 0 [] (written-fine 0))
           (λ z. pick (Kept l) (isThere l ch) (λ t. write-on (there-at l g ch t) (slotFor l ch) (there-live l g ch t) y) (λ t. gone-kept))
 
     -- ---- open, while one waits
 
-    still-good : (c : Connection) (h : Header) (a : Answer) → Good (negotiated l) h (c .slots) (c .opens) → Good (negotiated l) (stillWaits a h) (c .slots) (c .opens)
+    still-whole : (c : Connection) (h : Header) (a : Answer) → Whole (negotiated l) h (c .slots) (c .opens) → Whole (negotiated l) (stillWaits a h) (c .slots) (c .opens)
     unfolding stillWaits
-    still-good c h Done k = drop-good (negotiated l) h c k
-    still-good c h Waiting k = k
-    still-good c h Nothing k = drop-good (negotiated l) h c k
-    still-good c h (Opened ch) k = drop-good (negotiated l) h c k
-    still-good c h (Settled a) k = drop-good (negotiated l) h c k
-    still-good c h (Read n) k = drop-good (negotiated l) h c k
-    still-good c h (Written n) k = drop-good (negotiated l) h c k
-    still-good c h (FrontIs r credit place len) k = drop-good (negotiated l) h c k
-    still-good c h (Refused r) k = drop-good (negotiated l) h c k
+    still-whole c h Done k = drop-whole (negotiated l) h c k
+    still-whole c h Waiting k = k
+    still-whole c h Nothing k = drop-whole (negotiated l) h c k
+    still-whole c h (Opened ch) k = drop-whole (negotiated l) h c k
+    still-whole c h (Settled a) k = drop-whole (negotiated l) h c k
+    still-whole c h (Read n) k = drop-whole (negotiated l) h c k
+    still-whole c h (Written n) k = drop-whole (negotiated l) h c k
+    still-whole c h (FrontIs r credit place len) k = drop-whole (negotiated l) h c k
+    still-whole c h (Refused r) k = drop-whole (negotiated l) h c k
 
-    open-acted : (used : ℕ) (a : Acted) → ActedGood (negotiated l) (l .state) (length (l .rx)) (length (l .store)) a → Kept l (openActed l used a)
+    open-acted : (used : ℕ) (a : Acted) → ActedKeeps (negotiated l) (l .state) (length (l .rx)) (length (l .store)) a → Kept l (openActed l used a)
     unfolding openActed
     open-acted used a k =
-        let m = act-good l (begun (l .state .header) l) (begun-good l (l .state .header) g) a k in
+        let m = act-whole l (begun (l .state .header) l) (begun-whole l (l .state .header) g) a k in
         ends-kept l _
         (record {
           within = m .within;
-          good = still-good (changedAll (l .state) (a .changes)) (a .header) (unlessFault (a .fault) Waiting) (m .good);
+          facts = still-whole (changedAll (l .state) (a .changes)) (a .header) (unlessFault (a .fault) Waiting) (m .facts);
           rx-length = m .rx-length;
           store-length = m .store-length;
         })
@@ -359,26 +359,26 @@ module _ (l : Lent) (g : Good (negotiated l) (l .state .header) (l .state .slots
       unfolding openReadied
       open-readied remote used (Slot t) v =
           let most = g .limits .within .most-channels in
-          ends-kept l _ (slot-good l _ (dropped-good l g) (ch .slot) t [] (omega arith) (λ e. never e) (live-good (negotiated l) (ch .slot) t v)) (Opened ch) used [] (opened-fine ch)
-      open-readied remote used Short v = ends-kept l _ (frames-good l _ (dropped-good l g) _) (Refused ShortReadyPayload) used [] short-fine
+          ends-kept l _ (slot-whole l _ (dropped-whole l g) (ch .slot) t [] (omega arith) (λ e. never e) (live-whole (negotiated l) (ch .slot) t v)) (Opened ch) used [] (opened-fine ch)
+      open-readied remote used Short v = ends-kept l _ (frames-whole l _ (dropped-whole l g) _) (Refused ShortReadyPayload) used [] short-fine
 
       cap-small : policyOf (negotiated l) .«rx_cap» ≤ 16777216
       unfolding policyOf
       cap-small = sound (negotiated l .config) (g .limits .within) .cap-small
 
-      open-by : (r : Received) → ReceivedGood (negotiated l) received r → Kept l (openBy l ch received r)
+      open-by : (r : Received) → ReceivedFits (negotiated l) received r → Kept l (openBy l ch received r)
       unfolding openBy
-      open-by (Stop a used) k = ends-kept l _ (begun-good l _ (still-good (l .state) (l .state .header) a g)) a used [] k
+      open-by (Stop a used) k = ends-kept l _ (begun-whole l _ (still-whole (l .state) (l .state .header) a g)) a used [] k
       open-by (PacketIs p) k =
           pick (Kept l) (isReady (p .command) && eqb (p .arg1) (ch .local .0))
           (λ t. open-readied (p .arg0) (frameLen p) _
           (opened-live (negotiated l) (ch .slot) (ch .local) (record { 0 = p .arg0 }) place cap-small local (k .arg0) (bodyOf received p) (k .bytes)))
           (λ t. pick (Kept l) (isWrite (p .command) && eqb (p .arg1) (ch .local .0))
-          (λ u. ends-kept l _ (frames-good l _ (dropped-good l g) _) (Refused UnexpectedCommand) (frameLen p) [] early-fine)
+          (λ u. ends-kept l _ (frames-whole l _ (dropped-whole l g) _) (Refused UnexpectedCommand) (frameLen p) [] early-fine)
           (λ u. pick (Kept l) (isClose (p .command) && eqb (p .arg1) (ch .local .0))
-          (λ w. ends-kept l _ (dropped-good l g) (Refused ChannelClosed) (frameLen p) [] closed-fine)
+          (λ w. ends-kept l _ (dropped-whole l g) (Refused ChannelClosed) (frameLen p) [] closed-fine)
           (λ w. open-acted (frameLen p) _
-          (acted-good (l .state .header) (l .state) (l .rx) (l .store) g (long .rx-long) (long .store-long) p (bodyOf received p) k))))
+          (acted-keeps (l .state .header) (l .state) (l .rx) (l .store) g (long .rx-long) (long .store-long) p (bodyOf received p) k))))
 
     -- ---- an open begins
 
@@ -386,8 +386,8 @@ module _ (l : Lent) (g : Good (negotiated l) (l .state .header) (l .state .slots
     unfolding nextLocal
     next-fits n = (omega arith, omega arith)
 
-    numbered-good : Good (negotiated l) (numbered (l .state .header)) (l .state .slots) (l .state .opens)
-    numbered-good =
+    numbered-whole : Whole (negotiated l) (numbered (l .state .header)) (l .state .slots) (l .state .opens)
+    numbered-whole =
         let k = next-fits (l .state .header .«next_local») in
         record {
           limits = g .limits;
@@ -411,9 +411,9 @@ module _ (l : Lent) (g : Good (negotiated l) (l .state .header) (l .state .slots
       pub empty : slotIn (l .state .slots) (ch .slot) .filled ≡ false
       pub local : ch .local .0 < 2 ^ 32
 
-    abbrev AllocatedGood : Allocated → Type 0
-    AllocatedGood (Channel ch) = Free ch
-    AllocatedGood NoFree = Unit {0}
+    abbrev AllocatedFree : Allocated → Type 0
+    AllocatedFree (Channel ch) = Free ch
+    AllocatedFree NoFree = Unit {0}
 
     not-filled : (s : ChannelSlot) → wantedBy Empty s ≡ true → s .filled ≡ false
     unfolding wantedBy
@@ -423,21 +423,21 @@ module _ (l : Lent) (g : Good (negotiated l) (l .state .header) (l .state .slots
         not-true true f = never f
         not-true false f = refl
 
-    allocated-good : AllocatedGood (allocated (l .state .header) (l .state .slots))
+    allocated-free : AllocatedFree (allocated (l .state .header) (l .state .slots))
     unfolding allocated
-    allocated-good =
+    allocated-free =
         let n = negotiated l .config .channels in
         let i = placeOf Empty n (l .state .slots) in
         let most = g .limits .within .most-channels in
         let full = g .slots .full in
-        pick AllocatedGood (ltb i n)
+        pick AllocatedFree (ltb i n)
         (λ t. let h = ltb-true i n t in
         record { place = h; empty = not-filled _ (place-found Empty n (l .state .slots) (omega arith) h); local = g .header .next-fits })
         (λ t. tt)
 
-    waits-good : (ch : ChannelId) → Free ch → Good (negotiated l) (waitingFor (numbered (l .state .header)) ch) (l .state .slots) (l .state .opens)
+    waits-whole : (ch : ChannelId) → Free ch → Whole (negotiated l) (waitingFor (numbered (l .state .header)) ch) (l .state .slots) (l .state .opens)
     unfolding slotIn
-    waits-good ch f =
+    waits-whole ch f =
         let k = next-fits (l .state .header .«next_local») in
         let most = g .limits .within .most-channels in
         let p = f .place in
@@ -457,18 +457,18 @@ module _ (l : Lent) (g : Good (negotiated l) (l .state .header) (l .state .slots
           opens = g .opens;
         }
 
-    open-on : (out : ℕ) (destination : List ℕ) (r : Allocated) → AllocatedGood r → Kept l (openOn l out destination r)
+    open-on : (out : ℕ) (destination : List ℕ) (r : Allocated) → AllocatedFree r → Kept l (openOn l out destination r)
     unfolding openOn
-    open-on out destination NoFree k = ends-kept l _ (begun-good l (l .state .header) g) (Refused NoFreeChannels) 0 [] free-fine
+    open-on out destination NoFree k = ends-kept l _ (begun-whole l (l .state .header) g) (Refused NoFreeChannels) 0 [] free-fine
     open-on out destination (Channel ch) k =
-        pick (Kept l) (ltb maxPayload (length destination)) (λ t. ends-kept l _ (begun-good l _ numbered-good) (Refused PayloadTooLarge) 0 [] large-fine)
+        pick (Kept l) (ltb maxPayload (length destination)) (λ t. ends-kept l _ (begun-whole l _ numbered-whole) (Refused PayloadTooLarge) 0 [] large-fine)
         (λ t. pick (Kept l) (ltb out (24 + length destination)) (λ u. untouched-kept l g OutShort out-fine)
-        (λ u. ends-kept l _ (frames-good l _ (begun-good l _ (waits-good ch k)) _) Waiting 0 [] waiting-fine))
+        (λ u. ends-kept l _ (frames-whole l _ (begun-whole l _ (waits-whole ch k)) _) Waiting 0 [] waiting-fine))
 
     pub open-kept : (out : ℕ) (destination : List ℕ) → Bytes received → Kept l (openStep l out destination received)
     unfolding openStep
     open-kept out destination y =
         pick (Kept l) (l .state .header .waiting .on)
         (λ t. open-by (record { slot = l .state .header .waiting .slot; local = l .state .header .waiting .local }) (g .waits t .place) (g .header .local-fits)
-        (receivedOf l received) (received-good l received y))
-        (λ t. open-on out destination (allocated (l .state .header) (l .state .slots)) allocated-good)
+        (receivedOf l received) (received-fits l received y))
+        (λ t. open-on out destination (allocated (l .state .header) (l .state .slots)) allocated-free)

@@ -19,33 +19,28 @@ use Rattle.state.specs.declared.PendingOpen.{PendingOpen}
 use Rattle.state.specs.Change.{Change, openTo, opensTo, changedAll, Within, Step}
 use Rattle.state.specs.State.{Connection}
 use Rattle.state.specs.Valid.{opensFine}
-use Rattle.state.proofs.RowLaws.{Every, every-set, every-append, every-drop}
+use Rattle.state.proofs.RowLaws.{Every, every-set, every-append, every-drop, every-take}
 use Rattle.state.proofs.StateLaws.{OpenFits}
 use Rattle.incoming.specs.declared.Front.{Front}
 use Rattle.incoming.specs.declared.Front.the-variants.{Open, Nothing}
 use Rattle.incoming.specs.declared.Keep.{Keep}
 use Rattle.incoming.specs.declared.Keep.the-variants.{Without}
 use Rattle.incoming.specs.declared.Pushed.{Pushed}
 use Rattle.incoming.specs.declared.Pushed.the-variants.{Queued, Full}
 use Rattle.incoming.specs.Incoming.{freeShare, kept, withQueued, noOpen, withdrawal, popped, nextShare, PushOutcome, pushed}
 use Rattle.incoming.proofs.ShareLaws.{next-below, share-fits}
 use Rattle.incoming.proofs.WaitLaws.{front-is, push-fine, kept-fine, rest-fine, kept-every, length-kept}
-use Rattle.history.proofs.WholeLaws.{Good, OpensGood}
-
-every-take : {A : Type 0} (P : A → Type 0) (k : ℕ) (x : List A) → Every P x → Every P (take k x)
-every-take P zero x e = tt
-every-take P (suc k) [] e = tt
-every-take P (suc k) (a ∷ x) e = (e .0, every-take P k x (e .1))
+use Rattle.state.proofs.WholeLaws.{Whole, OpensWhole}
 
 -- changes to the waiting opens os alone, after which the header is `more`
-pub record QueueGood (n : Negotiated) (ss : List ChannelSlot) (os : List PendingOpen) (more : Header) (xs : List Change) : Type 0 where
+pub record QueueKeeps (n : Negotiated) (ss : List ChannelSlot) (os : List PendingOpen) (more : Header) (xs : List Change) : Type 0 where
   pub within : Every Within xs
   pub slots : (d : Connection) → changedAll d xs .slots ≡ d .slots
-  pub good : (d : Connection) → d .opens ≡ os → Good n more ss (changedAll d xs .opens)
+  pub facts : (d : Connection) → d .opens ≡ os → Whole n more ss (changedAll d xs .opens)
 
-module _ (h : Header) (ss : List ChannelSlot) (os : List PendingOpen) (g : Good (h .negotiated) h ss os) where
-  good-queue : (q : ℕ) (qs : List PendingOpen) → q ≤ h .negotiated .config .channels → OpensGood (h .negotiated) q qs → Good (h .negotiated) (withQueued h q) ss qs
-  good-queue q qs k o =
+module _ (h : Header) (ss : List ChannelSlot) (os : List PendingOpen) (g : Whole (h .negotiated) h ss os) where
+  whole-queue : (q : ℕ) (qs : List PendingOpen) → q ≤ h .negotiated .config .channels → OpensWhole (h .negotiated) q qs → Whole (h .negotiated) (withQueued h q) ss qs
+  whole-queue q qs k o =
       record {
         limits = g .limits;
         header =
@@ -65,22 +60,22 @@ module _ (h : Header) (ss : List ChannelSlot) (os : List PendingOpen) (g : Good 
   -- ---- a push
 
   abbrev pub PushedAs : ℕ → PushOutcome → Pushed → Type 0
-  PushedAs store o (Queued more) = QueueGood (h .negotiated) ss os more (o .changes) × (length (o .store) ≡ store)
+  PushedAs store o (Queued more) = QueueKeeps (h .negotiated) ss os more (o .changes) × (length (o .store) ≡ store)
   PushedAs store o Full = Unit {0}
 
-  abbrev pub PushGood : ℕ → PushOutcome → Type 0
-  PushGood store o = PushedAs store o (o .result)
+  abbrev pub PushKeeps : ℕ → PushOutcome → Type 0
+  PushKeeps store o = PushedAs store o (o .result)
 
-  pub push-good : (remote : RemoteId) (credit : ℕ) (destination store : List ℕ) → remote .0 < 2 ^ 32 → credit < 2 ^ 32
+  pub push-keeps : (remote : RemoteId) (credit : ℕ) (destination store : List ℕ) → remote .0 < 2 ^ 32 → credit < 2 ^ 32
       → length destination ≤ h .negotiated .config .«max_payload» → h .negotiated .config .channels * h .negotiated .config .«max_payload» ≤ length store
-      → PushGood (length store) (pushed h os remote credit destination store)
+      → PushKeeps (length store) (pushed h os remote credit destination store)
   unfolding pushed nextShare
-  push-good remote credit destination store r k d long =
+  push-keeps remote credit destination store r k d long =
       let n = h .negotiated .config .channels in
       let payload = h .negotiated .config .«max_payload» in
       let w = g .limits .within in
       let full = g .opens .full in
-      pick (PushGood (length store)) (leb n (h .queued)) (λ t. tt)
+      pick (PushKeeps (length store)) (leb n (h .queued)) (λ t. tt)
       (λ t. let room = leb-false n (h .queued) t in
       let share = next-below n (h .queued) os room in
       let fits = share-fits n payload (h .queued) (freeShare n (take (h .queued) os)) os room refl in
@@ -88,9 +83,9 @@ module _ (h : Header) (ss : List ChannelSlot) (os : List PendingOpen) (g : Good 
       (record {
         within = (omega arith, tt);
         slots = λ c. refl;
-        good = λ c e.
-        good-queue (h .queued + 1) (set (c .opens) (h .queued) q) (omega arith)
-        (subst (λ (x : List PendingOpen). OpensGood (h .negotiated) (h .queued + 1) (set x (h .queued) q)) (sym e)
+        facts = λ c e.
+        whole-queue (h .queued + 1) (set (c .opens) (h .queued) q) (omega arith)
+        (subst (λ (x : List PendingOpen). OpensWhole (h .negotiated) (h .queued + 1) (set x (h .queued) q)) (sym e)
         (record {
           full = length-set os (h .queued) q ∙ full;
           fits = every-set OpenFits os (h .queued) q (g .opens .fits) (record { remote = r; credit = k; share = omega arith; length = omega arith });
@@ -101,17 +96,17 @@ module _ (h : Header) (ss : List ChannelSlot) (os : List PendingOpen) (g : Good 
 
   -- ---- the first ones are replaced by no more than waited
 
-  opens-good : (ks : List PendingOpen) (q : ℕ) → length ks ≡ q → q ≤ h .negotiated .config .channels → Every OpenFits ks
-      → opensFine (h .negotiated .config .channels) (h .negotiated .config .«max_payload») ks ≡ true → QueueGood (h .negotiated) ss os (withQueued h q) (opensTo ks ∷ [])
-  opens-good ks q e k f o =
+  opens-keeps : (ks : List PendingOpen) (q : ℕ) → length ks ≡ q → q ≤ h .negotiated .config .channels → Every OpenFits ks
+      → opensFine (h .negotiated .config .channels) (h .negotiated .config .«max_payload») ks ≡ true → QueueKeeps (h .negotiated) ss os (withQueued h q) (opensTo ks ∷ [])
+  opens-keeps ks q e k f o =
       let most = g .limits .within .most-channels in
       let full = g .opens .full in
       record {
         within = (omega arith, tt);
         slots = λ c. refl;
-        good = λ c z.
-        good-queue q (ks ++ drop (length ks) (c .opens)) k
-        (subst (λ (x : List PendingOpen). OpensGood (h .negotiated) q (ks ++ drop (length ks) x)) (sym z)
+        facts = λ c z.
+        whole-queue q (ks ++ drop (length ks) (c .opens)) k
+        (subst (λ (x : List PendingOpen). OpensWhole (h .negotiated) q (ks ++ drop (length ks) x)) (sym z)
         (record {
           full = simp (length-append, length-drop) (omega arith);
           fits = every-append OpenFits ks (drop (length ks) os) f (every-drop OpenFits (length ks) os (g .opens .fits));
@@ -120,38 +115,38 @@ module _ (h : Header) (ss : List ChannelSlot) (os : List PendingOpen) (g : Good 
       }
 
   -- a withdrawal
-  pub withdraw-good : (gone : RemoteId) → QueueGood (h .negotiated) ss os (withdrawal h os gone .result) (withdrawal h os gone .changes)
+  pub withdraw-keeps : (gone : RemoteId) → QueueKeeps (h .negotiated) ss os (withdrawal h os gone .result) (withdrawal h os gone .changes)
   unfolding withdrawal
-  withdraw-good gone =
+  withdraw-keeps gone =
       let n = h .negotiated .config .channels in
       let payload = h .negotiated .config .«max_payload» in
       let qs = take (h .queued) os in
       let k = length-kept (Without gone) qs in
       let m : length qs ≤ h .queued = simp length-take (omega arith) in
       let w = g .header .queue-fits in
-      opens-good (kept (Without gone) qs) (length (kept (Without gone) qs)) refl (omega arith)
+      opens-keeps (kept (Without gone) qs) (length (kept (Without gone) qs)) refl (omega arith)
       (kept-every OpenFits (Without gone) qs (every-take OpenFits (h .queued) os (g .opens .fits)))
       (kept-fine n payload (Without gone) qs (g .opens .fine))
 
   -- a pop
   abbrev pub FrontAs : List Change → Front → Type 0
-  FrontAs xs (Open q less) = QueueGood (h .negotiated) ss os less xs
+  FrontAs xs (Open q less) = QueueKeeps (h .negotiated) ss os less xs
   FrontAs xs Nothing = Unit {0}
 
-  abbrev pub FrontGood : Step Front → Type 0
-  FrontGood s = FrontAs (s .changes) (s .result)
+  abbrev pub FrontKeeps : Step Front → Type 0
+  FrontKeeps s = FrontAs (s .changes) (s .result)
 
-  pub pop-good : FrontGood (popped h os)
+  pub pop-keeps : FrontKeeps (popped h os)
   unfolding popped
-  pop-good =
+  pop-keeps =
       let n = h .negotiated .config .channels in
       let payload = h .negotiated .config .«max_payload» in
       let qs = take (h .queued) os in
       let w = g .header .queue-fits in
       let most = g .limits .within .most-channels in
       let full = g .opens .full in
-      pick FrontGood (eqb (h .queued) 0) (λ t. tt)
+      pick FrontKeeps (eqb (h .queued) 0) (λ t. tt)
       (λ t. let e : length (drop 1 qs) ≡ h .queued - 1 = simp (length-drop, length-take) (omega arith) in
-      opens-good (drop 1 qs) (h .queued - 1) e (omega arith)
+      opens-keeps (drop 1 qs) (h .queued - 1) e (omega arith)
       (every-drop OpenFits 1 qs (every-take OpenFits (h .queued) os (g .opens .fits)))
       (rest-fine n payload 1 qs (g .opens .fine)))

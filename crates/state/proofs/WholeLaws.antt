@@ -8,7 +8,7 @@ use native.Mathlib.Nat.{zero-add, suc-add}
 use native.Mathlib.Omega.{arith}
 use lib.Dec.{ltb, leb, eqb}
 use lib.Signed.{mag}
-use lib.ListN.{length, take, getD, set, length-set}
+use lib.ListN.{length, take, getD, set, length-set, length-append}
 use lib.Seq.{getD-set-same, getD-set-other}
 use borrow.Author.Tests.{eqb-true, eqb-false, ne-eqb, lt-ltb, le-leb}
 use Rattle.le.proofs.Parts.{by-test}
@@ -20,17 +20,18 @@ use Rattle.slot.specs.declared.ChannelSlot.{ChannelSlot}
 use Rattle.slot.specs.Slot.{emptySlot, isOpening, isFailed, slotOk, SlotOk}
 use Rattle.slot.proofs.Kept.{sound-holds}
 use Rattle.slot.proofs.Laws.{cond-true, cond-false}
 use Rattle.state.specs.declared.Header.{Header}
 use Rattle.state.specs.declared.PendingOpen.{PendingOpen}
-use Rattle.state.specs.State.{Connection}
+use Rattle.state.specs.State.{Connection, slotBytes, openBytes, layout}
 use Rattle.state.specs.Valid.{filledOk, slotFine, slotsFine, opensFine, waitingFine, headerFine, filledAt, whole}
-use Rattle.state.proofs.RowLaws.{Every, never}
+use Rattle.state.proofs.Fields.{length-slot, length-open, length-header}
+use Rattle.state.proofs.RowLaws.{Every, never, length-flat}
 use Rattle.state.proofs.StateLaws.{Full, Fits, SlotFits, HeaderFits, OpenFits}
 
 -- ---- the facts
 
 -- limits kept, negotiated values within theirs
-pub record Limits (n : Negotiated) : Type 0 where
+pub record Bounds (n : Negotiated) : Type 0 where
   pub within : Within (n .config)
   pub payload : n .«max_payload» ≤ 1_048_576
   pub version : n .«protocol_version» ≤ 0x0100_0001
@@ -46,26 +47,26 @@ pub record Live (n : Negotiated) (i : ℕ) (s : ChannelSlot) : Type 0 where
   pub fits : SlotFits s
 
 -- any slot at place i
-pub record SlotGood (n : Negotiated) (i : ℕ) (s : ChannelSlot) : Type 0 where
+pub record SlotWhole (n : Negotiated) (i : ℕ) (s : ChannelSlot) : Type 0 where
   pub fits : SlotFits s
   pub live : s .filled ≡ true → Live n i s
 
-pub record SlotsGood (n : Negotiated) (ss : List ChannelSlot) : Type 0 where
+pub record SlotsWhole (n : Negotiated) (ss : List ChannelSlot) : Type 0 where
   pub full : length ss ≡ 64
-  pub each : (i : ℕ) → SlotGood n i (getD ss i emptySlot)
+  pub each : (i : ℕ) → SlotWhole n i (getD ss i emptySlot)
 
 -- the place of an open that waits for its OKAY
-pub record PlaceGood (n : Negotiated) (i : ℕ) (ss : List ChannelSlot) : Type 0 where
+pub record PlaceWhole (n : Negotiated) (i : ℕ) (ss : List ChannelSlot) : Type 0 where
   pub place : i < n .config .channels
   pub empty : getD ss i emptySlot .filled ≡ false
 
 -- the first q of the waiting opens are within their shares
-pub record OpensGood (n : Negotiated) (q : ℕ) (os : List PendingOpen) : Type 0 where
+pub record OpensWhole (n : Negotiated) (q : ℕ) (os : List PendingOpen) : Type 0 where
   pub full : length os ≡ 64
   pub fits : Every OpenFits os
   pub fine : opensFine (n .config .channels) (n .config .«max_payload») (take q os) ≡ true
 
-pub record HeaderGood (n : Negotiated) (h : Header) : Type 0 where
+pub record HeaderWhole (n : Negotiated) (h : Header) : Type 0 where
   pub negotiated : h .negotiated ≡ n
   pub next-some : 1 ≤ h .«next_local»
   pub next-fits : h .«next_local» < 2 ^ 32
@@ -73,21 +74,21 @@ pub record HeaderGood (n : Negotiated) (h : Header) : Type 0 where
   pub local-fits : h .waiting .local .0 < 2 ^ 32
   pub queue-fits : h .queued ≤ n .config .channels
 
-pub record Good (n : Negotiated) (h : Header) (ss : List ChannelSlot) (os : List PendingOpen) : Type 0 where
-  pub limits : Limits n
-  pub header : HeaderGood n h
-  pub slots : SlotsGood n ss
-  pub waits : h .waiting .on ≡ true → PlaceGood n (h .waiting .slot) ss
-  pub opens : OpensGood n (h .queued) os
+pub record Whole (n : Negotiated) (h : Header) (ss : List ChannelSlot) (os : List PendingOpen) : Type 0 where
+  pub limits : Bounds n
+  pub header : HeaderWhole n h
+  pub slots : SlotsWhole n ss
+  pub waits : h .waiting .on ≡ true → PlaceWhole n (h .waiting .slot) ss
+  pub opens : OpensWhole n (h .queued) os
 
 -- ---- slots
 
-pub live-good : (n : Negotiated) (i : ℕ) (s : ChannelSlot) → Live n i s → SlotGood n i s
-live-good n i s v = record { fits = v .fits; live = λ e. v }
+pub live-whole : (n : Negotiated) (i : ℕ) (s : ChannelSlot) → Live n i s → SlotWhole n i s
+live-whole n i s v = record { fits = v .fits; live = λ e. v }
 
-pub empty-good : (n : Negotiated) (i : ℕ) → SlotGood n i emptySlot
+pub empty-whole : (n : Negotiated) (i : ℕ) → SlotWhole n i emptySlot
 unfolding emptySlot
-empty-good n i =
+empty-whole n i =
     record {
       fits =
           record {
@@ -103,26 +104,26 @@ empty-good n i =
     }
 
 -- one slot is put
-pub put-good : (n : Negotiated) (ss : List ChannelSlot) (i : ℕ) (t : ChannelSlot) → SlotsGood n ss → i < 64 → SlotGood n i t → SlotsGood n (set ss i t)
-put-good n ss i t g h s =
+pub put-whole : (n : Negotiated) (ss : List ChannelSlot) (i : ℕ) (t : ChannelSlot) → SlotsWhole n ss → i < 64 → SlotWhole n i t → SlotsWhole n (set ss i t)
+put-whole n ss i t g h s =
     let f = g .full in
     record {
       full = length-set ss i t ∙ f;
       each = λ j. by-test (eqb j i)
       (λ e. let k = eqb-true j i e in
-      subst (λ (x : ℕ). SlotGood n x (getD (set ss i t) x emptySlot)) (sym k)
-      (subst (SlotGood n i) (sym (getD-set-same ss i t emptySlot (omega arith))) s))
-      (λ e. subst (SlotGood n j) (sym (getD-set-other ss i j t emptySlot (eqb-false j i e))) (g .each j));
+      subst (λ (x : ℕ). SlotWhole n x (getD (set ss i t) x emptySlot)) (sym k)
+      (subst (SlotWhole n i) (sym (getD-set-same ss i t emptySlot (omega arith))) s))
+      (λ e. subst (SlotWhole n j) (sym (getD-set-other ss i j t emptySlot (eqb-false j i e))) (g .each j));
     }
 
-module _ (n : Negotiated) (h : Header) (ss : List ChannelSlot) (os : List PendingOpen) (g : Good n h ss os) where
+module _ (n : Negotiated) (h : Header) (ss : List ChannelSlot) (os : List PendingOpen) (g : Whole n h ss os) where
   -- a slot is put, but not where an open waits
-  pub good-put : (i : ℕ) (t : ChannelSlot) → (h .waiting .on ≡ true → h .waiting .slot ≡ i → ⊥) → i < 64 → SlotGood n i t → Good n h (set ss i t) os
-  good-put i t w k s =
+  pub whole-put : (i : ℕ) (t : ChannelSlot) → (h .waiting .on ≡ true → h .waiting .slot ≡ i → ⊥) → i < 64 → SlotWhole n i t → Whole n h (set ss i t) os
+  whole-put i t w k s =
       record {
         limits = g .limits;
         header = g .header;
-        slots = put-good n ss i t (g .slots) k s;
+        slots = put-whole n ss i t (g .slots) k s;
         waits = λ e.
         record {
           place = g .waits e .place;
@@ -132,14 +133,25 @@ module _ (n : Negotiated) (h : Header) (ss : List ChannelSlot) (os : List Pendin
       }
 
   -- where there was a channel
-  pub good-live : (i : ℕ) (t : ChannelSlot) → Live n i (getD ss i emptySlot) → Live n i t → Good n h (set ss i t) os
-  good-live i t v u =
+  pub whole-live : (i : ℕ) (t : ChannelSlot) → Live n i (getD ss i emptySlot) → Live n i t → Whole n h (set ss i t) os
+  whole-live i t v u =
       let k = g .limits .within .most-channels in
       let p = v .place in
-      good-put i t (λ e z. never (sym (g .waits e .empty) ∙ ap (λ (x : ℕ). getD ss x emptySlot .filled) z ∙ v .filled)) (omega arith) (live-good n i t u)
+      whole-put i t (λ e z. never (sym (g .waits e .empty) ∙ ap (λ (x : ℕ). getD ss x emptySlot .filled) z ∙ v .filled)) (omega arith) (live-whole n i t u)
 
-  pub good-own : Good (h .negotiated) h ss os
-  good-own = subst (λ (m : Negotiated). Good m h ss os) (sym (g .header .negotiated)) g
+  pub whole-own : Whole (h .negotiated) h ss os
+  whole-own = subst (λ (m : Negotiated). Whole m h ss os) (sym (g .header .negotiated)) g
+
+-- a state's bytes
+pub length-layout : (c : Connection) → Full c → length (layout c) ≡ 4730
+unfolding layout
+length-layout c f =
+    let h = length-header (c .header) in
+    let s = length-flat 49 slotBytes length-slot (c .slots) in
+    let o = length-flat 24 openBytes length-open (c .opens) in
+    let a = f .slots in
+    let b = f .opens in
+    simp length-append (omega arith)
 
 -- ---- the facts make a state whole
 
@@ -153,7 +165,7 @@ live-ok n i s v =
     (and-both _ _ (and-both _ _ (ap not (v .opening)) (ap not (v .failed))) (v .remote))
     (sound-holds s (capOf (n .config)) (v .ok))
 
-slot-fine : (n : Negotiated) (i : ℕ) (s : ChannelSlot) → SlotGood n i s → slotFine (n .config .channels) (capOf (n .config)) i s ≡ true
+slot-fine : (n : Negotiated) (i : ℕ) (s : ChannelSlot) → SlotWhole n i s → slotFine (n .config .channels) (capOf (n .config)) i s ≡ true
 unfolding slotFine
 slot-fine n i s g =
     by-test (s .filled)
@@ -161,13 +173,13 @@ slot-fine n i s g =
     ∙ and-both _ _ (lt-ltb i (n .config .channels) (g .live t .place)) (live-ok n i s (g .live t)))
     (λ t. cond-false (s .filled) _ true t)
 
-slots-fine : (n : Negotiated) (ss : List ChannelSlot) (i : ℕ) → ((j : ℕ) → SlotGood n (i + j) (getD ss j emptySlot)) → slotsFine (n .config .channels) (capOf (n .config)) i ss ≡ true
+slots-fine : (n : Negotiated) (ss : List ChannelSlot) (i : ℕ) → ((j : ℕ) → SlotWhole n (i + j) (getD ss j emptySlot)) → slotsFine (n .config .channels) (capOf (n .config)) i ss ≡ true
 unfolding slotsFine
 slots-fine n [] i g = refl
 slots-fine n (s ∷ ss) i g =
     let e : i + 0 ≡ i = omega arith in
-    and-both _ _ (slot-fine n i s (subst (λ (x : ℕ). SlotGood n x s) e (g 0)))
-    (slots-fine n ss (suc i) (λ j. let f : i + suc j ≡ suc i + j = omega arith in subst (λ (x : ℕ). SlotGood n x (getD ss j emptySlot)) f (g (suc j))))
+    and-both _ _ (slot-fine n i s (subst (λ (x : ℕ). SlotWhole n x s) e (g 0)))
+    (slots-fine n ss (suc i) (λ j. let f : i + suc j ≡ suc i + j = omega arith in subst (λ (x : ℕ). SlotWhole n x (getD ss j emptySlot)) f (g (suc j))))
 
 filled-in : (ss : List ChannelSlot) (i : ℕ) → filledAt ss i ≡ getD ss i emptySlot .filled
 unfolding filledAt emptySlot
@@ -175,7 +187,7 @@ filled-in [] i = refl
 filled-in (s ∷ ss) zero = refl
 filled-in (s ∷ ss) (suc i) = filled-in ss i
 
-module _ (h : Header) (ss : List ChannelSlot) (os : List PendingOpen) (g : Good (h .negotiated) h ss os) where
+module _ (h : Header) (ss : List ChannelSlot) (os : List PendingOpen) (g : Whole (h .negotiated) h ss os) where
   header-fine : headerFine h ≡ true
   unfolding headerFine
   header-fine =
@@ -199,22 +211,22 @@ every-at : {A : Type 0} (P : A → Type 0) (d : A) (l : List A) → ((i : ℕ) �
 every-at P d [] f = tt
 every-at P d (a ∷ l) f = (f 0, every-at P d l (λ i. f (suc i)))
 
-module _ (n : Negotiated) (c : Connection) (g : Good n (c .header) (c .slots) (c .opens)) where
-  own : Good (c .header .negotiated) (c .header) (c .slots) (c .opens)
-  own = good-own n (c .header) (c .slots) (c .opens) g
+module _ (n : Negotiated) (c : Connection) (g : Whole n (c .header) (c .slots) (c .opens)) where
+  own : Whole (c .header .negotiated) (c .header) (c .slots) (c .opens)
+  own = whole-own n (c .header) (c .slots) (c .opens) g
 
-  pub good-whole : whole c ≡ true
+  pub whole-true : whole c ≡ true
   unfolding whole
-  good-whole =
+  whole-true =
       and-both _ _
       (and-both _ _
       (and-both _ _ (header-fine (c .header) (c .slots) (c .opens) own)
-      (slots-fine (c .header .negotiated) (c .slots) 0 (λ j. subst (λ (x : ℕ). SlotGood (c .header .negotiated) x (getD (c .slots) j emptySlot)) (sym (zero-add j)) (own .slots .each j))))
+      (slots-fine (c .header .negotiated) (c .slots) 0 (λ j. subst (λ (x : ℕ). SlotWhole (c .header .negotiated) x (getD (c .slots) j emptySlot)) (sym (zero-add j)) (own .slots .each j))))
       (waiting-fine (c .header) (c .slots) (c .opens) own))
       (own .opens .fine)
 
-  pub good-full : Full c
-  good-full = record { slots = g .slots .full; opens = g .opens .full }
+  pub whole-full : Full c
+  whole-full = record { slots = g .slots .full; opens = g .opens .full }
 
   header-fits : HeaderFits (c .header)
   header-fits =
@@ -236,11 +248,11 @@ module _ (n : Negotiated) (c : Connection) (g : Good n (c .header) (c .slots) (c
         local = h .local-fits;
       }
 
-  pub good-fits : Fits c
-  good-fits =
+  pub whole-fits : Fits c
+  whole-fits =
       record {
         header = header-fits;
-        full = good-full;
+        full = whole-full;
         slots = every-at SlotFits emptySlot (c .slots) (λ i. g .slots .each i .fits);
         opens = g .opens .fits;
       }
