@@ -1,9 +1,8 @@
 -- What a packet does that a call does not take for itself leaves a whole state. Assumes nothing.
 use mathlib.Core.Path.{_≡_, refl, sym, ap, subst, _∙_}
-use mathlib.Core.Bool.{Bool, true, false, cond}
-use mathlib.Core.List.{List, [], _∷_, _++_}
+use mathlib.Core.Bool.{true}
+use mathlib.Core.List.{List, [], _++_}
 use Prim.Native.Nat.{ℕ, _+_, _*_, _^_, _≤_, _<_}
-use native.Mathlib.Omega.{arith}
 use lib.ListN.{length}
 use Rattle.le.specs.Le.{Bytes}
 use Rattle.config.specs.declared.negotiated.Negotiated.{Negotiated}
@@ -22,7 +21,7 @@ use Rattle.state.proofs.RowLaws.{Every, every-append}
 use Rattle.state.proofs.ChangeLaws.{changes-append}
 use Rattle.table.specs.declared.DispatchOutcome.{DispatchOutcome}
 use Rattle.table.specs.declared.DispatchOutcome.the-variants.{AckWrite, CreditGranted, SlotClosed, DataBuffered, IncomingOpen, CancelPendingOpen, StrayReady, ChannelFault, Unmatched}
-use Rattle.table.specs.Dispatch.{slotIn, Dispatched, dispatchOf}
+use Rattle.table.specs.Dispatch.{slotIn, Dispatched}
 use Rattle.connection.specs.Act.{Acted, tabled, pushedBy, actedBy, tableOf, actOn}
 use Rattle.connection.specs.Frames.{Frame}
 use Rattle.state.proofs.WholeLaws.{Whole}

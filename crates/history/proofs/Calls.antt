@@ -1,20 +1,17 @@
 -- Every call leaves a whole state and does not answer refusal 13. Assumes nothing.
-use mathlib.Core.Path.{_≡_, refl, sym, ap, subst, _∙_}
-use mathlib.Core.Bool.{Bool, true, false, not, cond, _&&_}
-use mathlib.Core.List.{List, [], _∷_, _++_}
-use Prim.Native.Nat.{ℕ, _+_, _*_, _%_, _^_, _≤_, _<_, max}
+use mathlib.Core.Path.{_≡_, refl, sym, subst}
+use mathlib.Core.Bool.{Bool, true, false, not, _&&_}
+use mathlib.Core.List.{List, [], _∷_}
+use Prim.Native.Nat.{ℕ, _+_, _^_, _≤_, _<_}
 use native.Mathlib.Omega.{arith}
-use lib.Dec.{ltb, leb, eqb}
-use lib.ListN.{length, getD, set, take}
+use lib.Dec.{ltb, eqb}
+use lib.ListN.{length, set}
 use borrow.Author.Tests.{ltb-true}
 use Rattle.le.specs.Le.{Bytes}
-use Rattle.config.specs.declared.negotiated.Negotiated.{Negotiated}
-use Rattle.config.specs.Config.{capOf, storesFit}
-use Rattle.config.specs.Negotiated.{policyOf, creditOf}
+use Rattle.config.specs.Negotiated.{policyOf}
 use Rattle.config.proofs.Laws.{and-true, sound}
 use Rattle.incoming.specs.declared.Front.{Front}
 use Rattle.incoming.specs.declared.Front.the-variants.{Open as FrontOpen, Nothing as NoFront}
-use Rattle.incoming.specs.Incoming.{popped}
 use Rattle.protocol.specs.declared.packet.Packet.{Packet}
 use Rattle.protocol.specs.Packet.{maxPayload}
 use Rattle.slot.specs.declared.Budget.{Budget}
@@ -28,10 +25,9 @@ use Rattle.slot.specs.declared.Readied.the-variants.{Slot, Short}
 use Rattle.slot.specs.declared.Settled.{Settled as SettledSlot}
 use Rattle.slot.specs.declared.Taken.{Taken}
 use Rattle.slot.specs.declared.Taken.the-variants.{Data, Nothing as NothingTaken, Closed as ClosedTaken}
-use Rattle.slot.specs.declared.ids.LocalId.{LocalId}
 use Rattle.slot.specs.declared.ids.RemoteId.{RemoteId}
 use Rattle.slot.specs.Ids.{isClose, closedBy}
-use Rattle.slot.specs.Slot.{emptySlot, openingSlot, isClosed, openedOf, readyOf, deliveredOf, settledOf, takenOf, budgetOf, spentOf, closedSlot}
+use Rattle.slot.specs.Slot.{emptySlot, isClosed, readyOf, takenOf, budgetOf, closedSlot}
 use Rattle.slot.proofs.Kept.{pick}
 use Rattle.state.specs.declared.Header.{Header}
 use Rattle.state.specs.Change.{Change, slotTo, changedAll}
@@ -50,7 +46,7 @@ use Rattle.connection.specs.declared.Received.the-variants.{Packet as PacketIs,
 use Rattle.connection.specs.declared.Refusal.the-variants.{PayloadTooLarge, ShortReadyPayload, UnexpectedCommand, OutShort, ChannelClosed, NoFreeChannels}
 use Rattle.connection.specs.Answer.{refusalNumber, numberOf}
 use Rattle.connection.specs.Act.{Acted, actOn}
-use Rattle.connection.specs.Calls.{Lent, Outcome, untouched, Work, begun, then, thenActed, withHeader, ends, dropped, waitingFor, policy, idsIn, isThere, slotFor, ackFrames, faultRefusal, errorRefusal, unlessFault, receivedOf, bodyOf, frameLen, isWrite, isReady, dispatchBy, dispatchStep, settledAs, settleStep, frontOf, takenBy, takeStep, reread, readSettled, readActed, isDirect, readDirect, readBy, readTaken, readFirst, readStep, sendLen, sendSome, sendBy, sendAgain, writeReadied, writeActed, writeAct, writeBy, writeFirst, writeOn, writeStep, closeStep, frontBy, frontStep, openOn, stillWaits, openReadied, openActed, openBy, openStep, openOf, dispatchOf, settleOf, takeOf, readOf, writeOf, closeOf, frontCall}
+use Rattle.connection.specs.Calls.{Lent, Work, begun, then, thenActed, ends, dropped, waitingFor, policy, idsIn, isThere, slotFor, ackFrames, faultRefusal, errorRefusal, unlessFault, receivedOf, bodyOf, frameLen, isWrite, isReady, dispatchBy, dispatchStep, settledAs, settleStep, takenBy, takeStep, reread, readSettled, readActed, isDirect, readDirect, readBy, readTaken, readFirst, readStep, sendLen, sendSome, sendBy, sendAgain, writeReadied, writeActed, writeAct, writeBy, writeFirst, writeOn, writeStep, closeStep, frontBy, frontStep, openOn, stillWaits, openReadied, openActed, openBy, openStep}
 use Rattle.connection.specs.Frames.{Frame, framesBytes}
 use Rattle.state.proofs.WholeLaws.{Live, Whole, live-whole, empty-whole}
 use Rattle.state.proofs.LiveLaws.{ReadiedLive, ready-live, opened-live, TakenLive, taken-live, settled-live, delivered-live, spent-live, closed-live}
@@ -58,7 +54,7 @@ use Rattle.table.proofs.KeepLaws.{place-found}
 use Rattle.incoming.proofs.QueueLaws.{QueueKeeps, FrontAs, pop-keeps}
 use Rattle.history.proofs.ActLaws.{ActedKeeps, PacketFits, acted-keeps}
 use Rattle.history.proofs.Received.{NotBroken, fault-fine, error-fine, unless-fine, ReceivedFits, received-fits}
-use Rattle.history.proofs.Work.{negotiated, Kept, WorkWhole, At, drop-whole, begun-whole, frames-whole, slot-whole, act-whole, ends-kept, at-frames, at-slot, at-act, at-ends, untouched-kept, dropped-whole, there-live, there-at, checked-kept, checked-out-kept, Long, long}
+use Rattle.history.proofs.Work.{negotiated, Kept, WorkWhole, At, drop-whole, begun-whole, frames-whole, slot-whole, act-whole, ends-kept, at-frames, at-slot, at-act, at-ends, untouched-kept, dropped-whole, there-live, there-at, Long, long}
 
 -- ---- answers that are not refusal 13
 

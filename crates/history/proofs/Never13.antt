@@ -1,31 +1,31 @@
 -- Refusal 13 is never given on a state that make began. Assumes nothing.
 use mathlib.Core.Path.{_≡_, refl, sym, ap, subst, _∙_}
-use mathlib.Core.Bool.{Bool, true, false, cond, _&&_}
+use mathlib.Core.Bool.{Bool, true, false}
 use mathlib.Core.List.{List, [], _∷_, _++_}
-use Prim.Native.Nat.{ℕ, zero, suc, _+_, _*_, _≤_, _<_, min}
+use Prim.Native.Nat.{ℕ, zero, suc, _+_}
 use native.Mathlib.Omega.{arith}
 use lib.ListN.{length, drop, getD, replicate, length-replicate}
-use Rattle.le.specs.Le.{put}
+use Rattle.le.specs.Le.{put, Bytes}
 use Rattle.config.specs.declared.ConnectionConfig.{ConnectionConfig}
 use Rattle.config.specs.declared.negotiated.Negotiated.{Negotiated}
 use Rattle.config.specs.Config.{withinLimits, storesFit}
 use Rattle.config.specs.Negotiated.{negotiatedOf}
-use Rattle.config.proofs.Laws.{within}
+use Rattle.config.proofs.Laws.{and-true, within}
 use Rattle.incoming.specs.Incoming.{noOpen}
 use Rattle.slot.specs.Slot.{emptySlot}
 use Rattle.slot.proofs.Laws.{cond-true, cond-false}
 use Rattle.state.specs.Change.{changedAll, putAll}
 use Rattle.state.specs.State.{Connection, layout, stateOf, isState}
-use Rattle.state.specs.Valid.{opensFine, whole, isWhole}
+use Rattle.state.specs.Valid.{opensFine, isWhole}
 use Rattle.state.proofs.RowLaws.{Every, never}
-use Rattle.state.proofs.StateLaws.{OpenFits, state-forth, layout-is-state}
+use Rattle.state.proofs.StateLaws.{OpenFits, state-split, state-forth, state-fits, layout-is-state}
 use Rattle.state.proofs.ChangeLaws.{changes-layout}
 use Rattle.connection.specs.declared.Refusal.the-variants.{StoreShort}
 use Rattle.connection.specs.Answer.{refusalNumber, numberOf}
-use Rattle.connection.specs.Calls.{Lent, Outcome, untouched, checked, checkedOut, openOf, dispatchOf, settleOf, takeOf, readOf, writeOf, closeOf, frontCall, openStep, dispatchStep, settleStep, takeStep, readStep, writeStep, closeStep, frontStep, fresh, Made, makeOf}
+use Rattle.connection.specs.Calls.{Outcome, untouched, checked, checkedOut, openOf, dispatchOf, settleOf, takeOf, readOf, writeOf, closeOf, frontCall, openStep, dispatchStep, settleStep, takeStep, readStep, writeStep, closeStep, frontStep, fresh, Made, makeOf}
 use Rattle.history.specs.Run.{bytesIn, Call, openCall, dispatchCall, settleCall, takeCall, readCall, writeCall, closeCall, frontTaken, World, lent, outcome, after, afterAll, made}
-use Rattle.history.specs.Never13.{Unbroken, Never13, Always8}
-use Rattle.state.proofs.WholeLaws.{length-layout, Bounds, SlotWhole, Whole, whole-own, whole-true, whole-full, whole-fits, empty-whole}
+use Rattle.history.specs.Never13.{Unbroken, Never13, StaysWhole, Always8}
+use Rattle.state.proofs.WholeLaws.{length-layout, Bounds, SlotWhole, Whole, whole-own, whole-true, whole-full, whole-fits, empty-whole, whole-facts}
 use Rattle.history.proofs.Received.{bytes-in}
 use Rattle.history.proofs.Work.{negotiated, Kept, checked-kept, checked-out-kept, long}
 use Rattle.history.proofs.Calls.{settle-kept, take-kept, close-kept, front-kept, dispatch-kept, read-kept, write-kept, open-kept}
@@ -73,7 +73,7 @@ pub record Holds (n : Negotiated) (r : List ℕ) (rx store : ℕ) (w : World) : 
 
 module _ (n : Negotiated) (r : List ℕ) (rx store : ℕ) where
   -- bytes that are a layout of a state with these facts
-  holds-of : (w : World) (d : Connection) → w .state ≡ layout d ++ r → Whole n (d .header) (d .slots) (d .opens) → length (w .rx) ≡ rx → length (w .store) ≡ store
+  pub holds-of : (w : World) (d : Connection) → w .state ≡ layout d ++ r → Whole n (d .header) (d .slots) (d .opens) → length (w .rx) ≡ rx → length (w .store) ≡ store
       → Holds n r rx store w
   holds-of w d e g a b =
       let z : stateOf (w .state) ≡ d = ap stateOf e ∙ state-forth d r (whole-fits n d g) in
@@ -85,17 +85,17 @@ module _ (n : Negotiated) (r : List ℕ) (rx store : ℕ) where
       }
 
   module _ (w : World) (h : Holds n r rx store w) where
-    holds-whole : isWhole (w .state) ≡ true
+    pub holds-whole : isWhole (w .state) ≡ true
     unfolding isWhole
     holds-whole =
         let s = ap isState (h .is-layout) ∙ layout-is-state (stateOf (w .state)) r (whole-full n (stateOf (w .state)) (h .facts)) in
         let t = whole-true n (stateOf (w .state)) (h .facts) in
         rw (s, t)
 
-    holds-kept : (x : Call) → Kept (lent w) (outcome w x)
+    pub holds-kept : (x : Call) → Kept (lent w) (outcome w x)
     holds-kept x = call-kept w holds-whole (whole-own n (stateOf (w .state) .header) (stateOf (w .state) .slots) (stateOf (w .state) .opens) (h .facts)) x
 
-    holds-after : (x : Call) → Holds n r rx store (after w x)
+    pub holds-after : (x : Call) → Holds n r rx store (after w x)
     unfolding after
     holds-after x =
         let k = holds-kept x in
@@ -106,7 +106,7 @@ module _ (n : Negotiated) (r : List ℕ) (rx store : ℕ) where
         (k .rx-length ∙ h .rx-length)
         (k .store-length ∙ h .store-length)
 
-  holds-all : (w : World) → Holds n r rx store w → (cs : List Call) → Holds n r rx store (afterAll w cs)
+  pub holds-all : (w : World) → Holds n r rx store w → (cs : List Call) → Holds n r rx store (afterAll w cs)
   unfolding afterAll
   holds-all w h [] = h
   holds-all w h (x ∷ cs) = holds-all (after w x) (holds-after w h x) cs
@@ -126,7 +126,7 @@ limits-of : (c : ConnectionConfig) (a b : ℕ) (host device : Bool) → withinLi
 unfolding negotiatedOf
 limits-of c a b host device e = record { within = within c e; payload = omega arith; version = omega arith }
 
-fresh-whole : (n : Negotiated) → Bounds n → Whole n (fresh n .header) (fresh n .slots) (fresh n .opens)
+pub fresh-whole : (n : Negotiated) → Bounds n → Whole n (fresh n .header) (fresh n .slots) (fresh n .opens)
 unfolding fresh opensFine
 fresh-whole n k =
     record {
@@ -155,7 +155,7 @@ unfolding put
 put-start state l e = let z : 0 + length l ≡ 4730 = omega arith in rw z
 
 module _ (c : ConnectionConfig) (a b : ℕ) (host device : Bool) (state rx store : List ℕ) (e : withinLimits c ≡ true) where
-  made-holds : Holds (negotiatedOf host device a b c) (drop 4730 state) (length rx) (length store) (made c a b host device state rx store)
+  pub made-holds : Holds (negotiatedOf host device a b c) (drop 4730 state) (length rx) (length store) (made c a b host device state rx store)
   unfolding made makeOf
   made-holds =
       let n = negotiatedOf host device a b c in
@@ -164,7 +164,7 @@ module _ (c : ConnectionConfig) (a b : ℕ) (host device : Bool) (state rx store
       (ap (λ (x : Made). x .state) (cond-true (withinLimits c) _ _ e) ∙ put-start state (layout (fresh n)) (length-layout (fresh n) (whole-full n (fresh n) g)))
       g refl refl
 
-  all-holds : (cs : List Call) → Holds (negotiatedOf host device a b c) (drop 4730 state) (length rx) (length store) (afterAll (made c a b host device state rx store) cs)
+  pub all-holds : (cs : List Call) → Holds (negotiatedOf host device a b c) (drop 4730 state) (length rx) (length store) (afterAll (made c a b host device state rx store) cs)
   all-holds cs = holds-all (negotiatedOf host device a b c) (drop 4730 state) (length rx) (length store) _ made-holds cs
 
   short-made : storesFit c (length rx) (length store) ≡ false
@@ -176,12 +176,9 @@ module _ (c : ConnectionConfig) (a b : ℕ) (host device : Bool) (state rx store
       ∙ ap (λ (y : ℕ). storesFit c y (length (made c a b host device state rx store .store))) (k .rx-length)
       ∙ ap (λ (y : ℕ). storesFit c (length rx) y) (k .store-length) ∙ s
 
-pub never-13 : Never13
-never-13 c a b host device state rx store e h cs =
-    let n = negotiatedOf host device a b c in
+unbroken : (n : Negotiated) (state rx store : List ℕ) (w : World) → Holds n (drop 4730 state) (length rx) (length store) w → Unbroken n state rx store w
+unbroken n state rx store w k =
     let r = drop 4730 state in
-    let w = afterAll (made c a b host device state rx store) cs in
-    let k = all-holds c a b host device state rx store e cs in
     record {
       is-whole = holds-whole n r (length rx) (length store) w k;
       is-layout = k .is-layout;
@@ -190,6 +187,29 @@ never-13 c a b host device state rx store e h cs =
       store-length = k .store-length;
       negotiated = k .facts .header .negotiated;
     }
+
+pub never-13 : Never13
+never-13 c a b host device state rx store e h cs =
+    unbroken (negotiatedOf host device a b c) state rx store (afterAll (made c a b host device state rx store) cs) (all-holds c a b host device state rx store e cs)
+
+-- ---- any whole state
+
+whole-holds : (w : World) → Bytes (w .state) → isWhole (w .state) ≡ true → Holds (stateOf (w .state) .header .negotiated) (drop 4730 (w .state)) (length (w .rx)) (length (w .store)) w
+unfolding isWhole
+whole-holds w y e =
+    let k = and-true (isState (w .state)) _ e in
+    record {
+      is-layout = sym (state-split (w .state) y (k .0));
+      facts = whole-facts (stateOf (w .state)) (state-fits (w .state) y) (k .1);
+      rx-length = refl;
+      store-length = refl;
+    }
+
+pub stays-whole : StaysWhole
+stays-whole w y e cs =
+    let n = stateOf (w .state) .header .negotiated in
+    unbroken n (w .state) (w .rx) (w .store) (afterAll w cs)
+    (holds-all n (drop 4730 (w .state)) (length (w .rx)) (length (w .store)) w (whole-holds w y e) cs)
 
 -- ---- stores under their lengths
 

@@ -1,28 +1,26 @@
 -- What a call has done so far, and its end, leave a whole state. Assumes nothing.
-use mathlib.Core.Path.{_≡_, refl, sym, ap, subst, _∙_}
-use mathlib.Core.Bool.{Bool, true, false, cond, _&&_}
-use mathlib.Core.List.{List, [], _∷_, _++_}
-use Prim.Native.Nat.{ℕ, _+_, _*_, _^_, _≤_, _<_, max}
+use mathlib.Core.Path.{_≡_, refl, sym, subst}
+use mathlib.Core.Bool.{true}
+use mathlib.Core.List.{List, [], _∷_}
+use Prim.Native.Nat.{ℕ, _*_, _≤_, _<_}
 use native.Mathlib.Omega.{arith}
-use lib.Dec.{ltb, leb}
-use lib.ListN.{length, getD, set}
+use lib.Dec.{ltb}
+use lib.ListN.{length, getD}
 use lib.Seq.{getD-set-same}
-use borrow.Author.Tests.{ltb-true, leb-true}
+use borrow.Author.Tests.{leb-true}
 use Rattle.config.specs.declared.negotiated.Negotiated.{Negotiated}
-use Rattle.config.specs.Config.{capOf, rxStoreLen, openStoreLen, storesFit}
+use Rattle.config.specs.Config.{rxStoreLen, openStoreLen, storesFit}
 use Rattle.config.specs.Negotiated.{policyOf}
-use Rattle.config.proofs.Laws.{and-true, sound}
+use Rattle.config.proofs.Laws.{and-true}
 use Rattle.slot.specs.declared.ChannelSlot.{ChannelSlot}
 use Rattle.slot.specs.Slot.{emptySlot}
 use Rattle.slot.proofs.Kept.{pick}
 use Rattle.state.specs.declared.Header.{Header}
-use Rattle.state.specs.Change.{Change, slotTo, headerTo, changedAll, Within}
+use Rattle.state.specs.Change.{slotTo, headerTo, changedAll, Within}
 use Rattle.state.specs.State.{Connection}
 use Rattle.state.proofs.RowLaws.{Every, every-append, never}
 use Rattle.state.proofs.ChangeLaws.{changes-append}
 use Rattle.table.specs.declared.ChannelId.{ChannelId}
-use Rattle.table.specs.declared.Want.the-variants.{Local}
-use Rattle.table.specs.Table.{wantedBy}
 use Rattle.table.specs.Dispatch.{slotIn}
 use Rattle.connection.specs.declared.Answer.{Answer}
 use Rattle.connection.specs.declared.Answer.the-variants.{Refused}

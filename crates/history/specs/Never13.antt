@@ -5,6 +5,7 @@ use mathlib.Core.Bool.{Bool, true, false}
 use mathlib.Core.List.{List, _++_}
 use mathlib.Core.Path.{_≡_}
 use lib.ListN.{length, drop}
+use Rattle.le.specs.Le.{Bytes}
 use Rattle.config.specs.declared.ConnectionConfig.{ConnectionConfig}
 use Rattle.config.specs.declared.negotiated.Negotiated.{Negotiated}
 use Rattle.config.specs.Config.{withinLimits, storesFit}
@@ -31,6 +32,12 @@ abbrev pub Never13 : Type 0
 Never13 =
     (c : ConnectionConfig) (a b : ℕ) (host device : Bool) (state rx store : List ℕ) → withinLimits c ≡ true → 4730 ≤ length state
     → (cs : List Call) → Unbroken (negotiatedOf host device a b c) state rx store (afterAll (made c a b host device state rx store) cs)
+
+-- the same where the lent bytes are a whole state, whatever wrote them
+abbrev pub StaysWhole : Type 0
+StaysWhole =
+    (w : World) → Bytes (w .state) → isWhole (w .state) ≡ true
+    → (cs : List Call) → Unbroken (stateOf (w .state) .header .negotiated) (w .state) (w .rx) (w .store) (afterAll w cs)
 
 -- where a store is under its length, every call answers 8 and changes nothing
 abbrev pub Always8 : Type 0

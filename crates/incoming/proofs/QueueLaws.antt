@@ -1,14 +1,13 @@
 -- A push, a withdrawal and a pop leave a whole state. Assumes nothing.
 use mathlib.Core.Path.{_≡_, refl, sym, ap, subst, _∙_}
-use mathlib.Core.Bool.{Bool, true, false, cond}
+use mathlib.Core.Bool.{true}
 use mathlib.Core.List.{List, [], _∷_, _++_}
-use Prim.Native.Nat.{ℕ, zero, suc, _+_, _-_, _*_, _^_, _≤_, _<_}
+use Prim.Native.Nat.{ℕ, _+_, _-_, _*_, _^_, _≤_, _<_}
 use native.Mathlib.Omega.{arith}
 use lib.Dec.{eqb, leb}
-use lib.ListN.{length, take, drop, getD, set, length-set, length-append, length-take, length-drop}
+use lib.ListN.{length, take, drop, set, length-set, length-append, length-take, length-drop}
 use lib.Seq.{take-at}
-use borrow.Author.Tests.{leb-false, eqb-false}
-use Rattle.le.specs.Le.{put}
+use borrow.Author.Tests.{leb-false}
 use Rattle.le.proofs.Parts.{length-put}
 use Rattle.slot.specs.declared.ids.RemoteId.{RemoteId}
 use Rattle.slot.specs.declared.ChannelSlot.{ChannelSlot}
@@ -16,20 +15,19 @@ use Rattle.slot.proofs.Kept.{pick}
 use Rattle.config.specs.declared.negotiated.Negotiated.{Negotiated}
 use Rattle.state.specs.declared.Header.{Header}
 use Rattle.state.specs.declared.PendingOpen.{PendingOpen}
-use Rattle.state.specs.Change.{Change, openTo, opensTo, changedAll, Within, Step}
+use Rattle.state.specs.Change.{Change, opensTo, changedAll, Within, Step}
 use Rattle.state.specs.State.{Connection}
 use Rattle.state.specs.Valid.{opensFine}
 use Rattle.state.proofs.RowLaws.{Every, every-set, every-append, every-drop, every-take}
 use Rattle.state.proofs.StateLaws.{OpenFits}
 use Rattle.incoming.specs.declared.Front.{Front}
 use Rattle.incoming.specs.declared.Front.the-variants.{Open, Nothing}
-use Rattle.incoming.specs.declared.Keep.{Keep}
 use Rattle.incoming.specs.declared.Keep.the-variants.{Without}
 use Rattle.incoming.specs.declared.Pushed.{Pushed}
 use Rattle.incoming.specs.declared.Pushed.the-variants.{Queued, Full}
-use Rattle.incoming.specs.Incoming.{freeShare, kept, withQueued, noOpen, withdrawal, popped, nextShare, PushOutcome, pushed}
+use Rattle.incoming.specs.Incoming.{freeShare, kept, withQueued, withdrawal, popped, nextShare, PushOutcome, pushed}
 use Rattle.incoming.proofs.ShareLaws.{next-below, share-fits}
-use Rattle.incoming.proofs.WaitLaws.{front-is, push-fine, kept-fine, rest-fine, kept-every, length-kept}
+use Rattle.incoming.proofs.WaitLaws.{push-fine, kept-fine, rest-fine, kept-every, length-kept}
 use Rattle.state.proofs.WholeLaws.{Whole, OpensWhole}
 
 -- changes to the waiting opens os alone, after which the header is `more`

@@ -1,6 +1,5 @@
 -- No function on a slot takes a filled slot out of a whole state. Assumes nothing.
-use mathlib.Core.Path.{_≡_, refl, sym, ap, subst, _∙_}
-use mathlib.Core.Bool.{Bool, true, false}
+use mathlib.Core.Path.{refl, sym, ap, subst, _∙_}
 use mathlib.Core.List.{List}
 use Prim.Native.Nat.{ℕ, _^_, _≤_, _<_}
 use native.Mathlib.Omega.{arith}
@@ -19,7 +18,6 @@ use Rattle.slot.specs.declared.ids.RemoteId.{RemoteId}
 use Rattle.slot.specs.Slot.{openingSlot, openedOf, openedBy, readyOf, creditOf, isOpening, isFailed, wroteOf, deliveredOf, settledOf, takeLen, takenOf, hasData, isClosed, spentOf, closedSlot, SlotOk}
 use Rattle.slot.proofs.Kept.{pick, Readied-sound, ready-sound, wrote-sound, delivered-sound, settled-sound, took-sound, spent-sound, closed-sound}
 use Rattle.slot.proofs.Stays.{Stays, CreditFits, credit-small, ReadiedStays, ready-stays, wrote-stays, delivered-stays, settled-stays, took-stays, spent-stays, closed-stays}
-use Rattle.state.proofs.StateLaws.{SlotFits}
 use Rattle.state.proofs.WholeLaws.{Live}
 
 -- a slot that a function left so, with numbers within its share, is as whole as it was

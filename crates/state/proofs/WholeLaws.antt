@@ -1,24 +1,23 @@
 -- What a whole state is, as facts about its header, its slots and its waiting opens; these facts make it whole, and its
 -- numbers fit their bytes. Assumes nothing.
 use mathlib.Core.Path.{_≡_, refl, sym, ap, subst, _∙_}
-use mathlib.Core.Bool.{Bool, true, false, not, cond, _&&_}
+use mathlib.Core.Bool.{Bool, true, false, not, _&&_}
 use mathlib.Core.List.{List, [], _∷_}
-use Prim.Native.Nat.{ℕ, zero, suc, _+_, _*_, _^_, _≤_, _<_}
-use native.Mathlib.Nat.{zero-add, suc-add}
+use Prim.Native.Nat.{ℕ, zero, suc, _+_, _^_, _≤_, _<_}
+use native.Mathlib.Nat.{zero-add}
 use native.Mathlib.Omega.{arith}
-use lib.Dec.{ltb, leb, eqb}
-use lib.Signed.{mag}
+use lib.Dec.{ltb, eqb}
 use lib.ListN.{length, take, getD, set, length-set, length-append}
 use lib.Seq.{getD-set-same, getD-set-other}
-use borrow.Author.Tests.{eqb-true, eqb-false, ne-eqb, lt-ltb, le-leb}
+use borrow.Author.Tests.{eqb-true, eqb-false, ne-eqb, lt-ltb, le-leb, ltb-true, leb-true}
 use Rattle.le.proofs.Parts.{by-test}
 use Rattle.config.specs.declared.negotiated.Negotiated.{Negotiated}
-use Rattle.config.specs.Config.{Within, capOf, withinLimits}
+use Rattle.config.specs.Config.{Within, capOf}
 use Rattle.config.specs.Negotiated.{policyOf}
-use Rattle.config.proofs.Laws.{within-holds}
+use Rattle.config.proofs.Laws.{and-true, within, within-holds, sound as limits-sound}
 use Rattle.slot.specs.declared.ChannelSlot.{ChannelSlot}
-use Rattle.slot.specs.Slot.{emptySlot, isOpening, isFailed, slotOk, SlotOk}
-use Rattle.slot.proofs.Kept.{sound-holds}
+use Rattle.slot.specs.Slot.{emptySlot, isOpening, isFailed, SlotOk}
+use Rattle.slot.proofs.Kept.{sound, sound-holds}
 use Rattle.slot.proofs.Laws.{cond-true, cond-false}
 use Rattle.state.specs.declared.Header.{Header}
 use Rattle.state.specs.declared.PendingOpen.{PendingOpen}
@@ -256,3 +255,83 @@ module _ (n : Negotiated) (c : Connection) (g : Whole n (c .header) (c .slots) (
         slots = every-at SlotFits emptySlot (c .slots) (λ i. g .slots .each i .fits);
         opens = g .opens .fits;
       }
+
+-- ---- a whole state has the facts
+
+not-false : (t : Bool) → not t ≡ true → t ≡ false
+not-false true e = never e
+not-false false e = refl
+
+module _ (n : Negotiated) (k : Within (n .config)) where
+  live-facts : (i : ℕ) (s : ChannelSlot) → SlotFits s → s .filled ≡ true → (ltb i (n .config .channels) && filledOk s (capOf (n .config))) ≡ true → Live n i s
+  unfolding filledOk policyOf
+  live-facts i s f t e =
+      let e₄ = and-true _ _ e in
+      let e₃ = and-true _ _ (e₄ .1) in
+      let e₂ = and-true _ _ (e₃ .0) in
+      let e₁ = and-true _ _ (e₂ .0) in
+      record {
+        filled = t;
+        place = ltb-true i (n .config .channels) (e₄ .0);
+        opening = not-false (isOpening (s .state)) (e₁ .0);
+        failed = not-false (isFailed (s .failed)) (e₁ .1);
+        remote = e₂ .1;
+        ok = sound s (capOf (n .config)) (limits-sound (n .config) k .cap-small) (e₃ .1);
+        fits = f;
+      }
+
+  slot-facts : (i : ℕ) (s : ChannelSlot) → SlotFits s → slotFine (n .config .channels) (capOf (n .config)) i s ≡ true → SlotWhole n i s
+  unfolding slotFine
+  slot-facts i s f e = record { fits = f; live = λ t. live-facts i s f t (sym (cond-true (s .filled) _ true t) ∙ e) }
+
+  slots-facts : (ss : List ChannelSlot) (i : ℕ) → Every SlotFits ss → slotsFine (n .config .channels) (capOf (n .config)) i ss ≡ true → (j : ℕ) → SlotWhole n (i + j) (getD ss j emptySlot)
+  unfolding slotsFine
+  slots-facts [] i f e j = empty-whole n (i + j)
+  slots-facts (s ∷ ss) i f e zero =
+      let z : i ≡ i + 0 = omega arith in
+      subst (λ (x : ℕ). SlotWhole n x s) z (slot-facts i s (f .0) (and-true (slotFine (n .config .channels) (capOf (n .config)) i s) _ e .0))
+  slots-facts (s ∷ ss) i f e (suc j) =
+      let z : suc i + j ≡ i + suc j = omega arith in
+      subst (λ (x : ℕ). SlotWhole n x (getD ss j emptySlot)) z (slots-facts ss (suc i) (f .1) (and-true (slotFine (n .config .channels) (capOf (n .config)) i s) _ e .1) j)
+
+header-facts : (h : Header) → HeaderFits h → headerFine h ≡ true → Bounds (h .negotiated) × HeaderWhole (h .negotiated) h
+unfolding headerFine
+header-facts h f e =
+    let e₄ = and-true _ _ e in
+    let e₃ = and-true _ _ (e₄ .0) in
+    let e₂ = and-true _ _ (e₃ .0) in
+    let e₁ = and-true _ _ (e₂ .0) in
+    let z = eqb-false (h .«next_local») 0 (not-false (eqb (h .«next_local») 0) (e₃ .1)) in
+    (record { within = within (h .negotiated .config) (e₁ .0); payload = leb-true _ _ (e₁ .1); version = leb-true _ _ (e₂ .1) },
+    record { negotiated = refl; next-some = some (h .«next_local») z; next-fits = f .next; place-fits = f .place; local-fits = f .local; queue-fits = leb-true _ _ (e₄ .1) })
+  where
+    some : (x : ℕ) → (x ≡ 0 → ⊥) → 1 ≤ x
+    some zero g = absurd (g refl)
+    some (suc x) g = omega arith
+
+waiting-facts : (h : Header) (ss : List ChannelSlot) → waitingFine h (filledAt ss (h .waiting .slot)) ≡ true → h .waiting .on ≡ true → PlaceWhole (h .negotiated) (h .waiting .slot) ss
+unfolding waitingFine
+waiting-facts h ss e t =
+    let k = and-true (ltb (h .waiting .slot) (h .negotiated .config .channels)) _ (sym (cond-true (h .waiting .on) _ true t) ∙ e) in
+    record { place = ltb-true _ _ (k .0); empty = sym (filled-in ss (h .waiting .slot)) ∙ not-false (filledAt ss (h .waiting .slot)) (k .1) }
+
+-- a state that fits its bytes and is whole
+pub whole-facts : (c : Connection) → Fits c → whole c ≡ true → Whole (c .header .negotiated) (c .header) (c .slots) (c .opens)
+unfolding whole
+whole-facts c f e =
+    let e₃ = and-true _ _ e in
+    let e₂ = and-true _ _ (e₃ .0) in
+    let e₁ = and-true _ _ (e₂ .0) in
+    let h = header-facts (c .header) (f .header) (e₁ .0) in
+    record {
+      limits = h .0;
+      header = h .1;
+      slots =
+          record {
+            full = f .full .slots;
+            each = λ i. subst (λ (x : ℕ). SlotWhole (c .header .negotiated) x (getD (c .slots) i emptySlot)) (zero-add i)
+            (slots-facts (c .header .negotiated) (h .0 .within) (c .slots) 0 (f .slots) (e₁ .1) i);
+          };
+      waits = waiting-facts (c .header) (c .slots) (e₂ .1);
+      opens = record { full = f .full .opens; fits = f .opens; fine = e₃ .1 };
+    }
