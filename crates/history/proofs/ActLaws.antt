@@ -66,7 +66,7 @@ module _ (h : Header) (c : Connection) (rx store : List ℕ) (g : Whole (h .nego
         record {
           within = every-append Within (d .step .changes) xs (t .within) (q .within);
           facts = subst (λ (x : Connection). Whole (h .negotiated) more (x .slots) (x .opens)) (sym z)
-          (subst (λ x. Whole (h .negotiated) more x (changedAll m xs .opens)) (sym (q .slots m)) (q .facts m (t .opens)));
+              (subst (λ x. Whole (h .negotiated) more x (changedAll m xs .opens)) (sym (q .slots m)) (q .facts m (t .opens)));
           filled = λ i f. ap (λ (x : Connection). slotIn (x .slots) i .filled) z ∙ ap (λ x. slotIn x i .filled) (q .slots m) ∙ t .filled i f;
           rx-length = t .rx-length;
           store-length = e;

@@ -102,7 +102,7 @@ module _ (l : Lent) (w : Work) (k : WorkWhole l w) where
       record {
         within = every-append Within (w .changes) (slotTo i t ∷ []) (k .within) (h, tt);
         facts = subst (λ (x : Connection). Whole (negotiated l) (w .header) (x .slots) (x .opens)) (sym (changes-append (l .state) (w .changes) (slotTo i t ∷ [])))
-        (whole-put (negotiated l) (w .header) (before .slots) (before .opens) (k .facts) i t f h s);
+            (whole-put (negotiated l) (w .header) (before .slots) (before .opens) (k .facts) i t f h s);
         rx-length = k .rx-length;
         store-length = k .store-length;
       }
@@ -153,12 +153,12 @@ module _ (l : Lent) (i : ℕ) (w : Work) (k : At l i w) where
             record {
               within = every-append Within (w .changes) (slotTo i t ∷ []) (k .work .within) (omega arith, tt);
               facts = subst (λ (x : Connection). Whole (negotiated l) (w .header) (x .slots) (x .opens)) (sym z)
-              (whole-live (negotiated l) (w .header) (here .slots) (here .opens) g i t (k .live) v);
+                  (whole-live (negotiated l) (w .header) (here .slots) (here .opens) g i t (k .live) v);
               rx-length = k .work .rx-length;
               store-length = k .work .store-length;
             };
         live = subst (λ (x : Connection). Live (negotiated l) i (getD (x .slots) i emptySlot)) (sym z)
-        (subst (Live (negotiated l) i) (sym (getD-set-same (here .slots) i t emptySlot (omega arith))) v);
+            (subst (Live (negotiated l) i) (sym (getD-set-same (here .slots) i t emptySlot (omega arith))) v);
       }
 
   pub at-act : (a : Acted) → ActedKeeps (negotiated l) (changedAll (l .state) (w .changes)) (length (l .rx)) (length (l .store)) a → At l i (thenActed w a)

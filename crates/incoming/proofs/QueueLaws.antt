@@ -77,20 +77,21 @@ module _ (h : Header) (ss : List ChannelSlot) (os : List PendingOpen) (g : Whole
       (λ t. let room = leb-false n (h .queued) t in
       let share = next-below n (h .queued) os room in
       let fits = share-fits n payload (h .queued) (freeShare n (take (h .queued) os)) os room refl in
-      let q : PendingOpen = record { remote = remote; credit = credit; share = freeShare n (take (h .queued) os); length = length destination } in
-      (record {
-        within = (omega arith, tt);
-        slots = λ c. refl;
-        facts = λ c e.
-        whole-queue (h .queued + 1) (set (c .opens) (h .queued) q) (omega arith)
-        (subst (λ (x : List PendingOpen). OpensWhole (h .negotiated) (h .queued + 1) (set x (h .queued) q)) (sym e)
-        (record {
-          full = length-set os (h .queued) q ∙ full;
-          fits = every-set OpenFits os (h .queued) q (g .opens .fits) (record { remote = r; credit = k; share = omega arith; length = omega arith });
-          fine = push-fine n payload (h .queued) os q (omega arith) (g .opens .fine) share d;
-        }));
-      },
-      length-put store (freeShare n (take (h .queued) os) * payload) destination (omega arith)))
+      let q : PendingOpen = record { remote = remote; credit = credit; share = freeShare n (take (h .queued) os); length = length destination } in (
+        record {
+          within = (omega arith, tt);
+          slots = λ c. refl;
+          facts = λ c e.
+              whole-queue (h .queued + 1) (set (c .opens) (h .queued) q) (omega arith)
+              (subst (λ (x : List PendingOpen). OpensWhole (h .negotiated) (h .queued + 1) (set x (h .queued) q)) (sym e)
+              (record {
+                full = length-set os (h .queued) q ∙ full;
+                fits = every-set OpenFits os (h .queued) q (g .opens .fits) (record { remote = r; credit = k; share = omega arith; length = omega arith });
+                fine = push-fine n payload (h .queued) os q (omega arith) (g .opens .fine) share d;
+              }));
+        },
+        length-put store (freeShare n (take (h .queued) os) * payload) destination (omega arith),
+      ))
 
   -- ---- the first ones are replaced by no more than waited
 
@@ -103,13 +104,13 @@ module _ (h : Header) (ss : List ChannelSlot) (os : List PendingOpen) (g : Whole
         within = (omega arith, tt);
         slots = λ c. refl;
         facts = λ c z.
-        whole-queue q (ks ++ drop (length ks) (c .opens)) k
-        (subst (λ (x : List PendingOpen). OpensWhole (h .negotiated) q (ks ++ drop (length ks) x)) (sym z)
-        (record {
-          full = simp (length-append, length-drop) (omega arith);
-          fits = every-append OpenFits ks (drop (length ks) os) f (every-drop OpenFits (length ks) os (g .opens .fits));
-          fine = ap (opensFine (h .negotiated .config .channels) (h .negotiated .config .«max_payload»)) (take-at ks (drop (length ks) os) q e) ∙ o;
-        }));
+            whole-queue q (ks ++ drop (length ks) (c .opens)) k
+            (subst (λ (x : List PendingOpen). OpensWhole (h .negotiated) q (ks ++ drop (length ks) x)) (sym z)
+            (record {
+              full = simp (length-append, length-drop) (omega arith);
+              fits = every-append OpenFits ks (drop (length ks) os) f (every-drop OpenFits (length ks) os (g .opens .fits));
+              fine = ap (opensFine (h .negotiated .config .channels) (h .negotiated .config .«max_payload»)) (take-at ks (drop (length ks) os) q e) ∙ o;
+            }));
       }
 
   -- a withdrawal

@@ -109,10 +109,10 @@ put-whole n ss i t g h s =
     record {
       full = length-set ss i t ∙ f;
       each = λ j. by-test (eqb j i)
-      (λ e. let k = eqb-true j i e in
-      subst (λ (x : ℕ). SlotWhole n x (getD (set ss i t) x emptySlot)) (sym k)
-      (subst (SlotWhole n i) (sym (getD-set-same ss i t emptySlot (omega arith))) s))
-      (λ e. subst (SlotWhole n j) (sym (getD-set-other ss i j t emptySlot (eqb-false j i e))) (g .each j));
+          (λ e. let k = eqb-true j i e in
+          subst (λ (x : ℕ). SlotWhole n x (getD (set ss i t) x emptySlot)) (sym k)
+          (subst (SlotWhole n i) (sym (getD-set-same ss i t emptySlot (omega arith))) s))
+          (λ e. subst (SlotWhole n j) (sym (getD-set-other ss i j t emptySlot (eqb-false j i e))) (g .each j));
     }
 
 module _ (n : Negotiated) (h : Header) (ss : List ChannelSlot) (os : List PendingOpen) (g : Whole n h ss os) where
@@ -124,10 +124,10 @@ module _ (n : Negotiated) (h : Header) (ss : List ChannelSlot) (os : List Pendin
         header = g .header;
         slots = put-whole n ss i t (g .slots) k s;
         waits = λ e.
-        record {
-          place = g .waits e .place;
-          empty = ap (λ (x : ChannelSlot). x .filled) (getD-set-other ss i (h .waiting .slot) t emptySlot (w e)) ∙ g .waits e .empty;
-        };
+            record {
+              place = g .waits e .place;
+              empty = ap (λ (x : ChannelSlot). x .filled) (getD-set-other ss i (h .waiting .slot) t emptySlot (w e)) ∙ g .waits e .empty;
+            };
         opens = g .opens;
       }
 
@@ -301,9 +301,10 @@ header-facts h f e =
     let e₃ = and-true _ _ (e₄ .0) in
     let e₂ = and-true _ _ (e₃ .0) in
     let e₁ = and-true _ _ (e₂ .0) in
-    let z = eqb-false (h .«next_local») 0 (not-false (eqb (h .«next_local») 0) (e₃ .1)) in
-    (record { within = within (h .negotiated .config) (e₁ .0); payload = leb-true _ _ (e₁ .1); version = leb-true _ _ (e₂ .1) },
-    record { negotiated = refl; next-some = some (h .«next_local») z; next-fits = f .next; place-fits = f .place; local-fits = f .local; queue-fits = leb-true _ _ (e₄ .1) })
+    let z = eqb-false (h .«next_local») 0 (not-false (eqb (h .«next_local») 0) (e₃ .1)) in (
+      record { within = within (h .negotiated .config) (e₁ .0); payload = leb-true _ _ (e₁ .1); version = leb-true _ _ (e₂ .1) },
+      record { negotiated = refl; next-some = some (h .«next_local») z; next-fits = f .next; place-fits = f .place; local-fits = f .local; queue-fits = leb-true _ _ (e₄ .1) },
+    )
   where
     some : (x : ℕ) → (x ≡ 0 → ⊥) → 1 ≤ x
     some zero g = absurd (g refl)
@@ -330,7 +331,7 @@ whole-facts c f e =
           record {
             full = f .full .slots;
             each = λ i. subst (λ (x : ℕ). SlotWhole (c .header .negotiated) x (getD (c .slots) i emptySlot)) (zero-add i)
-            (slots-facts (c .header .negotiated) (h .0 .within) (c .slots) 0 (f .slots) (e₁ .1) i);
+                (slots-facts (c .header .negotiated) (h .0 .within) (c .slots) 0 (f .slots) (e₁ .1) i);
           };
       waits = waiting-facts (c .header) (c .slots) (e₂ .1);
       opens = record { full = f .full .opens; fits = f .opens; fine = e₃ .1 };

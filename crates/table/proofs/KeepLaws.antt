@@ -91,10 +91,10 @@ module _ (n : Negotiated) (h : Header) (c : Connection) (rx : List ℕ) (g : Who
         opens = refl;
         facts = whole-live n h (c .slots) (c .opens) g i t v u;
         filled = λ j z. by-test (eqb j i)
-        (λ q. let y = eqb-true j i q in
-        ap (λ (x : ℕ). getD (set (c .slots) i t) x emptySlot .filled) y
-        ∙ ap (λ (x : ChannelSlot). x .filled) (getD-set-same (c .slots) i t emptySlot (omega arith)) ∙ u .filled)
-        (λ q. ap (λ (x : ChannelSlot). x .filled) (getD-set-other (c .slots) i j t emptySlot (eqb-false j i q)) ∙ z);
+            (λ q. let y = eqb-true j i q in
+            ap (λ (x : ℕ). getD (set (c .slots) i t) x emptySlot .filled) y
+            ∙ ap (λ (x : ChannelSlot). x .filled) (getD-set-same (c .slots) i t emptySlot (omega arith)) ∙ u .filled)
+            (λ q. ap (λ (x : ChannelSlot). x .filled) (getD-set-other (c .slots) i j t emptySlot (eqb-false j i q)) ∙ z);
         rx-length = e;
         answer = f;
       }
