@@ -1,9 +1,9 @@
-pub mod ActLaws
 pub mod Acts
-pub mod Calls
 pub mod Good
 pub mod Never13
 pub mod Packets
 pub mod Places
 pub mod Received
-pub mod Work
+pub mod WholeAct
+pub mod WholeCalls
+pub mod WholeWork

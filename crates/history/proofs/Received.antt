@@ -33,7 +33,7 @@ use Rattle.connection.specs.declared.Received.the-variants.{Packet as PacketIs,
 use Rattle.connection.specs.Answer.{refusalNumber, numberOf}
 use Rattle.connection.specs.Calls.{Lent, bodyOf, faultRefusal, errorRefusal, unlessFault, receivedBy, receivedOf}
 use Rattle.history.specs.Run.{bytesIn}
-use Rattle.history.proofs.ActLaws.{PacketFits}
+use Rattle.history.proofs.WholeAct.{PacketFits}
 
 -- ---- bytes
 

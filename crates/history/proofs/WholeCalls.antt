@@ -52,9 +52,9 @@ use Rattle.state.proofs.WholeLaws.{Live, Whole, live-whole, empty-whole}
 use Rattle.state.proofs.LiveLaws.{ReadiedLive, ready-live, opened-live, TakenLive, taken-live, settled-live, delivered-live, spent-live, closed-live}
 use Rattle.table.proofs.KeepLaws.{place-found}
 use Rattle.incoming.proofs.QueueLaws.{QueueKeeps, FrontAs, pop-keeps}
-use Rattle.history.proofs.ActLaws.{ActedKeeps, PacketFits, acted-keeps}
+use Rattle.history.proofs.WholeAct.{ActedKeeps, PacketFits, acted-keeps}
 use Rattle.history.proofs.Received.{NotBroken, fault-fine, error-fine, unless-fine, ReceivedFits, received-fits}
-use Rattle.history.proofs.Work.{negotiated, Kept, WorkWhole, At, drop-whole, begun-whole, frames-whole, slot-whole, act-whole, ends-kept, at-frames, at-slot, at-act, at-ends, untouched-kept, dropped-whole, there-live, there-at, Long, long}
+use Rattle.history.proofs.WholeWork.{negotiated, Kept, WorkWhole, At, drop-whole, begun-whole, frames-whole, slot-whole, act-whole, ends-kept, at-frames, at-slot, at-act, at-ends, untouched-kept, dropped-whole, there-live, there-at, Long, long}
 
 -- ---- answers that are not refusal 13
 

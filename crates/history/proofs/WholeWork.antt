@@ -31,7 +31,7 @@ use Rattle.connection.specs.Act.{Acted}
 use Rattle.connection.specs.Calls.{Lent, Outcome, untouched, Work, begun, then, thenActed, ends, checked, checkedOut, dropped, isThere, slotFor}
 use Rattle.connection.specs.Frames.{Frame}
 use Rattle.state.proofs.WholeLaws.{Live, SlotWhole, Whole, whole-live, whole-put}
-use Rattle.history.proofs.ActLaws.{ActedKeeps}
+use Rattle.history.proofs.WholeAct.{ActedKeeps}
 use Rattle.history.proofs.Received.{NotBroken}
 use Rattle.table.proofs.KeepLaws.{local-filled}
 
