@@ -6,7 +6,8 @@ use Prim.Native.Nat.{ℕ, zero, suc, _+_, _-_, _*_, _≤_, _<_, min}
 use native.Mathlib.Omega.{arith}
 use lib.Dec.{eqb, ltb, leb}
 use lib.ListN.{length}
-use borrow.Author.Tests.{eqb-true, eqb-false, eq-eqb, ne-eqb}
+use borrow.Author.Tests.{eqb-true, eqb-false, eq-eqb, ne-eqb, ltb-true}
+use Rattle.table.proofs.DispatchLaws.{share-in, length-buffered}
 use Rattle.le.proofs.Parts.{by-test}
 use Rattle.config.specs.declared.negotiated.RxPolicy.{RxPolicy}
 use Rattle.config.specs.Negotiated.{policyOf}
@@ -32,8 +33,8 @@ use Rattle.slot.specs.declared.Readied.{Readied}
 use Rattle.slot.specs.declared.Readied.the-variants.{Slot, Short}
 use Rattle.slot.specs.declared.Wrote.{Wrote}
 use Rattle.slot.specs.Ids.{isClose}
-use Rattle.slot.specs.Slot.{isOpening, isFailed, acksNow, wroteOf, readyOf, closedSlot, heldOf}
-use Rattle.slot.proofs.Kept.{pick}
+use Rattle.slot.specs.Slot.{isOpening, isClosed, bufferedWith, isFailed, acksNow, wroteOf, readyOf, closedSlot, heldOf, SlotOk}
+use Rattle.slot.proofs.Kept.{pick, wrote-sound, Readied-sound, ready-sound, closed-sound}
 use Rattle.slot.proofs.Laws.{cond-true, cond-false}
 use Rattle.state.specs.declared.Header.{Header}
 use Rattle.state.specs.declared.PendingOpen.{PendingOpen}
@@ -51,7 +52,7 @@ use Rattle.connection.specs.Frames.{Frame, okayFrame, closeFrame, openFrame, wr
 use Rattle.history.specs.Book.{Book, Mark, sentB, acceptedB, closedB, overB, isRefused, isWrte, closesB, wrteB, frameB}
 use Rattle.history.specs.Demand3.{runOf}
 use Rattle.history.proofs.Good.{Good, Limits, Leaves, carried, carried-none, sent-good, quiet-good, refuse-good, accept-good, shut-good, ready-good}
-use Rattle.history.proofs.Places.{slotsBy, slots-append, TableOk, faultOf, At, apart, wrote, over, credited, shut, AtPlace, closes, at-route}
+use Rattle.history.proofs.Places.{found-filled, room-for, Decides, buffers, overflows, isTaken, decides, slotsBy, slots-append, TableOk, faultOf, At, apart, wrote, over, credited, shut, AtPlace, closes, at-route}
 
 -- ---- the credit of frames
 
@@ -260,6 +261,95 @@ module _ (h : Header) (ss : List ChannelSlot) (opens : List PendingOpen) (rx sto
         (subst (λ (r : List ℕ). A (slotsBy ss (acted .changes)) r (faultOf (d .step .result))) (sym (same .rx))
         (subst (λ (ts : List ChannelSlot). A ts (d .rx) (faultOf (d .step .result))) (sym (same .slots))
         (at-route pol (h .negotiated .config .channels) ss rx ok i there payload (k .command) (k .arg0) (k .arg1))))
+
+-- ---- the receive store keeps its length
+
+module _ (p : RxPolicy) (n : ℕ) (ss : List ChannelSlot) (rx : List ℕ) (ok : TableOk p n ss rx) (payload : List ℕ) where
+  wrote-length : (f : ℕ) (remote : RemoteId) (t : ChannelSlot) (d : AckDecision) → f < n → SlotOk (slotIn ss f) (p .«rx_cap») → Decides (slotIn ss f) p (length payload) d
+      → length (wroteBy p f (slotIn ss f) remote payload rx t d .rx) ≡ length rx
+  unfolding wroteBy
+  wrote-length f remote t (Now len) h sound (buffers e k) =
+      length-buffered rx (p .«rx_cap») f (slotIn ss f) payload (share-in f n (2 * p .«rx_cap») (length rx) h (ok .shares)) (room-for (slotIn ss f) p (length payload) sound k)
+  wrote-length f remote t Hold h sound (buffers e k) =
+      length-buffered rx (p .«rx_cap») f (slotIn ss f) payload (share-in f n (2 * p .«rx_cap») (length rx) h (ok .shares)) (room-for (slotIn ss f) p (length payload) sound k)
+  wrote-length f remote t (Now len) h sound (overflows e k) = absurd (true≢false (ap isTaken e))
+  wrote-length f remote t Hold h sound (overflows e k) = absurd (true≢false (ap isTaken e))
+  wrote-length f remote t Overflow h sound x = refl
+  wrote-length f remote t Early h sound x = refl
+
+  write-length : (remote : RemoteId) (local : LocalId) → length (writeOf p n ss remote local payload rx .rx) ≡ length rx
+  unfolding writeOf wroteAt
+  write-length remote local =
+      let f = placeOf (Local local) n ss in
+      let P : Dispatched → Type 0 = λ d. length (d .rx) ≡ length rx in
+      pick P (ltb f n)
+      (λ t. let h = ltb-true f n t in
+      let fill = found-filled p n ss rx ok local h in
+      pick P (isFailed (slotIn ss f .failed)) (λ u. refl)
+      (λ u. wrote-length f remote _ _ h (ok .sound f fill) (decides (slotIn ss f) p (length payload) (ok .opened f fill))))
+      (λ t. refl)
+
+  route-length : (c : Command) (a l : ℕ) → length (routeOf p n ss c a l payload rx .rx) ≡ length rx
+  unfolding routeOf
+  route-length Connect a l = refl
+  route-length Auth a l = refl
+  route-length StartTls a l = refl
+  route-length Open a l = refl
+  route-length Close a l = refl
+  route-length Write a l = write-length (record { 0 = a }) (record { 0 = l })
+  route-length Ready a l = refl
+  route-length Sync a l = refl
+
+module _ (h : Header) (ss : List ChannelSlot) (opens : List PendingOpen) (rx store : List ℕ) (k : Packet) (payload : List ℕ) (ok : TableOk (policyOf (h .negotiated)) (h .negotiated .config .channels) ss rx) where
+  pub acted-length : length (actOn h ss opens rx store k payload .rx) ≡ length rx
+  unfolding tableOf dispatchOf
+  acted-length =
+      ap length (same h ss opens rx store k payload .rx)
+      ∙ route-length (policyOf (h .negotiated)) (h .negotiated .config .channels) ss rx ok payload (k .command) (k .arg0) (k .arg1)
+
+-- ---- what stays of a slot
+
+module _ (p : RxPolicy) (s : ChannelSlot) (q payload : List ℕ) (sound : SlotOk s (p .«rx_cap»)) where
+  -- its numbers within its share
+  pub at-sound : (mine ends : Bool) (t : ChannelSlot) (r : List ℕ) (fault : Failed) → At p s q payload mine ends t r fault → SlotOk t (p .«rx_cap»)
+  at-sound mine ends t r fault (apart e1 e2 e3 e4) = subst (λ (x : ChannelSlot). SlotOk x (p .«rx_cap»)) (sym e3) sound
+  at-sound mine ends t r fault (wrote e1 h e3 e4 e5) = subst (λ (x : ChannelSlot). SlotOk x (p .«rx_cap»)) (sym e3) (wrote-sound s p (length payload) sound)
+  at-sound mine ends t r fault (over e1 h e3 e4 e5) = subst (λ (x : ChannelSlot). SlotOk x (p .«rx_cap»)) (sym e3) sound
+  at-sound mine ends t r fault (credited e1 e2 e3 e4) = subst (Readied-sound (p .«rx_cap»)) e3 (ready-sound s payload p (p .«rx_cap») sound)
+  at-sound mine ends t r fault (shut e1 e2 e3 e4) = subst (λ (x : ChannelSlot). SlotOk x (p .«rx_cap»)) (sym e3) (closed-sound s (p .«rx_cap») sound)
+
+-- a WRTE of its own that fits is not refused, and does not close it
+wrote-state : (s : ChannelSlot) (p : RxPolicy) (k : ℕ) → wroteOf s p k .slot .state ≡ s .state
+unfolding wroteOf bufferedWith
+wrote-state s p k =
+    let P : Wrote → Type 0 = λ w. w .slot .state ≡ s .state in
+    pick P (isOpening (s .state)) (λ o. refl)
+    (λ o. pick P (ltb (p .«rx_cap») (heldOf s + k)) (λ h. refl) (λ h. pick P (acksNow s p (heldOf s + k)) (λ a. refl) (λ a. refl)))
+
+abbrev faulty : Failed → Bool
+faulty No = false
+faulty (By f) = true
+
+module _ (p : RxPolicy) (s : ChannelSlot) (q payload : List ℕ) (mine ends : Bool) (t : ChannelSlot) (r : List ℕ) (fault : Failed) (x : At p s q payload mine ends t r fault) (own : mine ≡ true) where
+  pub at-fits : heldOf s + length payload ≤ p .«rx_cap» → fault ≡ By RxOverflow → ⊥
+  at-fits h e = fits-by x h e
+    where
+      fits-by : At p s q payload mine ends t r fault → heldOf s + length payload ≤ p .«rx_cap» → fault ≡ By RxOverflow → ⊥
+      fits-by (apart e1 e2 e3 e4) h e = true≢false (sym own ∙ e1)
+      fits-by (wrote e1 k e3 e4 e5) h e = true≢false (ap faulty (sym e ∙ e5))
+      fits-by (over e1 k e3 e4 e5) h e = omega arith
+      fits-by (credited e1 e2 e3 e4) h e = true≢false (sym own ∙ e1)
+      fits-by (shut e1 e2 e3 e4) h e = true≢false (sym own ∙ e1)
+
+  pub at-live : isClosed (s .state) ≡ false → isClosed (t .state) ≡ false
+  at-live h = live-by x h
+    where
+      live-by : At p s q payload mine ends t r fault → isClosed (s .state) ≡ false → isClosed (t .state) ≡ false
+      live-by (apart e1 e2 e3 e4) h = absurd (true≢false (sym own ∙ e1))
+      live-by (wrote e1 k e3 e4 e5) h = ap (λ (y : ChannelSlot). isClosed (y .state)) e3 ∙ ap isClosed (wrote-state s p (length payload)) ∙ h
+      live-by (over e1 k e3 e4 e5) h = ap (λ (y : ChannelSlot). isClosed (y .state)) e3 ∙ h
+      live-by (credited e1 e2 e3 e4) h = absurd (true≢false (sym own ∙ e1))
+      live-by (shut e1 e2 e3 e4) h = absurd (true≢false (sym own ∙ e1))
 
 -- what an answer tells of a WRTE of the slot's own: not refused where it was taken, 11 where it did not fit
 pub record Tells (mine : Bool) (fault : Failed) (a : Answer) : Type 0 where

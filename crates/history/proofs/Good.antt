@@ -65,6 +65,7 @@ pub record Good (p : RxPolicy) (credit : ℕ) (s : ChannelSlot) (q : List ℕ) (
 -- what limits that are kept give
 pub record Limits (p : RxPolicy) (credit most : ℕ) : Type 0 where
   pub fits : credit + most ≤ suc (p .«rx_cap»)
+  pub payload : most ≤ p .«rx_cap»
   pub small : p .«rx_cap» ≤ 16777216
 
 -- the credit that an acknowledgement's OKAY carries: none where acknowledgements are not delayed
@@ -97,7 +98,7 @@ ack-delayed s p n rest d =
     (λ y. ap ackLength (cond-false (eqb (min n (s .unacked)) 0) Nothing _ y)))
 
 -- some bytes are set aside already; or n may be, and a is acknowledged
-data Settles (s : ChannelSlot) (p : RxPolicy) (n : ℕ) (r : Settled) : Type 0 where
+pub data Settles (s : ChannelSlot) (p : RxPolicy) (n : ℕ) (r : Settled) : Type 0 where
   already : eqb (s .settled) 0 ≡ false → r ≡ acked s Nothing → Settles s p n r
   not-due : s .settled ≡ 0 → (p .delayed ≡ true → 0 ≡ min n (s .unacked)) → r ≡ acked s Nothing → Settles s p n r
   due : (k : ℕ) → s .settled ≡ 0 → (p .delayed ≡ true → k ≡ min n (s .unacked)) → r ≡ acked (withNumbers s (s .unacked - k) n (s .head) (s .buffered)) (Len k) → Settles s p n r
@@ -107,7 +108,7 @@ unfolding settledBy ackLength
 settles-by s p n (Len k) z h = due k z h refl
 settles-by s p n Nothing z h = not-due z h refl
 
-settles : (s : ChannelSlot) (p : RxPolicy) (want : ℕ) → s .«has_remote» ≡ true → Settles s p (min want (s .buffered)) (settledOf s p want)
+pub settles : (s : ChannelSlot) (p : RxPolicy) (want : ℕ) → s .«has_remote» ≡ true → Settles s p (min want (s .buffered)) (settledOf s p want)
 unfolding settledOf settledSome
 settles s p want k =
     let n = min want (s .buffered) in
@@ -215,6 +216,40 @@ module _ (p : RxPolicy) (credit : ℕ) (s : ChannelSlot) (q : List ℕ) (b : Boo
   -- a settling, with the credit of its OKAY
   pub settle-good : Good p credit (settledOf s p want .slot) q (ackedB (carried p (settledOf s p want .ack)) (settleB p want b))
   settle-good = settle-by (settledOf s p want) (settles s p want (g .known))
+
+len-zero : (k : ℕ) → k ≡ 0 → ackLength (Len k) ≡ 0
+unfolding ackLength
+len-zero k h = h
+
+-- with nothing buffered a settling acknowledges nothing in delayed mode
+carried-by : (s : ChannelSlot) (p : RxPolicy) (n : ℕ) (r : Settled) → n ≡ 0 → Settles s p n r → carried p (r .ack) ≡ 0
+carried-by s p n r z (already y e) = ap (λ (x : Settled). carried p (x .ack)) e ∙ carried-none p
+carried-by s p n r z (not-due y f e) = ap (λ (x : Settled). carried p (x .ack)) e ∙ carried-none p
+carried-by s p n r z (due k y f e) =
+    ap (λ (x : Settled). carried p (x .ack)) e
+    ∙ by-test (p .delayed) (λ d. let h = f d in carried-delayed p (Len k) d ∙ len-zero k (omega arith)) (λ d. carried-plain p (Len k) d)
+
+pub settle-empty : (s : ChannelSlot) (p : RxPolicy) (want : ℕ) → s .«has_remote» ≡ true → s .buffered ≡ 0 → carried p (settledOf s p want .ack) ≡ 0
+settle-empty s p want k z = carried-by s p (min want (s .buffered)) (settledOf s p want) (omega arith) (settles s p want k)
+
+-- credit of 0 is none
+pub acked-drop : (p : RxPolicy) (credit : ℕ) (s : ChannelSlot) (q : List ℕ) (b : Book) (k : ℕ) → k ≡ 0 → Good p credit s q (ackedB k b) → Good p credit s q b
+acked-drop p credit s q b k z g =
+    let m = g .nums in
+    record {
+      filled = g .filled;
+      known = g .known;
+      there = g .there;
+      loc = g .loc;
+      rem = g .rem;
+      opened = g .opened;
+      run = g .run;
+      stream = g .stream;
+      ends = g .ends;
+      kept = g .kept;
+      nums = record { all = m .all; inside = m .inside; room = m .room; within = m .within; counted = m .counted; acks = omega arith };
+      owed = λ d c. let o = g .owed d c in record { same = o .same; held = o .held; low = omega arith; high = omega arith };
+    }
 
 -- ---- the other moves
 

@@ -153,22 +153,22 @@ grown s p k o h =
     (pick G (acksNow s p (heldOf s + k)) (λ t. record { head = refl; more = refl }) (λ t. record { head = refl; more = refl }))
 
 -- a share has room for what its slot takes
-room-for : (s : ChannelSlot) (p : RxPolicy) (k : ℕ) → SlotOk s (p .«rx_cap») → heldOf s + k ≤ p .«rx_cap» → Room (2 * p .«rx_cap») (s .head) (s .buffered) k
+pub room-for : (s : ChannelSlot) (p : RxPolicy) (k : ℕ) → SlotOk s (p .«rx_cap») → heldOf s + k ≤ p .«rx_cap» → Room (2 * p .«rx_cap») (s .head) (s .buffered) k
 unfolding heldOf
 room-for s p k ok h = record { run-fits = ok .run-fits; more-fits = omega arith }
 
 -- what `apply_write` decides
-abbrev isTaken : AckDecision → Bool
+abbrev pub isTaken : AckDecision → Bool
 isTaken (Now len) = true
 isTaken Hold = true
 isTaken Overflow = false
 isTaken Early = false
 
-data Decides (s : ChannelSlot) (p : RxPolicy) (k : ℕ) (d : AckDecision) : Type 0 where
+pub data Decides (s : ChannelSlot) (p : RxPolicy) (k : ℕ) (d : AckDecision) : Type 0 where
   buffers : isTaken d ≡ true → heldOf s + k ≤ p .«rx_cap» → Decides s p k d
   overflows : d ≡ Overflow → p .«rx_cap» < heldOf s + k → Decides s p k d
 
-decides : (s : ChannelSlot) (p : RxPolicy) (k : ℕ) → isOpening (s .state) ≡ false → Decides s p k (wroteOf s p k .decision)
+pub decides : (s : ChannelSlot) (p : RxPolicy) (k : ℕ) → isOpening (s .state) ≡ false → Decides s p k (wroteOf s p k .decision)
 unfolding wroteOf
 decides s p k o =
     let G : Wrote → Type 0 = λ w. Decides s p k (w .decision) in

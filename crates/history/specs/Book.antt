@@ -186,8 +186,9 @@ packetB d i received mine o b =
     (cond (eqb (numberOf (o .answer)) 4) (damagedB (b .acked) (headerAt received) (payloadAt received (o .used)) b)
     (cond (mine (headerAt received)) b (frameB d i (b .acked) (headerAt received) (payloadAt received (o .used)) (o .answer) b)))
 
-abbrev pub acksB : Seen → Book → Book
-acksB o b = ackedB (acksOf (b .local) (o .sent)) b
+-- the OKAYs that it wrote with this local number
+abbrev pub acksB : ℕ → Seen → Book → Book
+acksB l o b = ackedB (acksOf l (o .sent)) b
 
 -- ---- a read and a write on the channel
 
@@ -232,15 +233,15 @@ endsOther d ch m = ownEnd (ch .local .0) (getD d (ch .slot) noMark .remote) m
 
 -- for a channel that is in the table
 unfoldable pub entryOn : RxPolicy → List Mark → ℕ → Call → Seen → Book → Book
-entryOn p d i (openCall out destination received) o b = acksB o (packetB d i (bytesIn received) (endsOpen (o .answer)) o b)
-entryOn p d i (dispatchCall out received) o b = acksB o (packetB d i (bytesIn received) never o b)
-entryOn p d i (settleCall out ch want) o b = acksB o (cond (isOn i b ch && not (isEarly (o .answer))) (settleB p want b) b)
+entryOn p d i (openCall out destination received) o b = acksB (b .local) o (packetB d i (bytesIn received) (endsOpen (o .answer)) o b)
+entryOn p d i (dispatchCall out received) o b = acksB (b .local) o (packetB d i (bytesIn received) never o b)
+entryOn p d i (settleCall out ch want) o b = acksB (b .local) o (cond (isOn i b ch && not (isEarly (o .answer))) (settleB p want b) b)
 entryOn p d i (takeCall ch buf) o b = cond (isOn i b ch) (handedB (o .got) b) b
 entryOn p d i (readCall out ch buf received) o b =
     cond (isOn i b ch) (readB p d i (length buf) (bytesIn received) o (acksOf (b .local) (o .sent)) b)
-    (acksB o (packetB d i (bytesIn received) (endsOther d ch) o b))
+    (acksB (b .local) o (packetB d i (bytesIn received) (endsOther d ch) o b))
 entryOn p d i (writeCall out ch bytes received) o b =
-    acksB o (cond (isOn i b ch) (writeB d i (bytesIn received) o b) (packetB d i (bytesIn received) (endsOther d ch) o b))
+    acksB (b .local) o (cond (isOn i b ch) (writeB d i (bytesIn received) o b) (packetB d i (bytesIn received) (endsOther d ch) o b))
 entryOn p d i (closeCall out ch) o b = cond (isOn i b ch && not (isRefused (o .answer))) noBook b
 entryOn p d i frontTaken o b = b
 

@@ -1,0 +1,204 @@
+-- Each call beside the book of a channel: parts that the calls share. Assumes nothing.
+use mathlib.Core.Path.{_≡_, refl, sym, ap, subst, _∙_}
+use mathlib.Core.Bool.{Bool, true, false, not, cond, _&&_, _||_, true≢false}
+use mathlib.Core.List.{List, [], _∷_, _++_, map, append-nil}
+use Prim.Native.Nat.{ℕ, zero, suc, _+_, _-_, _*_, _≤_, _<_, min}
+use native.Mathlib.Omega.{arith}
+use lib.Dec.{eqb, ltb, leb}
+use lib.ListN.{length, take, drop, set, length-set}
+use borrow.Author.Tests.{eqb-true, eqb-false, eq-eqb, ne-eqb}
+use Rattle.le.proofs.Parts.{by-test}
+use Rattle.config.specs.declared.negotiated.RxPolicy.{RxPolicy}
+use Rattle.config.proofs.Laws.{and-true}
+use Rattle.config.specs.Negotiated.{policyOf}
+use Rattle.protocol.specs.declared.packet.Packet.{Packet}
+use Rattle.protocol.specs.declared.message.Message.{Message}
+use Rattle.protocol.proofs.RoundTrip.{Says}
+use Rattle.slot.specs.declared.ChannelFault.the-variants.{RxOverflow, ShortReadyPayload, UnexpectedCommand}
+use Rattle.slot.specs.declared.ChannelSlot.{ChannelSlot}
+use Rattle.slot.specs.declared.Failed.{Failed}
+use Rattle.slot.specs.declared.Failed.the-variants.{No, By}
+use Rattle.slot.specs.declared.PendingAck.{PendingAck}
+use Rattle.slot.specs.declared.PendingAck.the-variants.{Len, Nothing}
+use Rattle.slot.specs.declared.Settled.{Settled}
+use Rattle.slot.specs.Slot.{withNumbers, acked, isOpening, isFailed, isClosed, deliveredOf, settledOf, tookOf, SlotOk}
+use Rattle.slot.proofs.Kept.{pick, settled-sound}
+use Rattle.slot.proofs.Laws.{cond-true, cond-false}
+use Rattle.state.specs.Change.{Change, slotTo, headerTo}
+use Rattle.state.specs.declared.Header.{Header}
+use Rattle.state.specs.declared.PendingOpen.{PendingOpen}
+use Rattle.table.specs.Dispatch.{slotIn, shareOf}
+use Rattle.connection.specs.declared.Answer.{Answer}
+use Rattle.connection.specs.declared.Answer.the-variants.{Done, Waiting, Refused}
+use Rattle.connection.specs.declared.Refusal.{Refusal}
+use Rattle.connection.specs.Act.{Acted, actOn}
+use Rattle.connection.specs.Answer.{refusalNumber, numberOf}
+use Rattle.connection.specs.Calls.{Lent, Outcome, Work, begun, then, thenActed, ends, policy, bodyOf, frameLen, unlessFault, faultRefusal, isWrite}
+use Rattle.connection.specs.Frames.{Frame}
+use Rattle.history.specs.Run.{Sent, Seen}
+use Rattle.history.specs.Book.{Book, Mark, sentB, ackedB, handedB, settleB, isRefused, isWrte, headerAt, payloadAt, damagedB, frameB, packetB, acksOf, acksB, closesB}
+use Rattle.history.specs.Demand3.{runOf}
+use Rattle.history.proofs.Acts.{acksIn, acks-append, mineOf, endsOf, acted-acks, acted-at, Tells, good-by, at-good}
+use Rattle.history.proofs.Good.{Good, Limits, Settles, already, not-due, due, settles, sent-good, acked-none}
+use Rattle.history.proofs.Packets.{Stops, markOf, reads-write, reads-arg1, reads-payload, body-small, closes-agree}
+use Rattle.history.proofs.Places.{slotsBy, slots-append, slot-set-same, slot-set-other, SameRun, TableOk}
+
+-- ---- what a caller sees
+
+-- with these frames in the outgoing buffer
+abbrev pub seenOf : Outcome → List Sent → Seen
+seenOf x fs = record { answer = x .answer; used = x .used; sent = fs; got = x .handed }
+
+pub nil-of : (l : List ℕ) → length l ≡ 0 → l ≡ []
+nil-of [] e = refl
+nil-of (x ∷ l) e = absurd (omega arith)
+
+pub and-cond : (x y : Bool) → (x && y) ≡ cond x y false
+and-cond true y = refl
+and-cond false y = refl
+
+-- ---- slots that are the same channel
+
+pub record Alike (s t : ChannelSlot) : Type 0 where
+  pub filled : t .filled ≡ s .filled
+  pub local : t .local ≡ s .local
+  pub remote : t .remote ≡ s .remote
+  pub known : t .«has_remote» ≡ s .«has_remote»
+  pub state : t .state ≡ s .state
+  pub failed : t .failed ≡ s .failed
+
+alike-by : (s : ChannelSlot) (p : RxPolicy) (n : ℕ) (r : Settled) → Settles s p n r → Alike s (r .slot)
+alike-by s p n r (already z e) = subst (λ (x : Settled). Alike s (x .slot)) (sym e) (record { filled = refl; local = refl; remote = refl; known = refl; state = refl; failed = refl })
+alike-by s p n r (not-due z f e) = subst (λ (x : Settled). Alike s (x .slot)) (sym e) (record { filled = refl; local = refl; remote = refl; known = refl; state = refl; failed = refl })
+alike-by s p n r (due k z f e) = subst (λ (x : Settled). Alike s (x .slot)) (sym e) (record { filled = refl; local = refl; remote = refl; known = refl; state = refl; failed = refl })
+
+-- a settling leaves the channel, and its run
+pub settled-alike : (s : ChannelSlot) (p : RxPolicy) (want : ℕ) → s .«has_remote» ≡ true → Alike s (settledOf s p want .slot)
+settled-alike s p want k = alike-by s p (min want (s .buffered)) (settledOf s p want) (settles s p want k)
+
+run-by : (s : ChannelSlot) (p : RxPolicy) (n : ℕ) (r : Settled) → Settles s p n r → SameRun s (r .slot)
+run-by s p n r (already z e) = subst (λ (x : Settled). SameRun s (x .slot)) (sym e) (record { head = refl; more = refl })
+run-by s p n r (not-due z f e) = subst (λ (x : Settled). SameRun s (x .slot)) (sym e) (record { head = refl; more = refl })
+run-by s p n r (due k z f e) = subst (λ (x : Settled). SameRun s (x .slot)) (sym e) (record { head = refl; more = refl })
+
+pub settled-run : (s : ChannelSlot) (p : RxPolicy) (want : ℕ) → s .«has_remote» ≡ true → SameRun s (settledOf s p want .slot)
+settled-run s p want k = run-by s p (min want (s .buffered)) (settledOf s p want) (settles s p want k)
+
+-- delivering leaves the run and the numbers of the channel
+pub delivered-same : (s : ChannelSlot) (p : RxPolicy) (n : ℕ) → SameRun s (deliveredOf s p n .slot) × (deliveredOf s p n .slot .local ≡ s .local)
+unfolding deliveredOf
+delivered-same s p n =
+    let P : Settled → Type 0 = λ r. SameRun s (r .slot) × (r .slot .local ≡ s .local) in
+    pick P (p .delayed) (λ d. (record { head = refl; more = refl }, refl))
+    (λ d. pick P (leb (p .watermark) (s .buffered)) (λ t. (record { head = refl; more = refl }, refl))
+    (λ t. pick P (s .«has_remote») (λ k. (record { head = refl; more = refl }, refl)) (λ k. (record { head = refl; more = refl }, refl))))
+
+-- a table stays one where a channel's slot changes in its numbers
+pub table-set : (p : RxPolicy) (n : ℕ) (ss : List ChannelSlot) (rx : List ℕ) (j : ℕ) (t : ChannelSlot) → TableOk p n ss rx → slotIn ss j .filled ≡ true
+    → Alike (slotIn ss j) t → SlotOk t (p .«rx_cap») → TableOk p n (set ss j t) rx
+table-set p n ss rx j t ok there a sound =
+    record {
+      size = length-set ss j t ∙ ok .size;
+      most = ok .most;
+      small = ok .small;
+      shares = ok .shares;
+      below = λ k f. at k (λ (s : ChannelSlot). s .filled ≡ true → k < n) (λ e f. subst (λ (x : ℕ). x < n) (sym e) (ok .below j there)) (ok .below k) f;
+      sound = λ k f. at k (λ (s : ChannelSlot). s .filled ≡ true → SlotOk s (p .«rx_cap»)) (λ e f. sound) (ok .sound k) f;
+      unfailed = λ k f. at k (λ (s : ChannelSlot). s .filled ≡ true → isFailed (s .failed) ≡ false) (λ e f. ap isFailed (a .failed) ∙ ok .unfailed j there) (ok .unfailed k) f;
+      opened = λ k f. at k (λ (s : ChannelSlot). s .filled ≡ true → isOpening (s .state) ≡ false) (λ e f. ap isOpening (a .state) ∙ ok .opened j there) (ok .opened k) f;
+      known = λ k f. at k (λ (s : ChannelSlot). s .filled ≡ true → s .«has_remote» ≡ true) (λ e f. a .known ∙ ok .known j there) (ok .known k) f;
+      apart = λ x y f g e. ok .apart x y (sym (same-filled x) ∙ f) (sym (same-filled y) ∙ g) (sym (same-local x) ∙ e ∙ same-local y);
+    }
+  where
+    inside : j < length ss
+    inside = let z = ok .size in let y = ok .most in let b = ok .below j there in omega arith
+
+    at : (k : ℕ) (P : ChannelSlot → Type 0) → (k ≡ j → P t) → P (slotIn ss k) → P (slotIn (set ss j t) k)
+    at k P f g =
+        by-test (eqb k j)
+        (λ u. let e = eqb-true k j u in subst P (sym (ap (λ (x : ℕ). slotIn (set ss j t) x) e ∙ slot-set-same ss j t inside)) (f e))
+        (λ u. subst P (sym (slot-set-other ss j k t (eqb-false k j u))) g)
+
+    same-filled : (x : ℕ) → slotIn (set ss j t) x .filled ≡ slotIn ss x .filled
+    same-filled x = at x (λ (s : ChannelSlot). s .filled ≡ slotIn ss x .filled) (λ e. a .filled ∙ ap (λ (y : ℕ). slotIn ss y .filled) (sym e)) refl
+
+    same-local : (x : ℕ) → slotIn (set ss j t) x .local .0 ≡ slotIn ss x .local .0
+    same-local x = at x (λ (s : ChannelSlot). s .local .0 ≡ slotIn ss x .local .0) (λ e. ap (λ y. y .0) (a .local) ∙ ap (λ (y : ℕ). slotIn ss y .local .0) (sym e)) refl
+
+-- ---- a packet, or none, to a call that is on no channel or on another
+
+module _ (p : RxPolicy) (credit most : ℕ) (lim : Limits p credit most) (s : ChannelSlot) (q : List ℕ) (b : Book) (g : Good p credit s q b)
+    (d : List Mark) (i : ℕ) (received : List ℕ) (mine : Message → Bool) where
+  -- a frame refused by 4
+  pub damaged-good : (before : ℕ) (m : Message) (bs : List ℕ) → Good p credit s q (damagedB before m bs b)
+  unfolding damagedB
+  damaged-good before m bs = pick (Good p credit s q) (isWrte m && eqb (m .arg1) (b .local)) (λ t. sent-good p credit s q b g before (length bs)) (λ t. g)
+
+  -- none
+  pub stop-good : (a : Answer) (used : ℕ) (fs : List Sent) (got : List ℕ) → Stops a used → Good p credit s q (packetB d i received mine (record { answer = a; used = used; sent = fs; got = got }) b)
+  unfolding packetB
+  stop-good a used fs got st =
+      pick (Good p credit s q) (eqb used 0) (λ t. g)
+      (λ t. pick (Good p credit s q) (eqb (numberOf a) 4) (λ u. damaged-good (b .acked) (headerAt received) (payloadAt received used))
+      (λ u. absurd (eqb-false used 0 t (st .quiet u))))
+
+  -- one that was dispatched
+  pub packet-good : (limit : ℕ) (k : Packet) (a : Answer) (fs : List Sent) (got : List ℕ) (t : ChannelSlot) (r : List ℕ) → Says received limit k → eqb (numberOf a) 4 ≡ false → mine (headerAt received) ≡ false
+      → Good p credit t r (frameB d i (b .acked) (headerAt received) (bodyOf received k) a b)
+      → Good p credit t r (packetB d i received mine (record { answer = a; used = frameLen k; sent = fs; got = got }) b)
+  unfolding packetB
+  packet-good limit k a fs got t r sy four other h =
+      good-by p credit t t r r _ _ refl refl
+      (cond-false (eqb (frameLen k) 0) _ _ (ne-eqb (frameLen k) 0 (λ e. omega arith)) ∙ cond-false (eqb (numberOf a) 4) _ _ four ∙ cond-false (mine (headerAt received)) _ _ other
+      ∙ ap (λ (x : List ℕ). frameB d i (b .acked) (headerAt received) x a b) (reads-payload received limit k sy)) h
+
+-- an answer after dispatching: 11 where a WRTE did not fit
+pub not-four : (fault : Failed) (a : Answer) → eqb (numberOf a) 4 ≡ false → eqb (numberOf (unlessFault fault a)) 4 ≡ false
+unfolding unlessFault faultRefusal numberOf refusalNumber
+not-four No a e = e
+not-four (By RxOverflow) a e = refl
+not-four (By ShortReadyPayload) a e = refl
+not-four (By UnexpectedCommand) a e = refl
+
+pub tells-fault : (mine : Bool) (fault : Failed) (a : Answer) → isRefused a ≡ false → Tells mine fault (unlessFault fault a)
+unfolding unlessFault faultRefusal numberOf refusalNumber
+tells-fault mine fault a e =
+    record {
+      taken = λ m f. ap (λ (x : Failed). isRefused (unlessFault x a)) f ∙ e;
+      over = λ m f. (ap (λ (x : Failed). isRefused (unlessFault x a)) f, ap (λ (x : Failed). eqb (numberOf (unlessFault x a)) 11) f);
+    }
+
+-- ---- the place of one channel in a call
+
+-- the slot at place i after an outcome, beside a book
+abbrev pub Fine : RxPolicy → ℕ → List ChannelSlot → ℕ → Outcome → Book → Type 0
+Fine p credit ss i x b = Good p credit (slotIn (slotsBy ss (x .changes)) i) (runOf (x .rx) (p .«rx_cap») i (slotIn (slotsBy ss (x .changes)) i)) b
+
+-- what a call's end leaves of the slots: the header is no slot
+pub ends-fine : (p : RxPolicy) (credit : ℕ) (ss : List ChannelSlot) (i : ℕ) (w : Work) (a : Answer) (used : ℕ) (handed : List ℕ) (b : Book)
+    → Good p credit (slotIn (slotsBy ss (w .changes)) i) (runOf (w .rx) (p .«rx_cap») i (slotIn (slotsBy ss (w .changes)) i)) b → Fine p credit ss i (ends w a used handed) b
+unfolding ends
+ends-fine p credit ss i w a used handed b g =
+    let e : slotsBy ss (w .changes ++ headerTo (w .header) ∷ []) ≡ slotsBy ss (w .changes) = slots-append ss (w .changes) (headerTo (w .header) ∷ []) in
+    good-by p credit _ _ _ _ b b (ap (λ (x : List ChannelSlot). slotIn x i) e) (ap (λ (x : List ChannelSlot). runOf (w .rx) (p .«rx_cap») i (slotIn x i)) e) refl g
+
+-- a packet that is dispatched: the slot at place i, and its book
+module _ (h : Header) (ss : List ChannelSlot) (opens : List PendingOpen) (rx store : List ℕ) (ok : TableOk (policyOf (h .negotiated)) (h .negotiated .config .channels) ss rx)
+    (credit : ℕ) (lim : Limits (policyOf (h .negotiated)) credit (h .negotiated .config .«max_payload»)) (i : ℕ) (there : slotIn ss i .filled ≡ true)
+    (b : Book) (g : Good (policyOf (h .negotiated)) credit (slotIn ss i) (runOf rx (policyOf (h .negotiated) .«rx_cap») i (slotIn ss i)) b) where
+  pub acted-good : (d : List Mark) → d ≡ map markOf ss → (received : List ℕ) (k : Packet) → Says received (h .negotiated .config .«max_payload») k → (before : ℕ) → before ≤ b .acked → (a : Answer)
+      → Tells (mineOf ss i k) (actOn h ss opens rx store k (bodyOf received k) .fault) a
+      → Good (policyOf (h .negotiated)) credit (slotIn (slotsBy ss (actOn h ss opens rx store k (bodyOf received k) .changes)) i)
+      (runOf (actOn h ss opens rx store k (bodyOf received k) .rx) (policyOf (h .negotiated) .«rx_cap») i (slotIn (slotsBy ss (actOn h ss opens rx store k (bodyOf received k) .changes)) i))
+      (frameB d i before (headerAt received) (bodyOf received k) a b)
+  acted-good d e received k sy before early a tells =
+      let limit = h .negotiated .config .«max_payload» in
+      let n = h .negotiated .config .channels in
+      let p = policyOf (h .negotiated) in
+      let m = headerAt received in
+      at-good p credit limit lim (slotIn ss i) (runOf rx (p .«rx_cap») i (slotIn ss i)) b g (ok .opened i there) (bodyOf received k) (body-small received limit k sy) before early d i m a
+      (mineOf ss i k) (endsOf n ss i k) _ _ _ (acted-at h ss opens rx store k (bodyOf received k) ok i there) tells
+      (ap (λ (x : Bool). x && eqb (m .arg1) (b .local)) (reads-write received limit k sy)
+      ∙ ap (λ (x : ℕ). isWrite (k .command) && eqb x (b .local)) (reads-arg1 received limit k sy)
+      ∙ ap (λ (x : ℕ). isWrite (k .command) && eqb (k .arg1) x) (g .loc))
+      (ap (λ (x : List Mark). closesB x i b m) e ∙ closes-agree p n ss rx ok i there b received limit k sy (g .loc))
