@@ -1,6 +1,11 @@
 pub mod Acts
 pub mod Entries
 pub mod Good
+pub mod Never13
 pub mod Packets
 pub mod Places
+pub mod Received
 pub mod Steps
+pub mod WholeAct
+pub mod WholeCalls
+pub mod WholeWork

@@ -1,3 +1,4 @@
 pub mod Book
 pub mod Demand3
+pub mod Never13
 pub mod Run

@@ -1,4 +1,5 @@
 pub mod KeptLaws
 pub mod Laws
+pub mod QueueLaws
 pub mod ShareLaws
 pub mod WaitLaws

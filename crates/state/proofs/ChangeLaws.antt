@@ -76,6 +76,11 @@ pub changes-fit : (c : Connection) (xs : List Change) → Fits c → Every Chang
 changes-fit c [] f g = f
 changes-fit c (x ∷ xs) f g = changes-fit (changed c x) xs (changed-fits c x f (g .0)) (g .1)
 
+-- changes one behind the other
+pub changes-append : (c : Connection) (xs ys : List Change) → changedAll c (xs ++ ys) ≡ changedAll (changedAll c xs) ys
+changes-append c [] ys = refl
+changes-append c (x ∷ xs) ys = changes-append (changed c x) xs ys
+
 -- so the next call reads the state that this one left
 pub next-state : (b : List ℕ) (xs : List Change) (r : List ℕ) → Bytes b → Every ChangeFits xs → stateOf (layout (changedAll (stateOf b) xs) ++ r) ≡ changedAll (stateOf b) xs
 next-state b xs r y g = state-forth (changedAll (stateOf b) xs) r (changes-fit (stateOf b) xs (state-fits b y) g)

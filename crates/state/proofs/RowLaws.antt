@@ -152,6 +152,11 @@ every-drop P zero x e = e
 every-drop P (suc n) [] e = tt
 every-drop P (suc n) (a ∷ x) e = every-drop P n x (e .1)
 
+pub every-take : {A : Type 0} (P : A → Type 0) (k : ℕ) (x : List A) → Every P x → Every P (take k x)
+every-take P zero x e = tt
+every-take P (suc k) [] e = tt
+every-take P (suc k) (a ∷ x) e = (e .0, every-take P k x (e .1))
+
 module _ {A : Type 0} (size : ℕ) (bytes : A → List ℕ) (is : List ℕ → Bool) (sized : (a : A) → length (bytes a) ≡ size) (good : (a : A) → is (bytes a) ≡ true) where
   -- records' bytes pass the test
   pub all-flat : (x : List A) (r : List ℕ) → allIs size is (length x) (flat bytes x ++ r) ≡ true
