@@ -1,4 +1,5 @@
 pub mod Acts
 pub mod Good
+pub mod Heard
 pub mod Packets
 pub mod Places
