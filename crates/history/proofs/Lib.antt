@@ -3,3 +3,4 @@ pub mod Good
 pub mod Heard
 pub mod Packets
 pub mod Places
+pub mod Written
