@@ -163,10 +163,10 @@ pub data Rests (writes : Bool) (s t : ChannelSlot) : Type 0 where
   same : t ≡ s → Rests writes s t
   clear : t .unacked ≡ 0 → Rests writes s t
 
--- s the slot before, t after
-pub record Own (p : RxPolicy) (s : ChannelSlot) (writes : Bool) (t : ChannelSlot) : Type 0 where
+-- s the slot before, t after; sound where it is asked for
+pub record Own (Q : Type 0) (p : RxPolicy) (s : ChannelSlot) (writes : Bool) (t : ChannelSlot) : Type 0 where
   pub ids : IdsFit (idsIn t)
-  pub sound : SlotOk t (p .«rx_cap»)
+  pub sound : Q → SlotOk t (p .«rx_cap»)
   pub rests : Rests writes s t
 
 abbrev Readied-ids : Readied → Type 0
@@ -201,20 +201,20 @@ unfolding readiedOf
 readied-sound s r payload p cap ok =
     pick (Readied-sound cap) (isOpening (s .state)) (λ o. opened-sound s r payload p cap ok) (λ o. ready-sound s payload p cap ok)
 
-module _ (p : RxPolicy) (n : ℕ) (ss : List ChannelSlot) (i : ℕ) (fit : (j : ℕ) → IdsFit (idsIn (slotIn ss j))) (inside : i < length ss) (ok : SlotOk (slotIn ss i) (p .«rx_cap»)) where
+module _ (Q : Type 0) (p : RxPolicy) (n : ℕ) (ss : List ChannelSlot) (i : ℕ) (fit : (j : ℕ) → IdsFit (idsIn (slotIn ss j))) (inside : i < length ss) (ok : Q → SlotOk (slotIn ss i) (p .«rx_cap»)) where
   record Goes (x : Step DispatchOutcome) : Type 0 where
     result : OutFits p (x .result)
-    own : Own p (slotIn ss i) (mayWrite (x .result)) (slotIn (slotsBy ss (x .changes)) i)
+    own : Own Q p (slotIn ss i) (mayWrite (x .result)) (slotIn (slotsBy ss (x .changes)) i)
 
   goes-left : (o : DispatchOutcome) → OutFits p o → Goes (left o)
   goes-left o f = record { result = f; own = record { ids = fit i; sound = ok; rests = same refl } }
 
-  ok-at : (f : ℕ) → i ≡ f → SlotOk (slotIn ss f) (p .«rx_cap»)
-  ok-at f e = subst (λ (x : ℕ). SlotOk (slotIn ss x) (p .«rx_cap»)) e ok
+  ok-at : (f : ℕ) → i ≡ f → Q → SlotOk (slotIn ss f) (p .«rx_cap»)
+  ok-at f e q = subst (λ (x : ℕ). SlotOk (slotIn ss x) (p .«rx_cap»)) e (ok q)
 
-  goes-stored : (o : DispatchOutcome) (f : ℕ) (t : ChannelSlot) → OutFits p o → IdsFit (idsIn t) → (i ≡ f → SlotOk t (p .«rx_cap»)) → Rests (mayWrite o) (slotIn ss i) t → Goes (stored o f t)
+  goes-stored : (o : DispatchOutcome) (f : ℕ) (t : ChannelSlot) → OutFits p o → IdsFit (idsIn t) → (i ≡ f → Q → SlotOk t (p .«rx_cap»)) → Rests (mayWrite o) (slotIn ss i) t → Goes (stored o f t)
   goes-stored o f t h g s w =
-      let K : ChannelSlot → Type 0 = Own p (slotIn ss i) (mayWrite o) in
+      let K : ChannelSlot → Type 0 = Own Q p (slotIn ss i) (mayWrite o) in
       record {
         result = h;
         own =
@@ -238,8 +238,8 @@ module _ (p : RxPolicy) (n : ℕ) (ss : List ChannelSlot) (i : ℕ) (fit : (j : 
       pick G (acksNow s p (heldOf s + k))
       (λ a. goes-stored (AckWrite f (idsIn s) k) f (bufferedWith s p k 0)
       (fit f, λ d. absurd (true≢false (sym a ∙ cond-true (p .delayed) _ _ d)))
-      (record { local = fit f .local; remote = fit f .remote }) (λ e. buffered-sound s p k 0 b (ok-at f e)) (clear refl))
-      (λ a. goes-stored (DataBuffered f) f _ tt (record { local = fit f .local; remote = fit f .remote }) (λ e. buffered-sound s p k _ b (ok-at f e)) (quiet refl))))
+      (record { local = fit f .local; remote = fit f .remote }) (λ e q. buffered-sound s p k 0 b (ok-at f e q)) (clear refl))
+      (λ a. goes-stored (DataBuffered f) f _ tt (record { local = fit f .local; remote = fit f .remote }) (λ e q. buffered-sound s p k _ b (ok-at f e q)) (quiet refl))))
 
   goes-write : (remote : RemoteId) (local : LocalId) (payload rx : List ℕ) → Goes (writeOf p n ss remote local payload rx .step)
   unfolding writeOf wroteAt
@@ -251,7 +251,7 @@ module _ (p : RxPolicy) (n : ℕ) (ss : List ChannelSlot) (i : ℕ) (fit : (j : 
       (λ t. goes-left Unmatched tt)
 
   -- an OKAY
-  goes-granted : (f : ℕ) (remote : RemoteId) (r : Readied) → Readied-ids r → (i ≡ f → Readied-sound (p .«rx_cap») r) → Goes (granted f (slotIn ss f) remote r)
+  goes-granted : (f : ℕ) (remote : RemoteId) (r : Readied) → Readied-ids r → (i ≡ f → Q → Readied-sound (p .«rx_cap») r) → Goes (granted f (slotIn ss f) remote r)
   unfolding granted
   goes-granted f remote (Slot t) h s = goes-stored (CreditGranted f) f t tt h s (quiet refl)
   goes-granted f remote Short h s = goes-left (faulted f (slotIn ss f) remote ShortReadyPayload) tt
@@ -270,7 +270,7 @@ module _ (p : RxPolicy) (n : ℕ) (ss : List ChannelSlot) (i : ℕ) (fit : (j : 
       let s = slotIn ss f in
       pick Goes (ltb f n)
       (λ t. pick Goes (isFailed (s .failed)) (λ u. goes-left Unmatched tt)
-      (λ u. goes-granted f remote (readiedOf s remote payload p) (readied-ids s remote payload p (fit f) h) (λ e. readied-sound s remote payload p (p .«rx_cap») (ok-at f e))))
+      (λ u. goes-granted f remote (readiedOf s remote payload p) (readied-ids s remote payload p (fit f) h) (λ e q. readied-sound s remote payload p (p .«rx_cap») (ok-at f e q))))
       (λ t. goes-stray remote local h g)
 
   -- a CLSE
@@ -278,7 +278,7 @@ module _ (p : RxPolicy) (n : ℕ) (ss : List ChannelSlot) (i : ℕ) (fit : (j : 
   unfolding closedAt closedSlot
   goes-closed f other h =
       pick Goes (ltb f n)
-      (λ t. goes-stored (SlotClosed f) f (closedSlot (slotIn ss f)) tt (record { local = fit f .local; remote = fit f .remote }) (λ e. closed-sound (slotIn ss f) (p .«rx_cap») (ok-at f e)) (quiet refl))
+      (λ t. goes-stored (SlotClosed f) f (closedSlot (slotIn ss f)) tt (record { local = fit f .local; remote = fit f .remote }) (λ e q. closed-sound (slotIn ss f) (p .«rx_cap») (ok-at f e q)) (quiet refl))
       (λ t. goes-left other h)
 
   goes-close : (remote : RemoteId) (local : LocalId) → Goes (closeOf n ss remote local)
@@ -307,40 +307,40 @@ some [] = false
 some (f ∷ fs) = true
 
 -- the header keeps what was negotiated; at most one frame; what it leaves of the slot at place i
-pub record Acts (h : Header) (ss : List ChannelSlot) (i : ℕ) (a : Acted) : Type 0 where
+pub record Acts (Q : Type 0) (h : Header) (ss : List ChannelSlot) (i : ℕ) (a : Acted) : Type 0 where
   pub agreed : a .header .negotiated ≡ h .negotiated
   pub writes : Few (h .negotiated) 1 (a .frames)
-  pub own : Own (policyOf (h .negotiated)) (slotIn ss i) (some (a .frames)) (slotIn (slotsBy ss (a .changes)) i)
+  pub own : Own Q (policyOf (h .negotiated)) (slotIn ss i) (some (a .frames)) (slotIn (slotsBy ss (a .changes)) i)
 
 -- what changes no slot leaves the slot
-own-more : (p : RxPolicy) (s : ChannelSlot) (w : Bool) (ss : List ChannelSlot) (i : ℕ) (xs ys : List Change) → slotsBy (slotsBy ss xs) ys ≡ slotsBy ss xs
-    → Own p s w (slotIn (slotsBy ss xs) i) → Own p s w (slotIn (slotsBy ss (xs ++ ys)) i)
-own-more p s w ss i xs ys e o = subst (λ (x : List ChannelSlot). Own p s w (slotIn x i)) (sym (slots-append ss xs ys ∙ e)) o
+own-more : (Q : Type 0) (p : RxPolicy) (s : ChannelSlot) (w : Bool) (ss : List ChannelSlot) (i : ℕ) (xs ys : List Change) → slotsBy (slotsBy ss xs) ys ≡ slotsBy ss xs
+    → Own Q p s w (slotIn (slotsBy ss xs) i) → Own Q p s w (slotIn (slotsBy ss (xs ++ ys)) i)
+own-more Q p s w ss i xs ys e o = subst (λ (x : List ChannelSlot). Own Q p s w (slotIn x i)) (sym (slots-append ss xs ys ∙ e)) o
 
 -- a slot that may have rested does
-own-quiet : (p : RxPolicy) (s t : ChannelSlot) (w : Bool) → Own p s w t → Own p s false t
-own-quiet p s t w o = record { ids = o .ids; sound = o .sound; rests = quiet refl }
+own-quiet : (Q : Type 0) (p : RxPolicy) (s t : ChannelSlot) (w : Bool) → Own Q p s w t → Own Q p s false t
+own-quiet Q p s t w o = record { ids = o .ids; sound = o .sound; rests = quiet refl }
 
-module _ (h : Header) (ss : List ChannelSlot) (i : ℕ) (opens : List PendingOpen) (payload store : List ℕ) (d : Dispatched) where
+module _ (Q : Type 0) (h : Header) (ss : List ChannelSlot) (i : ℕ) (opens : List PendingOpen) (payload store : List ℕ) (d : Dispatched) where
   abbrev pol : RxPolicy
   pol = policyOf (h .negotiated)
 
   abbrev rested : Bool → Type 0
-  rested w = Own pol (slotIn ss i) w (slotIn (slotsBy ss (d .step .changes)) i)
+  rested w = Own Q pol (slotIn ss i) w (slotIn (slotsBy ss (d .step .changes)) i)
 
   calm : {w : Bool} → rested w → rested false
-  calm o = own-quiet pol (slotIn ss i) (slotIn (slotsBy ss (d .step .changes)) i) _ o
+  calm o = own-quiet Q pol (slotIn ss i) (slotIn (slotsBy ss (d .step .changes)) i) _ o
 
   -- an OPEN that is put behind the others, or refused
   acts-pushed : (remote : RemoteId) (credit : ℕ) → remote .0 < 2 ^ 32 → rested true
-      → Acts h ss i (pushedBy h store d remote (pushed h opens remote credit payload store) (pushed h opens remote credit payload store .result))
+      → Acts Q h ss i (pushedBy h store d remote (pushed h opens remote credit payload store) (pushed h opens remote credit payload store .result))
   unfolding pushed pushedBy
   acts-pushed remote credit g o =
-      pick (λ (x : PushOutcome). Acts h ss i (pushedBy h store d remote x (x .result))) (leb (h .negotiated .config .channels) (h .queued))
+      pick (λ (x : PushOutcome). Acts Q h ss i (pushedBy h store d remote x (x .result))) (leb (h .negotiated .config .channels) (h .queued))
       (λ t. record { agreed = refl; writes = few-close (h .negotiated) _ (record { local = omega arith; remote = g }); own = o })
-      (λ t. record { agreed = refl; writes = few-none (h .negotiated) 1; own = own-more pol (slotIn ss i) false ss i (d .step .changes) _ refl (calm o) })
+      (λ t. record { agreed = refl; writes = few-none (h .negotiated) 1; own = own-more Q pol (slotIn ss i) false ss i (d .step .changes) _ refl (calm o) })
 
-  acts-by : (o : DispatchOutcome) → OutFits pol o → rested (mayWrite o) → Acts h ss i (actedBy h opens payload store d o)
+  acts-by : (o : DispatchOutcome) → OutFits pol o → rested (mayWrite o) → Acts Q h ss i (actedBy h opens payload store d o)
   unfolding actedBy withdrawal policyOf
   acts-by (AckWrite j ids len) f w = record { agreed = refl; writes = few-okay (h .negotiated) ids len (f .0) (f .1); own = w }
   acts-by (CreditGranted j) f w = record { agreed = refl; writes = few-none (h .negotiated) 1; own = w }
@@ -348,17 +348,17 @@ module _ (h : Header) (ss : List ChannelSlot) (i : ℕ) (opens : List PendingOpe
   acts-by (DataBuffered j) f w = record { agreed = refl; writes = few-none (h .negotiated) 1; own = w }
   acts-by (IncomingOpen remote credit) f w = acts-pushed remote credit f w
   acts-by (CancelPendingOpen remote) f w =
-      record { agreed = refl; writes = few-none (h .negotiated) 1; own = own-more pol (slotIn ss i) false ss i (d .step .changes) _ refl w }
+      record { agreed = refl; writes = few-none (h .negotiated) 1; own = own-more Q pol (slotIn ss i) false ss i (d .step .changes) _ refl w }
   acts-by (StrayReady ids) f w = record { agreed = refl; writes = few-close (h .negotiated) ids f; own = w }
   acts-by (ChannelFault j ids opening g) f w = record { agreed = refl; writes = few-none (h .negotiated) 1; own = w }
   acts-by Unmatched f w = record { agreed = refl; writes = few-none (h .negotiated) 1; own = w }
 
-pub acts : (h : Header) (ss : List ChannelSlot) (opens : List PendingOpen) (rx store : List ℕ) (k : Packet) (payload : List ℕ) (i : ℕ)
-    → ((j : ℕ) → IdsFit (idsIn (slotIn ss j))) → i < length ss → SlotOk (slotIn ss i) (policyOf (h .negotiated) .«rx_cap») → k .arg0 < 2 ^ 32 → k .arg1 < 2 ^ 32
-    → Acts h ss i (actOn h ss opens rx store k payload)
+pub acts : (Q : Type 0) (h : Header) (ss : List ChannelSlot) (opens : List PendingOpen) (rx store : List ℕ) (k : Packet) (payload : List ℕ) (i : ℕ)
+    → ((j : ℕ) → IdsFit (idsIn (slotIn ss j))) → i < length ss → (Q → SlotOk (slotIn ss i) (policyOf (h .negotiated) .«rx_cap»)) → k .arg0 < 2 ^ 32 → k .arg1 < 2 ^ 32
+    → Acts Q h ss i (actOn h ss opens rx store k payload)
 unfolding actOn tableOf dispatchOf
-acts h ss opens rx store k payload i fit inside ok g0 g1 =
+acts Q h ss opens rx store k payload i fit inside ok g0 g1 =
     let p = policyOf (h .negotiated) in
     let n = h .negotiated .config .channels in
-    let g = goes-route p n ss i fit inside ok (k .command) (k .arg0) (k .arg1) payload rx g0 g1 in
-    acts-by h ss i opens payload store (tableOf h ss rx k payload) (tableOf h ss rx k payload .step .result) (g .result) (g .own)
+    let g = goes-route Q p n ss i fit inside ok (k .command) (k .arg0) (k .arg1) payload rx g0 g1 in
+    acts-by Q h ss i opens payload store (tableOf h ss rx k payload) (tableOf h ss rx k payload .step .result) (g .result) (g .own)
