@@ -1,37 +1,38 @@
--- What every call writes: at most two frames that are read back, within its buffers. Assumes nothing.
+-- What every call writes: at most two frames that are read back, within its buffers; so a caller sees just what the call's
+-- outcome says. Assumes nothing.
 use mathlib.Core.Path.{_≡_, refl, sym, ap, subst, _∙_}
 use mathlib.Core.Bool.{Bool, true, false, not, cond, _&&_, true≢false}
 use mathlib.Core.List.{List, [], _∷_, _++_, map}
-use Prim.Native.Nat.{ℕ, zero, suc, _+_, _-_, _*_, _^_, _≤_, _<_, min, max}
+use Prim.Native.Nat.{ℕ, zero, suc, _+_, _-_, _*_, _^_, _%_, _≤_, _<_, min, max}
 use native.Mathlib.Omega.{arith}
 use lib.Dec.{eqb, ltb, leb}
-use lib.ListN.{length, take, getD, set, length-append, length-take}
+use lib.ListN.{length, take, drop, getD, set, length-append, length-take, List·getD-map}
 use borrow.Author.Tests.{eqb-true, eqb-false, eq-eqb, ne-eqb, ltb-true, ltb-false, leb-true, not-false}
-use Rattle.le.specs.Le.{part, Bytes}
+use Rattle.le.specs.Le.{numOf, part, Bytes}
 use Rattle.le.proofs.Laws.{numOf-part}
 use Rattle.le.proofs.Parts.{by-test}
 use Rattle.config.specs.declared.negotiated.Negotiated.{Negotiated}
 use Rattle.config.specs.declared.negotiated.RxPolicy.{RxPolicy}
-use Rattle.config.specs.Config.{openingCredit}
+use Rattle.config.specs.Config.{openingCredit, storesFit}
 use Rattle.config.specs.Negotiated.{policyOf, creditOf}
 use Rattle.config.proofs.Laws.{and-true}
-use Rattle.incoming.specs.declared.Pushed.{Pushed}
-use Rattle.incoming.specs.declared.Pushed.the-variants.{Queued, Full}
-use Rattle.incoming.specs.Incoming.{PushOutcome, pushed, withdrawal}
+use Rattle.incoming.specs.declared.Front.{Front}
+use Rattle.incoming.specs.declared.Front.the-variants.{Open as FrontOpen, Nothing as NoFront}
+use Rattle.incoming.specs.Incoming.{popped}
 use Rattle.protocol.specs.declared.command.Command.{Command}
-use Rattle.protocol.specs.declared.command.Command.the-variants.{Sync, Connect, Open, Ready, Close, Write, Auth, StartTls}
+use Rattle.protocol.specs.declared.command.Command.the-variants.{Write, Open}
 use Rattle.protocol.specs.declared.packet.Packet.{Packet}
 use Rattle.protocol.specs.Checksum.{policyFor, checkFor}
-use Rattle.protocol.specs.Packet.{maxPayload}
+use Rattle.protocol.specs.Message.{messageOf}
+use Rattle.protocol.specs.Packet.{maxPayload, packetOf}
 use Rattle.protocol.proofs.PacketLaws.{frame-length}
+use Rattle.protocol.proofs.RoundTrip.{Says}
 use Rattle.slot.specs.declared.ids.ChannelIds.{ChannelIds}
-use Rattle.slot.specs.declared.ids.LocalId.{LocalId}
-use Rattle.slot.specs.declared.ids.RemoteId.{RemoteId}
-use Rattle.slot.specs.declared.AckDecision.the-variants.{Now, Hold, Overflow, Early}
-use Rattle.slot.specs.declared.ChannelFault.the-variants.{RxOverflow, ShortReadyPayload, UnexpectedCommand}
+use Rattle.slot.specs.declared.Budget.{Budget}
+use Rattle.slot.specs.declared.Budget.the-variants.{Bytes as Most, Nothing as NoBudget}
 use Rattle.slot.specs.declared.ChannelSlot.{ChannelSlot}
-use Rattle.slot.specs.declared.Credit.{Credit}
-use Rattle.slot.specs.declared.Credit.the-variants.{Of, Short as CreditShort}
+use Rattle.slot.specs.declared.Failed.{Failed}
+use Rattle.slot.specs.declared.Failed.the-variants.{No, By}
 use Rattle.slot.specs.declared.PendingAck.{PendingAck}
 use Rattle.slot.specs.declared.PendingAck.the-variants.{Len, Nothing as NoAck}
 use Rattle.slot.specs.declared.Readied.{Readied}
@@ -39,326 +40,175 @@ use Rattle.slot.specs.declared.Readied.the-variants.{Slot, Short}
 use Rattle.slot.specs.declared.Settled.{Settled as SettledSlot}
 use Rattle.slot.specs.declared.Taken.{Taken}
 use Rattle.slot.specs.declared.Taken.the-variants.{Data, Nothing as NothingTaken, Closed as ClosedTaken}
-use Rattle.slot.specs.declared.Wrote.{Wrote}
-use Rattle.slot.specs.Slot.{isOpening, isFailed, isClosed, openedBy, openedOf, readyBy, readyOf, creditOf as creditIn, heldOf, acksNow, bufferedWith, wroteOf, someLen, deliveredOf, ackLenOf, settledBy, settledSome, settledOf, hasData, takeLen, takenOf, closedSlot, SlotOk}
-use Rattle.slot.proofs.Kept.{pick, Readied-sound, opened-sound, ready-sound, buffered-sound, closed-sound, settled-sound}
-use Rattle.slot.proofs.Laws.{cond-true, cond-false, take-room}
+use Rattle.slot.specs.Ids.{closedBy, isClose}
+use Rattle.slot.specs.Slot.{emptySlot, openingSlot, isClosed, openedOf, readyOf, deliveredOf, settledOf, takenOf, hasData, budgetOf, closedSlot, SlotOk}
+use Rattle.slot.proofs.Kept.{pick, settled-sound}
+use Rattle.slot.proofs.Laws.{cond-true, cond-false}
 use Rattle.state.specs.declared.Header.{Header}
-use Rattle.state.specs.declared.PendingOpen.{PendingOpen}
-use Rattle.state.specs.Change.{Step, Change, slotTo, openTo, opensTo}
-use Rattle.state.specs.Rows.{flat}
+use Rattle.state.specs.Change.{Change, slotTo, changedAll}
+use Rattle.state.specs.State.{stateOf}
+use Rattle.state.specs.Valid.{isWhole}
 use Rattle.state.proofs.RowLaws.{Every, every-append}
-use Rattle.table.specs.declared.DispatchOutcome.{DispatchOutcome}
-use Rattle.table.specs.declared.DispatchOutcome.the-variants.{AckWrite, CreditGranted, SlotClosed, DataBuffered, IncomingOpen, CancelPendingOpen, StrayReady, ChannelFault, Unmatched}
-use Rattle.table.specs.declared.Want.the-variants.{Local, Remote}
-use Rattle.table.specs.Table.{placeOf}
-use Rattle.table.specs.Dispatch.{left, stored, slotIn, faulted, remotePlace, closedAt, closeOf, readiedOf, granted, readyAt, strayOf, grantOf, Dispatched, with, wroteBy, wroteAt, writeOf, routeOf, dispatchOf}
-use Rattle.wire.specs.Wire.{creditBytes, okayBytes, closeBytes}
-use Rattle.wire.proofs.Laws.{okay-length, close-length, credit-length}
-use Rattle.connection.specs.Act.{Acted, pushedBy, actedBy, tableOf, actOn}
-use Rattle.connection.specs.Answer.{ackLength}
-use Rattle.connection.specs.Calls.{ackFrames, idsIn}
+use Rattle.state.proofs.StateLaws.{Fits, SlotFits}
+use Rattle.table.specs.declared.Allocated.{Allocated}
+use Rattle.table.specs.declared.Allocated.the-variants.{Channel, NoFree}
+use Rattle.table.specs.declared.ChannelId.{ChannelId}
+use Rattle.table.specs.declared.Want.the-variants.{Local}
+use Rattle.table.specs.Table.{wantedBy, numbered, allocated}
+use Rattle.table.specs.Dispatch.{slotIn, shareOf}
+use Rattle.connection.specs.declared.Answer.{Answer}
+use Rattle.connection.specs.declared.Answer.the-variants.{Refused}
+use Rattle.connection.specs.declared.Received.{Received}
+use Rattle.connection.specs.declared.Received.the-variants.{Packet as PacketIs, Stop}
+use Rattle.connection.specs.declared.Refusal.{Refusal}
+use Rattle.connection.specs.Act.{Acted, actOn}
+use Rattle.connection.specs.Calls.{Lent, Outcome, Work, untouched, begun, then, thenActed, withHeader, ends, checked, checkedOut, dropped, waitingFor, policy, idsIn, isThere, slotFor, ackFrames, unlessFault, receivedOf, bodyOf, frameLen, isWrite, isReady, dispatchBy, dispatchStep, settledAs, settleStep, frontOf, takenBy, takeStep, reread, readSettled, readActed, isDirect, readDirect, readBy, readTaken, readFirst, readStep, sendLen, sendSome, sendBy, sendAgain, writeReadied, writeActed, writeAct, writeBy, writeFirst, writeOn, writeStep, closeStep, frontBy, frontStep, openOn, stillWaits, openReadied, openActed, openBy, openStep, openOf, dispatchOf, settleOf, takeOf, readOf, writeOf, closeOf, frontCall}
 use Rattle.connection.specs.Frames.{Frame, okayFrame, closeFrame, openFrame, writeFrame, frameBytes, framesBytes}
-use Rattle.history.proofs.Heard.{SentFits, FrameFits, Writes}
-use Rattle.history.proofs.Places.{slotsBy, slots-append, slot-set-same, slot-set-other}
+use Rattle.history.specs.Run.{bytesIn, Call, openCall, dispatchCall, settleCall, takeCall, readCall, writeCall, closeCall, frontTaken, World, lent, outcome, Seen, seenIn, seen}
+use Rattle.history.proofs.Heard.{SentFits, FrameFits, Writes, heardOf, heard-call}
+use Rattle.history.proofs.Packets.{Got, stopped, packet, got, reads-arg0, reads-arg1, body-length}
+use Rattle.history.proofs.Places.{slotsBy, slots-by, slot-set-same, slot-set-other, TableOk}
+use Rattle.history.proofs.Sending.{IdsFit, Few, bytes-append, bytes-one, few-none, few-join, few-close, few-ack, Rests, quiet, same, clear, Own, Readied-ids, ready-ids, some, Acts, acts, settled-ids, settled-small, silent-clear, silent-again, Taking, took, nothing, shut, taking, no-data, delivered-ids, delivered-small}
 
--- ---- frames and their bytes
+-- ---- what is asked of a state
 
--- a channel's numbers are of 32 bits
-pub record IdsFit (ids : ChannelIds) : Type 0 where
-  pub local : ids .local .0 < 2 ^ 32
-  pub remote : ids .remote .0 < 2 ^ 32
+-- its channels' numbers are of 32 bits, a filled slot's numbers are within its share, the limits are kept
+pub record Able (l : Lent) : Type 0 where
+  pub next : l .state .header .«next_local» < 2 ^ 32
+  pub waits : l .state .header .waiting .local .0 < 2 ^ 32
+  pub credit : creditOf (l .state .header .negotiated) < 2 ^ 32
+  pub most : l .state .header .negotiated .«max_payload» ≤ maxPayload
+  pub size : length (l .state .slots) ≡ 64
+  pub channels : l .state .header .negotiated .config .channels ≤ 64
+  pub ids : (j : ℕ) → IdsFit (idsIn (slotIn (l .state .slots) j))
+  pub sound : (j : ℕ) → slotIn (l .state .slots) j .filled ≡ true → SlotOk (slotIn (l .state .slots) j) (policy l .«rx_cap»)
 
--- at most k frames that are read back, each of at most 28 bytes
-pub record Few (n : Negotiated) (k : ℕ) (fs : List Frame) : Type 0 where
-  pub few : length fs ≤ k
-  pub each : Every (FrameFits n) fs
-  pub short : length (framesBytes n fs) ≤ 28 * k
+every-ids : (ss : List ChannelSlot) (j : ℕ) → Every SlotFits ss → IdsFit (idsIn (slotIn ss j))
+unfolding slotIn emptySlot
+every-ids [] j e = record { local = omega arith; remote = omega arith }
+every-ids (s ∷ ss) zero e = record { local = e .0 .local; remote = e .0 .remote }
+every-ids (s ∷ ss) (suc j) e = every-ids ss j (e .1)
 
--- the bytes of frames behind others
-pub bytes-append : (n : Negotiated) (fs gs : List Frame) → length (framesBytes n (fs ++ gs)) ≡ length (framesBytes n fs) + length (framesBytes n gs)
-unfolding framesBytes flat
-bytes-append n [] gs = omega arith
-bytes-append n (f ∷ fs) gs =
-    let i = bytes-append n fs gs in
-    let a = length-append (frameBytes n f) (framesBytes n (fs ++ gs)) in
-    let b = length-append (frameBytes n f) (framesBytes n fs) in
-    omega arith
+-- a state that is read from bytes, and whose table is as a whole state's
+pub able : (l : Lent) → Fits (l .state) → l .state .header .negotiated .«max_payload» ≤ maxPayload
+    → TableOk (policy l) (l .state .header .negotiated .config .channels) (l .state .slots) (l .rx) → Able l
+unfolding creditOf openingCredit
+able l f m t =
+    let i = f .header .initial in
+    record {
+      next = f .header .next;
+      waits = f .header .local;
+      credit = pick (λ (x : ℕ). x < 2 ^ 32) (l .state .header .negotiated .«delayed_ack») (λ d. omega arith) (λ d. omega arith);
+      most = m;
+      size = t .size;
+      channels = t .most;
+      ids = λ j. every-ids (l .state .slots) j (f .slots);
+      sound = t .sound;
+    }
 
-bytes-one : (n : Negotiated) (f : Frame) → length (framesBytes n (f ∷ [])) ≡ length (frameBytes n f)
-unfolding framesBytes flat
-bytes-one n f = length-append (frameBytes n f) [] ∙ omega arith
+-- the numbers of a packet
+record Args (k : Packet) : Type 0 where
+  arg0 : k .arg0 < 2 ^ 32
+  arg1 : k .arg1 < 2 ^ 32
 
-pub few-none : (n : Negotiated) (k : ℕ) → Few n k []
-unfolding framesBytes flat
-few-none n k = record { few = omega arith; each = tt; short = omega arith }
+args : (received : List ℕ) (limit : ℕ) (k : Packet) → Bytes received → Says received limit k → Args k
+unfolding messageOf
+args received limit k b r =
+    let e0 = reads-arg0 received limit k r in
+    let e1 = reads-arg1 received limit k r in
+    let h0 : numOf (part received 4 4) < 2 ^ 32 = numOf-part 4 received 4 b in
+    let h1 : numOf (part received 8 4) < 2 ^ 32 = numOf-part 4 received 8 b in
+    record { arg0 = omega arith; arg1 = omega arith }
 
-pub few-join : (n : Negotiated) (j k m : ℕ) (fs gs : List Frame) → j + k ≤ m → Few n j fs → Few n k gs → Few n m (fs ++ gs)
-few-join n j k m fs gs h a b =
-    let e = bytes-append n fs gs in
-    let f = length-append fs gs in
-    let a1 = a .few in
-    let a2 = a .short in
-    let b1 = b .few in
-    let b2 = b .short in
-    record { few = omega arith; each = every-append (FrameFits n) fs gs (a .each) (b .each); short = omega arith }
+-- ---- a call's end
 
-few-one : (n : Negotiated) (f : Frame) → FrameFits n f → length (frameBytes n f) ≤ 28 → Few n 1 (f ∷ [])
-few-one n f h s = let e = bytes-one n f in record { few = omega arith; each = (h, tt); short = omega arith }
+few-up : (n : Negotiated) (j k : ℕ) (fs : List Frame) → j ≤ k → Few n j fs → Few n k fs
+few-up n j k fs h a = let x = a .few in let y = a .short in record { few = omega arith; each = a .each; short = omega arith }
 
--- an OKAY, whose length is of 32 bits where it is sent
-pub few-okay : (n : Negotiated) (ids : ChannelIds) (len : ℕ) → IdsFit ids → (n .«delayed_ack» ≡ true → len < 2 ^ 32) → Few n 1 (okayFrame ids len ∷ [])
-unfolding frameBytes
-few-okay n ids len h d =
-    let e = okay-length ids (n .«delayed_ack») len (policyFor (n .«protocol_version»)) in
-    let c = credit-length (n .«delayed_ack») len in
-    let s : cond (n .«delayed_ack») 28 24 ≤ 28 = pick (λ (x : ℕ). x ≤ 28) (n .«delayed_ack») (λ t. omega arith) (λ t. omega arith) in
-    let r : cond (n .«delayed_ack») 4 0 ≤ 4 = pick (λ (x : ℕ). x ≤ 4) (n .«delayed_ack») (λ t. omega arith) (λ t. omega arith) in
-    few-one n (okayFrame ids len)
-    (record { sent = record { arg0-fits = h .local; arg1-fits = h .remote; small = omega arith }; len-fits = d }) (omega arith)
+part-short : (l : List ℕ) (at n room : ℕ) → n ≤ room → length (part l at n) ≤ room
+unfolding part
+part-short l at n room h = simp length-take (omega arith)
 
--- a CLSE
-pub few-close : (n : Negotiated) (ids : ChannelIds) → IdsFit ids → Few n 1 (closeFrame ids ∷ [])
-unfolding frameBytes
-few-close n ids h =
-    let e = close-length ids (policyFor (n .«protocol_version»)) in
-    few-one n (closeFrame ids)
-    (record { sent = record { arg0-fits = h .local; arg1-fits = h .remote; small = omega arith }; len-fits = λ d. omega arith }) (omega arith)
+module _ (n : Negotiated) (out room : ℕ) where
+  -- with no frame
+  writes-none : (o : Outcome) → o .frames ≡ [] → length (o .handed) ≤ room → Writes n out room o
+  writes-none o e h =
+      let f = few-none n 0 in
+      let g : Few n 0 (o .frames) = subst (Few n 0) (sym e) f in
+      let a = g .few in
+      let b = g .short in
+      record { few = omega arith; each = g .each; written = omega arith; handed = h }
 
--- the OKAY of an acknowledgement
-pub few-ack : (n : Negotiated) (s : ChannelSlot) (a : PendingAck) → IdsFit (idsIn s) → (n .«delayed_ack» ≡ true → ackLength a < 2 ^ 32) → Few n 1 (ackFrames s a)
-unfolding ackFrames ackLength
-few-ack n s (Len k) h d = few-okay n (idsIn s) k h d
-few-ack n s NoAck h d = few-none n 1
+  -- with frames of at most 28 bytes
+  writes-few : 56 ≤ out → (w : Work) (a : Answer) (used : ℕ) (bytes : List ℕ) → Few n 2 (w .frames) → length bytes ≤ room → Writes n out room (ends w a used bytes)
+  unfolding ends
+  writes-few big w a used bytes f h =
+      let x = f .few in
+      let y = f .short in
+      record { few = omega arith; each = f .each; written = omega arith; handed = h }
 
--- ---- what dispatching leaves of the slot at a place
+-- the refusals ahead of every step
+module _ (l : Lent) (out room : ℕ) where
+  abbrev n₀ : Negotiated
+  n₀ = l .state .header .negotiated
 
--- the numbers in what the table tells
-abbrev OutFits : RxPolicy → DispatchOutcome → Type 0
-OutFits p (AckWrite i ids len) = IdsFit ids × (p .delayed ≡ true → len < 2 ^ 32)
-OutFits p (CreditGranted i) = Unit {0}
-OutFits p (SlotClosed i) = Unit {0}
-OutFits p (DataBuffered i) = Unit {0}
-OutFits p (IncomingOpen remote credit) = remote .0 < 2 ^ 32
-OutFits p (CancelPendingOpen remote) = Unit {0}
-OutFits p (StrayReady ids) = IdsFit ids
-OutFits p (ChannelFault i ids opening f) = Unit {0}
-OutFits p Unmatched = Unit {0}
+  writes-checked : (whole : Bool) (o : Outcome) → (whole ≡ true → Writes n₀ out room o) → Writes n₀ out room (checked whole l o)
+  unfolding checked
+  writes-checked whole o f =
+      pick (Writes n₀ out room) whole
+      (λ t. pick (Writes n₀ out room) (storesFit (n₀ .config) (length (l .rx)) (length (l .store))) (λ u. f t) (λ u. writes-none n₀ out room _ refl (omega arith)))
+      (λ t. writes-none n₀ out room _ refl (omega arith))
 
--- whether a frame may answer it
-abbrev mayWrite : DispatchOutcome → Bool
-mayWrite (AckWrite i ids len) = true
-mayWrite (CreditGranted i) = false
-mayWrite (SlotClosed i) = false
-mayWrite (DataBuffered i) = false
-mayWrite (IncomingOpen remote credit) = true
-mayWrite (CancelPendingOpen remote) = false
-mayWrite (StrayReady ids) = true
-mayWrite (ChannelFault i ids opening f) = false
-mayWrite Unmatched = false
+  writes-checked-out : (whole : Bool) (o : Outcome) → (whole ≡ true → 56 ≤ out → Writes n₀ out room o) → Writes n₀ out room (checkedOut whole l out o)
+  unfolding checkedOut
+  writes-checked-out whole o f =
+      writes-checked whole _ (λ t. pick (Writes n₀ out room) (ltb out 56) (λ u. writes-none n₀ out room _ refl (omega arith)) (λ u. f t (ltb-false out 56 u)))
 
--- where a frame is written the slot stays, or has nothing unacknowledged
-pub data Rests (writes : Bool) (s t : ChannelSlot) : Type 0 where
-  quiet : writes ≡ false → Rests writes s t
-  same : t ≡ s → Rests writes s t
-  clear : t .unacked ≡ 0 → Rests writes s t
+-- ---- each step
 
--- s the slot before, t after; sound where it is asked for
-pub record Own (Q : Type 0) (p : RxPolicy) (s : ChannelSlot) (writes : Bool) (t : ChannelSlot) : Type 0 where
-  pub ids : IdsFit (idsIn t)
-  pub sound : Q → SlotOk t (p .«rx_cap»)
-  pub rests : Rests writes s t
+module _ (l : Lent) (able : Able l) (out room : ℕ) where
+  abbrev n : Negotiated
+  n = l .state .header .negotiated
 
-abbrev Readied-ids : Readied → Type 0
-Readied-ids (Slot t) = IdsFit (idsIn t)
-Readied-ids Short = Unit {0}
+  abbrev h₀ : Header
+  h₀ = dropped (l .state .header)
 
-opened-ids-by : (s : ChannelSlot) (r : RemoteId) (c : Credit) → IdsFit (idsIn s) → r .0 < 2 ^ 32 → Readied-ids (openedBy s r c)
-unfolding openedBy
-opened-ids-by s r (Of z) h g = record { local = h .local; remote = g }
-opened-ids-by s r CreditShort h g = tt
+  abbrev W : Outcome → Type 0
+  W = Writes n out room
 
-ready-ids-by : (s : ChannelSlot) (c : Credit) → IdsFit (idsIn s) → Readied-ids (readyBy s c)
-unfolding readyBy
-ready-ids-by s (Of z) h = record { local = h .local; remote = h .remote }
-ready-ids-by s CreditShort h = tt
+  record There (ch : ChannelId) : Type 0 where
+    below : ch .slot < 64
+    sound : SlotOk (slotFor l ch) (policy l .«rx_cap»)
+    ids : IdsFit (idsIn (slotFor l ch))
 
--- an OKAY leaves a slot's numbers of 32 bits
-pub readied-ids : (s : ChannelSlot) (r : RemoteId) (payload : List ℕ) (p : RxPolicy) → IdsFit (idsIn s) → r .0 < 2 ^ 32 → Readied-ids (readiedOf s r payload p)
-unfolding readiedOf openedOf readyOf
-readied-ids s r payload p h g =
-    pick Readied-ids (isOpening (s .state))
-    (λ o. pick Readied-ids (p .delayed) (λ d. opened-ids-by s r (creditIn payload) h g) (λ d. record { local = h .local; remote = g }))
-    (λ o. pick Readied-ids (p .delayed) (λ d. ready-ids-by s (creditIn payload) h) (λ d. record { local = h .local; remote = h .remote }))
+  there : (ch : ChannelId) → isThere l ch ≡ true → There ch
+  unfolding isThere wantedBy slotFor
+  there ch e =
+      let s = slotIn (l .state .slots) (ch .slot) in
+      let f = and-true (ltb (ch .slot) (n .config .channels)) (s .filled && eqb (s .local .0) (ch .local .0)) e in
+      let g = and-true (s .filled) (eqb (s .local .0) (ch .local .0)) (f .1) in
+      let b = ltb-true (ch .slot) (n .config .channels) (f .0) in
+      let c = able .channels in
+      record { below = omega arith; sound = able .sound (ch .slot) (g .0); ids = able .ids (ch .slot) }
 
-pub ready-ids : (s : ChannelSlot) (payload : List ℕ) (p : RxPolicy) → IdsFit (idsIn s) → Readied-ids (readyOf s payload p)
-unfolding readyOf
-ready-ids s payload p h =
-    pick Readied-ids (p .delayed) (λ d. ready-ids-by s (creditIn payload) h) (λ d. record { local = h .local; remote = h .remote })
+  -- taking
+  take-by : (ch : ChannelId) (s : ChannelSlot) (x : Taken) → Taking s room x → W (takenBy l ch s (begun h₀ l) x)
+  unfolding takenBy frontOf ends
+  take-by ch s x (took t k h) = writes-none n out room _ refl (part-short _ _ k room h)
+  take-by ch s x (nothing e) = writes-none n out room _ refl (omega arith)
+  take-by ch s x (shut e) = writes-none n out room _ refl (omega arith)
 
-readied-sound : (s : ChannelSlot) (r : RemoteId) (payload : List ℕ) (p : RxPolicy) (cap : ℕ) → SlotOk s cap → Readied-sound cap (readiedOf s r payload p)
-unfolding readiedOf
-readied-sound s r payload p cap ok =
-    pick (Readied-sound cap) (isOpening (s .state)) (λ o. opened-sound s r payload p cap ok) (λ o. ready-sound s payload p cap ok)
+  pub take-writes : (ch : ChannelId) → W (takeStep l ch room)
+  unfolding takeStep ends
+  take-writes ch =
+      pick W (isThere l ch) (λ t. take-by ch (slotFor l ch) _ (taking (slotFor l ch) room)) (λ t. writes-none n out room _ refl (omega arith))
 
-module _ (Q : Type 0) (p : RxPolicy) (n : ℕ) (ss : List ChannelSlot) (i : ℕ) (fit : (j : ℕ) → IdsFit (idsIn (slotIn ss j))) (inside : i < length ss) (ok : Q → SlotOk (slotIn ss i) (p .«rx_cap»)) where
-  record Goes (x : Step DispatchOutcome) : Type 0 where
-    result : OutFits p (x .result)
-    own : Own Q p (slotIn ss i) (mayWrite (x .result)) (slotIn (slotsBy ss (x .changes)) i)
+  -- the front
+  front-by : (h : Header) (xs : List Change) (f : Front) → W (frontBy l h xs f)
+  unfolding frontBy ends
+  front-by h xs (FrontOpen q less) = writes-none n out room _ refl (omega arith)
+  front-by h xs NoFront = writes-none n out room _ refl (omega arith)
 
-  goes-left : (o : DispatchOutcome) → OutFits p o → Goes (left o)
-  goes-left o f = record { result = f; own = record { ids = fit i; sound = ok; rests = same refl } }
-
-  ok-at : (f : ℕ) → i ≡ f → Q → SlotOk (slotIn ss f) (p .«rx_cap»)
-  ok-at f e q = subst (λ (x : ℕ). SlotOk (slotIn ss x) (p .«rx_cap»)) e (ok q)
-
-  goes-stored : (o : DispatchOutcome) (f : ℕ) (t : ChannelSlot) → OutFits p o → IdsFit (idsIn t) → (i ≡ f → Q → SlotOk t (p .«rx_cap»)) → Rests (mayWrite o) (slotIn ss i) t → Goes (stored o f t)
-  goes-stored o f t h g s w =
-      let K : ChannelSlot → Type 0 = Own Q p (slotIn ss i) (mayWrite o) in
-      record {
-        result = h;
-        own =
-            by-test (eqb i f)
-            (λ u. let e = eqb-true i f u in
-            subst K (sym (ap (λ (x : ℕ). slotIn (set ss x t) i) (sym e) ∙ slot-set-same ss i t inside)) (record { ids = g; sound = s e; rests = w }))
-            (λ u. subst K (sym (slot-set-other ss f i t (eqb-false i f u))) (record { ids = fit i; sound = ok; rests = same refl }));
-      }
-
-  -- a WRTE
-  goes-wrote : (f : ℕ) (remote : RemoteId) (payload rx : List ℕ)
-      → Goes (wroteBy p f (slotIn ss f) remote payload rx (wroteOf (slotIn ss f) p (length payload) .slot) (wroteOf (slotIn ss f) p (length payload) .decision) .step)
-  unfolding wroteOf wroteBy acksNow bufferedWith
-  goes-wrote f remote payload rx =
-      let s = slotIn ss f in
-      let k = length payload in
-      let G : Wrote → Type 0 = λ w. Goes (wroteBy p f s remote payload rx (w .slot) (w .decision) .step) in
-      pick G (isOpening (s .state)) (λ o. goes-left (faulted f s remote UnexpectedCommand) tt)
-      (λ o. pick G (ltb (p .«rx_cap») (heldOf s + k)) (λ h. goes-left (faulted f s remote RxOverflow) tt)
-      (λ h. let b = ltb-false (p .«rx_cap») (heldOf s + k) h in
-      pick G (acksNow s p (heldOf s + k))
-      (λ a. goes-stored (AckWrite f (idsIn s) k) f (bufferedWith s p k 0)
-      (fit f, λ d. absurd (true≢false (sym a ∙ cond-true (p .delayed) _ _ d)))
-      (record { local = fit f .local; remote = fit f .remote }) (λ e q. buffered-sound s p k 0 b (ok-at f e q)) (clear refl))
-      (λ a. goes-stored (DataBuffered f) f _ tt (record { local = fit f .local; remote = fit f .remote }) (λ e q. buffered-sound s p k _ b (ok-at f e q)) (quiet refl))))
-
-  goes-write : (remote : RemoteId) (local : LocalId) (payload rx : List ℕ) → Goes (writeOf p n ss remote local payload rx .step)
-  unfolding writeOf wroteAt
-  goes-write remote local payload rx =
-      let f = placeOf (Local local) n ss in
-      let G : Dispatched → Type 0 = λ d. Goes (d .step) in
-      pick G (ltb f n)
-      (λ t. pick G (isFailed (slotIn ss f .failed)) (λ u. goes-left Unmatched tt) (λ u. goes-wrote f remote payload rx))
-      (λ t. goes-left Unmatched tt)
-
-  -- an OKAY
-  goes-granted : (f : ℕ) (remote : RemoteId) (r : Readied) → Readied-ids r → (i ≡ f → Q → Readied-sound (p .«rx_cap») r) → Goes (granted f (slotIn ss f) remote r)
-  unfolding granted
-  goes-granted f remote (Slot t) h s = goes-stored (CreditGranted f) f t tt h s (quiet refl)
-  goes-granted f remote Short h s = goes-left (faulted f (slotIn ss f) remote ShortReadyPayload) tt
-
-  goes-stray : (remote : RemoteId) (local : LocalId) → remote .0 < 2 ^ 32 → local .0 < 2 ^ 32 → Goes (left (strayOf remote local))
-  unfolding strayOf
-  goes-stray remote local h g =
-      pick (λ (o : DispatchOutcome). Goes (left o)) (eqb (remote .0) 0) (λ t. goes-left Unmatched tt)
-      (λ t. pick (λ (o : DispatchOutcome). Goes (left o)) (eqb (local .0) 0) (λ u. goes-left Unmatched tt)
-      (λ u. goes-left (StrayReady (record { local = local; remote = remote })) (record { local = g; remote = h })))
-
-  goes-ready : (remote : RemoteId) (local : LocalId) (payload : List ℕ) → remote .0 < 2 ^ 32 → local .0 < 2 ^ 32 → Goes (grantOf p n ss remote local payload)
-  unfolding grantOf readyAt
-  goes-ready remote local payload h g =
-      let f = placeOf (Local local) n ss in
-      let s = slotIn ss f in
-      pick Goes (ltb f n)
-      (λ t. pick Goes (isFailed (s .failed)) (λ u. goes-left Unmatched tt)
-      (λ u. goes-granted f remote (readiedOf s remote payload p) (readied-ids s remote payload p (fit f) h) (λ e q. readied-sound s remote payload p (p .«rx_cap») (ok-at f e q))))
-      (λ t. goes-stray remote local h g)
-
-  -- a CLSE
-  goes-closed : (f : ℕ) (other : DispatchOutcome) → OutFits p other → Goes (closedAt f n ss other)
-  unfolding closedAt closedSlot
-  goes-closed f other h =
-      pick Goes (ltb f n)
-      (λ t. goes-stored (SlotClosed f) f (closedSlot (slotIn ss f)) tt (record { local = fit f .local; remote = fit f .remote }) (λ e q. closed-sound (slotIn ss f) (p .«rx_cap») (ok-at f e q)) (quiet refl))
-      (λ t. goes-left other h)
-
-  goes-close : (remote : RemoteId) (local : LocalId) → Goes (closeOf n ss remote local)
-  unfolding closeOf
-  goes-close remote local =
-      pick Goes (eqb (local .0) 0) (λ t. goes-closed (remotePlace n ss remote) (CancelPendingOpen remote) tt)
-      (λ t. goes-closed (placeOf (Local local) n ss) Unmatched tt)
-
-  -- any packet
-  goes-route : (c : Command) (a b : ℕ) (payload rx : List ℕ) → a < 2 ^ 32 → b < 2 ^ 32 → Goes (routeOf p n ss c a b payload rx .step)
-  unfolding routeOf
-  goes-route Connect a b payload rx h g = goes-left Unmatched tt
-  goes-route Auth a b payload rx h g = goes-left Unmatched tt
-  goes-route StartTls a b payload rx h g = goes-left Unmatched tt
-  goes-route Open a b payload rx h g = goes-left (IncomingOpen (record { 0 = a }) b) h
-  goes-route Close a b payload rx h g = goes-close (record { 0 = a }) (record { 0 = b })
-  goes-route Write a b payload rx h g = goes-write (record { 0 = a }) (record { 0 = b }) payload rx
-  goes-route Ready a b payload rx h g = goes-ready (record { 0 = a }) (record { 0 = b }) payload h g
-  goes-route Sync a b payload rx h g = goes-left Unmatched tt
-
--- ---- the same of `act_on`
-
--- whether frames are written
-abbrev some : List Frame → Bool
-some [] = false
-some (f ∷ fs) = true
-
--- the header keeps what was negotiated; at most one frame; what it leaves of the slot at place i
-pub record Acts (Q : Type 0) (h : Header) (ss : List ChannelSlot) (i : ℕ) (a : Acted) : Type 0 where
-  pub agreed : a .header .negotiated ≡ h .negotiated
-  pub writes : Few (h .negotiated) 1 (a .frames)
-  pub own : Own Q (policyOf (h .negotiated)) (slotIn ss i) (some (a .frames)) (slotIn (slotsBy ss (a .changes)) i)
-
--- what changes no slot leaves the slot
-own-more : (Q : Type 0) (p : RxPolicy) (s : ChannelSlot) (w : Bool) (ss : List ChannelSlot) (i : ℕ) (xs ys : List Change) → slotsBy (slotsBy ss xs) ys ≡ slotsBy ss xs
-    → Own Q p s w (slotIn (slotsBy ss xs) i) → Own Q p s w (slotIn (slotsBy ss (xs ++ ys)) i)
-own-more Q p s w ss i xs ys e o = subst (λ (x : List ChannelSlot). Own Q p s w (slotIn x i)) (sym (slots-append ss xs ys ∙ e)) o
-
--- a slot that may have rested does
-own-quiet : (Q : Type 0) (p : RxPolicy) (s t : ChannelSlot) (w : Bool) → Own Q p s w t → Own Q p s false t
-own-quiet Q p s t w o = record { ids = o .ids; sound = o .sound; rests = quiet refl }
-
-module _ (Q : Type 0) (h : Header) (ss : List ChannelSlot) (i : ℕ) (opens : List PendingOpen) (payload store : List ℕ) (d : Dispatched) where
-  abbrev pol : RxPolicy
-  pol = policyOf (h .negotiated)
-
-  abbrev rested : Bool → Type 0
-  rested w = Own Q pol (slotIn ss i) w (slotIn (slotsBy ss (d .step .changes)) i)
-
-  calm : {w : Bool} → rested w → rested false
-  calm o = own-quiet Q pol (slotIn ss i) (slotIn (slotsBy ss (d .step .changes)) i) _ o
-
-  -- an OPEN that is put behind the others, or refused
-  acts-pushed : (remote : RemoteId) (credit : ℕ) → remote .0 < 2 ^ 32 → rested true
-      → Acts Q h ss i (pushedBy h store d remote (pushed h opens remote credit payload store) (pushed h opens remote credit payload store .result))
-  unfolding pushed pushedBy
-  acts-pushed remote credit g o =
-      pick (λ (x : PushOutcome). Acts Q h ss i (pushedBy h store d remote x (x .result))) (leb (h .negotiated .config .channels) (h .queued))
-      (λ t. record { agreed = refl; writes = few-close (h .negotiated) _ (record { local = omega arith; remote = g }); own = o })
-      (λ t. record { agreed = refl; writes = few-none (h .negotiated) 1; own = own-more Q pol (slotIn ss i) false ss i (d .step .changes) _ refl (calm o) })
-
-  acts-by : (o : DispatchOutcome) → OutFits pol o → rested (mayWrite o) → Acts Q h ss i (actedBy h opens payload store d o)
-  unfolding actedBy withdrawal policyOf
-  acts-by (AckWrite j ids len) f w = record { agreed = refl; writes = few-okay (h .negotiated) ids len (f .0) (f .1); own = w }
-  acts-by (CreditGranted j) f w = record { agreed = refl; writes = few-none (h .negotiated) 1; own = w }
-  acts-by (SlotClosed j) f w = record { agreed = refl; writes = few-none (h .negotiated) 1; own = w }
-  acts-by (DataBuffered j) f w = record { agreed = refl; writes = few-none (h .negotiated) 1; own = w }
-  acts-by (IncomingOpen remote credit) f w = acts-pushed remote credit f w
-  acts-by (CancelPendingOpen remote) f w =
-      record { agreed = refl; writes = few-none (h .negotiated) 1; own = own-more Q pol (slotIn ss i) false ss i (d .step .changes) _ refl w }
-  acts-by (StrayReady ids) f w = record { agreed = refl; writes = few-close (h .negotiated) ids f; own = w }
-  acts-by (ChannelFault j ids opening g) f w = record { agreed = refl; writes = few-none (h .negotiated) 1; own = w }
-  acts-by Unmatched f w = record { agreed = refl; writes = few-none (h .negotiated) 1; own = w }
-
-pub acts : (Q : Type 0) (h : Header) (ss : List ChannelSlot) (opens : List PendingOpen) (rx store : List ℕ) (k : Packet) (payload : List ℕ) (i : ℕ)
-    → ((j : ℕ) → IdsFit (idsIn (slotIn ss j))) → i < length ss → (Q → SlotOk (slotIn ss i) (policyOf (h .negotiated) .«rx_cap»)) → k .arg0 < 2 ^ 32 → k .arg1 < 2 ^ 32
-    → Acts Q h ss i (actOn h ss opens rx store k payload)
-unfolding actOn tableOf dispatchOf
-acts Q h ss opens rx store k payload i fit inside ok g0 g1 =
-    let p = policyOf (h .negotiated) in
-    let n = h .negotiated .config .channels in
-    let g = goes-route Q p n ss i fit inside ok (k .command) (k .arg0) (k .arg1) payload rx g0 g1 in
-    acts-by Q h ss i opens payload store (tableOf h ss rx k payload) (tableOf h ss rx k payload .step .result) (g .result) (g .own)
+  pub front-writes : W (frontStep l)
+  unfolding frontStep
+  front-writes = front-by h₀ (popped h₀ (l .state .opens) .changes) (popped h₀ (l .state .opens) .result)
