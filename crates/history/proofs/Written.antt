@@ -53,11 +53,11 @@ use Rattle.state.proofs.StateLaws.{Fits, SlotFits}
 use Rattle.table.specs.declared.Allocated.{Allocated}
 use Rattle.table.specs.declared.Allocated.the-variants.{Channel, NoFree}
 use Rattle.table.specs.declared.ChannelId.{ChannelId}
-use Rattle.table.specs.declared.Want.the-variants.{Local}
-use Rattle.table.specs.Table.{wantedBy, numbered, allocated}
+use Rattle.table.specs.declared.Want.the-variants.{Local, Empty}
+use Rattle.table.specs.Table.{wantedBy, placeOf, numbered, allocated}
 use Rattle.table.specs.Dispatch.{slotIn, shareOf}
 use Rattle.connection.specs.declared.Answer.{Answer}
-use Rattle.connection.specs.declared.Answer.the-variants.{Refused}
+use Rattle.connection.specs.declared.Answer.the-variants.{Waiting, Refused}
 use Rattle.connection.specs.declared.Received.{Received}
 use Rattle.connection.specs.declared.Received.the-variants.{Packet as PacketIs, Stop}
 use Rattle.connection.specs.declared.Refusal.{Refusal}
@@ -166,6 +166,18 @@ module _ (l : Lent) (out room : ℕ) where
 
 -- ---- each step
 
+-- what an open is allotted
+data Allots : Allocated → Type 0 where
+  full : Allots NoFree
+  allots : (ch : ChannelId) → ch .local .0 < 2 ^ 32 → Allots (Channel ch)
+
+allotted : (h : Header) (ss : List ChannelSlot) → h .«next_local» < 2 ^ 32 → Allots (allocated h ss)
+unfolding allocated
+allotted h ss f =
+    let c = h .negotiated .config .channels in
+    let j = placeOf Empty c ss in
+    pick Allots (ltb j c) (λ t. allots (record { slot = j; local = record { 0 = h .«next_local» } }) f) (λ t. full)
+
 module _ (l : Lent) (able : Able l) (out room : ℕ) where
   abbrev n : Negotiated
   n = l .state .header .negotiated
@@ -212,3 +224,120 @@ module _ (l : Lent) (able : Able l) (out room : ℕ) where
   pub front-writes : W (frontStep l)
   unfolding frontStep
   front-writes = front-by h₀ (popped h₀ (l .state .opens) .changes) (popped h₀ (l .state .opens) .result)
+
+  module _ (big : 56 ≤ out) where
+    -- a call's end, with short frames
+    done : (w : Work) (a : Answer) (used : ℕ) (bytes : List ℕ) → Few n 2 (w .frames) → length bytes ≤ room → W (ends w a used bytes)
+    done = writes-few n out room big
+
+    quit : (w : Work) (a : Answer) (used : ℕ) → Few n 2 (w .frames) → W (ends w a used [])
+    quit w a used f = done w a used [] f (omega arith)
+
+    -- nothing was written yet
+    idle : (h : Header) (a : Answer) (used : ℕ) → W (ends (begun h l) a used [])
+    idle h a used = quit (begun h l) a used (few-none n 2)
+
+    -- one frame behind what was written
+    two : (fs gs : List Frame) → Few n 1 fs → Few n 1 gs → Few n 2 (fs ++ gs)
+    two fs gs = few-join n 1 1 2 fs gs (omega arith)
+
+    no-more : (k : ℕ) (fs : List Frame) → Few n k fs → Few n k (fs ++ [])
+    no-more k fs f = few-join n k 0 k fs [] (omega arith) f (few-none n 0)
+
+    -- settling and closing
+    pub settle-writes : (ch : ChannelId) (want : ℕ) → W (settleStep l ch want)
+    unfolding settleStep settledAs policyOf
+    settle-writes ch want =
+        pick W (isThere l ch)
+        (λ t. let c = there ch t in
+        let s = slotFor l ch in
+        quit (then (begun h₀ l) _ (ackFrames (settledOf s (policy l) want .slot) (settledOf s (policy l) want .ack))) _ 0
+        (few-up n 1 2 _ (omega arith) (few-ack n _ _ (settled-ids s (policy l) want (c .ids)) (λ d. settled-small s (policy l) want (policy l .«rx_cap») (c .sound) d))))
+        (λ t. idle h₀ _ 0)
+
+    pub close-writes : (ch : ChannelId) → W (closeStep l ch)
+    unfolding closeStep
+    close-writes ch =
+        pick W (isThere l ch && slotFor l ch .«has_remote»)
+        (λ t. let c = there ch (and-true (isThere l ch) (slotFor l ch .«has_remote») t .0) in
+        quit (then (begun h₀ l) _ (closeFrame (idsIn (slotFor l ch)) ∷ [])) _ 0 (few-up n 1 2 _ (omega arith) (few-close n _ (c .ids))))
+        (λ t. idle h₀ _ 0)
+
+    -- a packet that is dispatched, whatever it leaves
+    acted-few : (h : Header) → h .negotiated ≡ n → (k : Packet) (payload : List ℕ) → Args k
+        → Acts ⊥ h (l .state .slots) 0 (actOn h (l .state .slots) (l .state .opens) (l .rx) (l .store) k payload)
+    acted-few h e k payload a =
+        let z = able .size in
+        acts ⊥ h (l .state .slots) (l .state .opens) (l .rx) (l .store) k payload 0 (able .ids) (omega arith) (λ q. absurd q) (a .arg0) (a .arg1)
+
+    -- an OPEN
+    open-sent : (destination : List ℕ) (ch : ChannelId) → ch .local .0 < 2 ^ 32 → length destination ≤ maxPayload → 24 + length destination ≤ out
+        → W (ends (then (begun (waitingFor (numbered (l .state .header)) ch) l) [] (openFrame (ch .local) (creditOf n) destination ∷ [])) Waiting 0 [])
+    unfolding ends frameBytes
+    open-sent destination ch f s r =
+        let b = bytes-one n (openFrame (ch .local) (creditOf n) destination) in
+        let k = policyFor (n .«protocol_version») in
+        let e = frame-length Open (ch .local .0) (creditOf n) destination (checkFor k destination) in
+        record {
+          few = omega arith;
+          each = (record { sent = record { arg0-fits = f; arg1-fits = able .credit; small = s }; len-fits = λ d. omega arith }, tt);
+          written = omega arith;
+          handed = omega arith;
+        }
+
+    open-on : (destination : List ℕ) (r : Allocated) → Allots r → W (openOn l out destination r)
+    unfolding openOn
+    open-on destination r full = idle (l .state .header) _ 0
+    open-on destination r (allots ch f) =
+        pick W (ltb maxPayload (length destination)) (λ t. idle (numbered (l .state .header)) _ 0)
+        (λ t. pick W (ltb out (24 + length destination)) (λ u. writes-none n out room _ refl (omega arith))
+        (λ u. open-sent destination ch f (ltb-false maxPayload (length destination) t) (ltb-false out (24 + length destination) u)))
+
+    module _ (received : List ℕ) (bytes : Bytes received) where
+      abbrev limit : ℕ
+      limit = n .config .«max_payload»
+
+      -- dispatching
+      dispatch-by : (r : Received) → Got received limit r → W (dispatchBy l h₀ received r)
+      unfolding dispatchBy
+      dispatch-by r (stopped a used s) = idle h₀ a used
+      dispatch-by r (packet k s) =
+          let x = acted-few h₀ refl k (bodyOf received k) (args received limit k bytes s) in
+          quit (thenActed (begun h₀ l) (actOn h₀ (l .state .slots) (l .state .opens) (l .rx) (l .store) k (bodyOf received k))) _ (frameLen k)
+          (few-up n 1 2 _ (omega arith) (x .writes))
+
+      pub dispatch-writes : W (dispatchStep l received)
+      unfolding dispatchStep
+      dispatch-writes = dispatch-by (receivedOf l received) (got l received)
+
+      -- an OPEN that waits goes on
+      open-readied : (ch : ChannelId) (remote used : ℕ) (r : Readied) → ch .local .0 < 2 ^ 32 → remote < 2 ^ 32 → W (openReadied l ch remote used r)
+      unfolding openReadied
+      open-readied ch remote used (Slot t) f g = quit (then (begun h₀ l) _ []) _ used (few-none n 2)
+      open-readied ch remote used Short f g =
+          quit (then (begun h₀ l) _ (closeFrame (record { local = ch .local; remote = record { 0 = remote } }) ∷ [])) _ used
+          (few-up n 1 2 _ (omega arith) (few-close n _ (record { local = f; remote = g })))
+
+      open-by : (ch : ChannelId) → ch .local .0 < 2 ^ 32 → (r : Received) → Got received limit r → W (openBy l ch received r)
+      unfolding openBy openActed
+      open-by ch f r (stopped a used s) = idle (stillWaits a (l .state .header)) a used
+      open-by ch f r (packet k s) =
+          let g = args received limit k bytes s in
+          let h = l .state .header in
+          let x = acted-few h refl k (bodyOf received k) g in
+          let mine = eqb (k .arg1) (ch .local .0) in
+          pick W (isReady (k .command) && mine) (λ t. open-readied ch (k .arg0) (frameLen k) _ f (g .arg0))
+          (λ t. pick W (isWrite (k .command) && mine)
+          (λ u. quit (then (begun h₀ l) _ (closeFrame (record { local = ch .local; remote = record { 0 = k .arg0 } }) ∷ [])) _ (frameLen k)
+          (few-up n 1 2 _ (omega arith) (few-close n _ (record { local = f; remote = g .arg0 }))))
+          (λ u. pick W (isClose (k .command) && mine) (λ v. idle h₀ _ (frameLen k))
+          (λ v. quit (withHeader (thenActed (begun h l) (actOn h (l .state .slots) (l .state .opens) (l .rx) (l .store) k (bodyOf received k))) _) _ (frameLen k)
+          (few-up n 1 2 _ (omega arith) (x .writes)))))
+
+      pub open-writes : (destination : List ℕ) → W (openStep l out destination received)
+      unfolding openStep
+      open-writes destination =
+          let h = l .state .header in
+          pick W (h .waiting .on)
+          (λ t. open-by (record { slot = h .waiting .slot; local = h .waiting .local }) (able .waits) (receivedOf l received) (got l received))
+          (λ t. open-on destination (allocated h (l .state .slots)) (allotted h (l .state .slots) (able .next)))
