@@ -341,3 +341,88 @@ module _ (l : Lent) (able : Able l) (out room : ℕ) where
           pick W (h .waiting .on)
           (λ t. open-by (record { slot = h .waiting .slot; local = h .waiting .local }) (able .waits) (receivedOf l received) (got l received))
           (λ t. open-on destination (allocated h (l .state .slots)) (allotted h (l .state .slots) (able .next)))
+
+      -- ---- writing
+
+      -- a WRTE, where its frame fits
+      send-some : (ch : ChannelId) (given : List ℕ) (used : ℕ) (w : Work) (s : ChannelSlot) (most : ℕ) → Few n 1 (w .frames) → w .header .negotiated ≡ n → IdsFit (idsIn s)
+          → W (sendSome l ch out given used w s (sendLen l given most))
+      unfolding sendSome sendLen ends frameBytes
+      send-some ch given used w s most f e i =
+          let k = sendLen l given most in
+          let b = take k given in
+          let g = writeFrame (idsIn s) b in
+          let m = able .most in
+          let x = f .few in
+          let c : length b ≤ k = simp length-take (omega arith) in
+          let z : k ≤ maxPayload = omega arith in
+          pick W (ltb out (length (framesBytes (w .header .negotiated) (w .frames)) + 24 + k)) (λ t. writes-none n out room _ refl (omega arith))
+          (λ t. let v = ltb-false out (length (framesBytes (w .header .negotiated) (w .frames)) + 24 + k) t in
+          let q = ap (λ (y : Negotiated). length (framesBytes y (w .frames))) e in
+          let y = length-append (w .frames) (g ∷ []) in
+          let a = bytes-append n (w .frames) (g ∷ []) in
+          let o = bytes-one n g in
+          let p = policyFor (n .«protocol_version») in
+          let j = frame-length Write (s .local .0) (s .remote .0) b (checkFor p b) in
+          record {
+            few = omega arith;
+            each = every-append (FrameFits n) (w .frames) (g ∷ []) (f .each)
+                (record { sent = record { arg0-fits = i .local; arg1-fits = i .remote; small = omega arith }; len-fits = λ d. omega arith }, tt);
+            written = omega arith;
+            handed = omega arith;
+          })
+
+      send-by : (ch : ChannelId) (given : List ℕ) (used : ℕ) (w : Work) (s : ChannelSlot) (r : Budget) → Few n 1 (w .frames) → w .header .negotiated ≡ n → IdsFit (idsIn s)
+          → W (sendBy l ch out given used w s r)
+      unfolding sendBy
+      send-by ch given used w s (Most most) f e i = send-some ch given used w s most f e i
+      send-by ch given used w s NoBudget f e i = quit (then w _ []) _ used (few-join n 1 0 2 _ [] (omega arith) f (few-none n 0))
+
+      send-again : (ch : ChannelId) (given : List ℕ) (used : ℕ) (w : Work) (s : ChannelSlot) → Few n 1 (w .frames) → w .header .negotiated ≡ n → IdsFit (idsIn s)
+          → W (sendAgain l ch out given used w s)
+      unfolding sendAgain
+      send-again ch given used w s f e i =
+          pick W (isClosed (s .state)) (λ t. quit (then w _ []) _ used (few-join n 1 0 2 _ [] (omega arith) f (few-none n 0)))
+          (λ t. send-by ch given used w s (budgetOf s (policy l)) f e i)
+
+      write-readied : (ch : ChannelId) (given : List ℕ) (used : ℕ) (s : ChannelSlot) (r : Readied) → Readied-ids r → W (writeReadied l ch out given used (begun h₀ l) s r)
+      unfolding writeReadied
+      write-readied ch given used s (Slot t) i = send-again ch given used (begun h₀ l) t (few-none n 1) refl i
+      write-readied ch given used s Short i = idle h₀ _ used
+
+      write-acted : (ch : ChannelId) (given : List ℕ) (used : ℕ) (a : Acted) (f : Failed) → ch .slot < 64 → Acts ⊥ h₀ (l .state .slots) (ch .slot) a
+          → W (writeActed l ch out given used (begun h₀ l) a f)
+      unfolding writeActed
+      write-acted ch given used a (By f) b x = quit (thenActed (begun h₀ l) a) _ used (few-up n 1 2 _ (omega arith) (x .writes))
+      write-acted ch given used a No b x =
+          send-again ch given used (thenActed (begun h₀ l) a) _ (x .writes) (x .agreed)
+          (subst (λ (ss : List ChannelSlot). IdsFit (idsIn (slotIn ss (ch .slot)))) (sym (slots-by (l .state) (a .changes))) (x .own .ids))
+
+      write-by : (ch : ChannelId) → There ch → (given : List ℕ) (r : Received) → Got received limit r → W (writeBy l ch out given (begun h₀ l) (slotFor l ch) received r)
+      unfolding writeBy writeAct
+      write-by ch c given r (stopped a used s) = idle h₀ a used
+      write-by ch c given r (packet k s) =
+          let g = args received limit k bytes s in
+          let z = able .size in
+          let b = c .below in
+          let t = slotFor l ch in
+          let a = actOn h₀ (l .state .slots) (l .state .opens) (l .rx) (l .store) k (bodyOf received k) in
+          let x = acts ⊥ h₀ (l .state .slots) (l .state .opens) (l .rx) (l .store) k (bodyOf received k) (ch .slot) (able .ids) (omega arith) (λ q. absurd q) (g .arg0) (g .arg1) in
+          pick W (isReady (k .command) && eqb (k .arg1) (t .local .0))
+          (λ u. write-readied ch given (frameLen k) t (readyOf t (bodyOf received k) (policy l)) (ready-ids t (bodyOf received k) (policy l) (c .ids)))
+          (λ u. pick W (closedBy (idsIn t) k) (λ v. quit (then (begun h₀ l) _ []) _ (frameLen k) (few-none n 2))
+          (λ v. write-acted ch given (frameLen k) a (a .fault) b x))
+
+      write-first : (ch : ChannelId) → There ch → (given : List ℕ) (r : Budget) → W (writeFirst l ch out given received (begun h₀ l) (slotFor l ch) r)
+      unfolding writeFirst
+      write-first ch c given (Most most) = send-some ch given 0 (begun h₀ l) (slotFor l ch) most (few-none n 1) refl (c .ids)
+      write-first ch c given NoBudget =
+          pick W (slotFor l ch .«has_remote») (λ t. write-by ch c given (receivedOf l received) (got l received)) (λ t. idle h₀ _ 0)
+
+      pub write-writes : (ch : ChannelId) (given : List ℕ) → W (writeStep l ch out given received)
+      unfolding writeStep writeOn
+      write-writes ch given =
+          pick W (eqb (length given) 0) (λ t. idle h₀ _ 0)
+          (λ t. pick W (isThere l ch)
+          (λ u. pick W (isClosed (slotFor l ch .state)) (λ v. idle h₀ _ 0) (λ v. write-first ch (there ch u) given (budgetOf (slotFor l ch) (policy l))))
+          (λ u. idle h₀ _ 0))
