@@ -6,7 +6,7 @@ use mathlib.Core.List.{List, [], _∷_, _++_, map}
 use Prim.Native.Nat.{ℕ, zero, suc, _+_, _-_, _*_, _^_, _%_, _≤_, _<_, min, max}
 use native.Mathlib.Omega.{arith}
 use lib.Dec.{eqb, ltb, leb}
-use lib.ListN.{length, take, drop, getD, set, length-append, length-take, List·getD-map}
+use lib.ListN.{length, take, drop, getD, set, length-append, length-take, length-set, List·getD-map}
 use borrow.Author.Tests.{eqb-true, eqb-false, eq-eqb, ne-eqb, ltb-true, ltb-false, leb-true, not-false}
 use Rattle.le.specs.Le.{numOf, part, Bytes}
 use Rattle.le.proofs.Laws.{numOf-part}
@@ -124,6 +124,22 @@ args received limit k b r =
 
 few-up : (n : Negotiated) (j k : ℕ) (fs : List Frame) → j ≤ k → Few n j fs → Few n k fs
 few-up n j k fs h a = let x = a .few in let y = a .short in record { few = omega arith; each = a .each; short = omega arith }
+
+-- no frames, and no acknowledgement
+no-frames : (n : Negotiated) (fs : List Frame) → some fs ≡ false → Few n 0 fs
+no-frames n [] e = few-none n 0
+no-frames n (f ∷ fs) e = absurd (true≢false e)
+
+no-ack : (n : Negotiated) (s : ChannelSlot) (a : PendingAck) → a ≡ NoAck → Few n 0 (ackFrames s a)
+unfolding ackFrames
+no-ack n s a e = subst (λ (x : PendingAck). Few n 0 (ackFrames s x)) (sym e) (few-none n 0)
+
+-- channels' numbers, with one slot anew
+ids-set : (ss : List ChannelSlot) (i : ℕ) (t : ChannelSlot) → ((j : ℕ) → IdsFit (idsIn (slotIn ss j))) → IdsFit (idsIn t) → i < length ss → (j : ℕ) → IdsFit (idsIn (slotIn (set ss i t) j))
+ids-set ss i t f g h j =
+    by-test (eqb j i)
+    (λ u. let e = eqb-true j i u in subst (λ (s : ChannelSlot). IdsFit (idsIn s)) (sym (ap (λ (x : ℕ). slotIn (set ss i t) x) e ∙ slot-set-same ss i t h)) g)
+    (λ u. subst (λ (s : ChannelSlot). IdsFit (idsIn s)) (sym (slot-set-other ss i j t (eqb-false j i u))) (f j))
 
 part-short : (l : List ℕ) (at n room : ℕ) → n ≤ room → length (part l at n) ≤ room
 unfolding part
@@ -426,3 +442,113 @@ module _ (l : Lent) (able : Able l) (out room : ℕ) where
           (λ t. pick W (isThere l ch)
           (λ u. pick W (isClosed (slotFor l ch .state)) (λ v. idle h₀ _ 0) (λ v. write-first ch (there ch u) given (budgetOf (slotFor l ch) (policy l))))
           (λ u. idle h₀ _ 0))
+
+      -- ---- reading
+
+      module _ (ch : ChannelId) (c : There ch) where
+        abbrev p : RxPolicy
+        p = policy l
+
+        -- the first settling: its slot, and what is written by then
+        abbrev s₁ : ChannelSlot
+        s₁ = settledOf (slotFor l ch) p room .slot
+
+        abbrev fs₁ : List Frame
+        fs₁ = ackFrames s₁ (settledOf (slotFor l ch) p room .ack)
+
+        abbrev w₁ : Work
+        w₁ = then (begun h₀ l) [] fs₁
+
+        ids₁ : IdsFit (idsIn s₁)
+        ids₁ = settled-ids (slotFor l ch) p room (c .ids)
+
+        few₁ : Few n 1 fs₁
+        unfolding policyOf
+        few₁ = few-ack n s₁ _ ids₁ (λ d. settled-small (slotFor l ch) p room (p .«rx_cap») (c .sound) d)
+
+        stop₁ : (xs : List Change) (a : Answer) (used : ℕ) → W (ends (then w₁ xs []) a used [])
+        stop₁ xs a used = quit (then w₁ xs []) a used (few-join n 1 0 2 fs₁ [] (omega arith) few₁ (few-none n 0))
+
+        -- straight to the reader
+        read-direct : (k : Packet) → Says received limit k → isDirect s₁ room k ≡ true
+            → W (readDirect ch (frameLen k) w₁ (bodyOf received k) (deliveredOf s₁ p (k .«data_length»)))
+        unfolding readDirect isDirect policyOf packetOf
+        read-direct k s t =
+            let e = body-length received limit k s in
+            let m = s .known .within in
+            let q = ap (λ (x : Packet). x .«data_length») (s .known .packet-is) in
+            let r = leb-true (k .«data_length») room (and-true (isWrite (k .command) && eqb (k .arg1) (s₁ .local .0)) (leb (k .«data_length») room) t .1) in
+            let d = deliveredOf s₁ p (k .«data_length») in
+            done (then w₁ _ (ackFrames (d .slot) (d .ack))) _ (frameLen k) (bodyOf received k)
+            (two fs₁ _ few₁ (few-ack n (d .slot) (d .ack) (delivered-ids s₁ p (k .«data_length») ids₁) (λ v. delivered-small s₁ p (k .«data_length») (omega arith) v)))
+            (omega arith)
+
+        -- what is written where the slot t is settled again, after a packet that was dispatched
+        abbrev fs₂ : Acted → ChannelSlot → List Frame
+        fs₂ a t = fs₁ ++ [] ++ a .frames ++ ackFrames (settledOf t p room .slot) (settledOf t p room .ack)
+
+        silent-few : (a : Acted) (t : ChannelSlot) → Few n 1 (a .frames) → settledOf t p room .ack ≡ NoAck → Few n 2 (fs₂ a t)
+        silent-few a t f e =
+            few-join n 2 0 2 (fs₁ ++ [] ++ a .frames) _ (omega arith) (two (fs₁ ++ []) (a .frames) (no-more 1 fs₁ few₁) f) (no-ack n _ _ e)
+
+        again-few : (a : Acted) (t : ChannelSlot) → Few n 1 (a .frames) → IdsFit (idsIn t) → SlotOk t (p .«rx_cap») → s₁ .buffered ≡ 0 → Rests (some (a .frames)) s₁ t → Few n 2 (fs₂ a t)
+        unfolding policyOf
+        again-few a t f i o z (quiet e) =
+            two (fs₁ ++ [] ++ a .frames) _ (few-join n 1 0 1 (fs₁ ++ []) (a .frames) (omega arith) (no-more 1 fs₁ few₁) (no-frames n (a .frames) e))
+            (few-ack n _ _ (settled-ids t p room i) (λ d. settled-small t p room (p .«rx_cap») o d))
+        again-few a t f i o z (same e) =
+            silent-few a t f (ap (λ (x : ChannelSlot). settledOf x p room .ack) e ∙ silent-again (slotFor l ch) p room z)
+        again-few a t f i o z (clear e) = silent-few a t f (silent-clear t p room e)
+
+        -- and what is then taken
+        reread-by : (used : ℕ) (fault : Failed) (w : Work) (s : ChannelSlot) (x : Taken) → Few n 2 (w .frames) → Taking s room x → W (reread ch (p .«rx_cap») used fault w s x)
+        unfolding reread frontOf
+        reread-by used fault w s x f (took t k h) = done (then w _ []) _ used _ (no-more 2 _ f) (part-short _ _ k room h)
+        reread-by used fault w s x f (nothing e) = quit (then w _ []) _ used (no-more 2 _ f)
+        reread-by used fault w s x f (shut e) = quit (then w _ []) _ used (no-more 2 _ f)
+
+        read-acted : (a : Acted) (used : ℕ) → s₁ .buffered ≡ 0 → Acts (Unit {0}) h₀ (set (l .state .slots) (ch .slot) s₁) (ch .slot) a
+            → W (readActed l ch room used (then w₁ (slotTo (ch .slot) s₁ ∷ []) []) a)
+        unfolding readActed readSettled
+        read-acted a used z x =
+            let ss = set (l .state .slots) (ch .slot) s₁ in
+            let t = slotIn (changedAll (l .state) (slotTo (ch .slot) s₁ ∷ a .changes) .slots) (ch .slot) in
+            let y = able .size in
+            let b = c .below in
+            let here : slotIn ss (ch .slot) ≡ s₁ = slot-set-same (l .state .slots) (ch .slot) s₁ (omega arith) in
+            let o : Own (Unit {0}) p s₁ (some (a .frames)) t =
+                subst (λ (q : ChannelSlot). Own (Unit {0}) p q (some (a .frames)) t) here
+                (subst (λ (q : List ChannelSlot). Own (Unit {0}) p (slotIn ss (ch .slot)) (some (a .frames)) (slotIn q (ch .slot))) (sym (slots-by (l .state) (slotTo (ch .slot) s₁ ∷ a .changes))) (x .own)) in
+            let r = settledOf t p room in
+            reread-by used (a .fault) _ (r .slot) (takenOf (r .slot) room) (again-few a t (x .writes) (o .ids) (o .sound tt) z (o .rests)) (taking (r .slot) room)
+
+        read-by : s₁ .buffered ≡ 0 → (r : Received) → Got received limit r → W (readBy l ch room w₁ s₁ received r)
+        unfolding readBy
+        read-by z r (stopped a used s) = stop₁ _ a used
+        read-by z r (packet k s) =
+            let g = args received limit k bytes s in
+            let ss = set (l .state .slots) (ch .slot) s₁ in
+            let y = able .size in
+            let b = c .below in
+            let e = length-set (l .state .slots) (ch .slot) s₁ in
+            let here : slotIn ss (ch .slot) ≡ s₁ = slot-set-same (l .state .slots) (ch .slot) s₁ (omega arith) in
+            let ok = settled-sound (slotFor l ch) p room (p .«rx_cap») (c .sound) in
+            let x = acts (Unit {0}) h₀ ss (l .state .opens) (l .rx) (l .store) k (bodyOf received k) (ch .slot) (ids-set (l .state .slots) (ch .slot) s₁ (able .ids) ids₁ (omega arith)) (omega arith)
+                (λ q. subst (λ (v : ChannelSlot). SlotOk v (p .«rx_cap»)) (sym here) ok) (g .arg0) (g .arg1) in
+            pick W (isDirect s₁ room k) (λ t. read-direct k s t)
+            (λ t. pick W (closedBy (idsIn s₁) k) (λ u. stop₁ _ _ (frameLen k))
+            (λ u. read-acted (actOn h₀ ss (l .state .opens) (l .rx) (l .store) k (bodyOf received k)) (frameLen k) z x))
+
+        read-taken : (x : Taken) → Taking s₁ room x → W (readTaken l ch room w₁ s₁ received x)
+        unfolding readTaken frontOf
+        read-taken x (took t k h) = done (then w₁ _ []) _ 0 _ (few-join n 1 0 2 fs₁ [] (omega arith) few₁ (few-none n 0)) (part-short _ _ k room h)
+        read-taken x (nothing e) =
+            pick W (s₁ .«has_remote») (λ t. read-by (no-data s₁ t e) (receivedOf l received) (got l received)) (λ t. stop₁ _ _ 0)
+        read-taken x (shut e) = stop₁ _ _ 0
+
+      pub read-writes : (ch : ChannelId) → W (readStep l ch room received)
+      unfolding readStep readFirst
+      read-writes ch =
+          pick W (isThere l ch)
+          (λ t. let c = there ch t in read-taken ch c _ (taking (s₁ ch c) room))
+          (λ t. idle h₀ _ 0)
