@@ -552,3 +552,74 @@ module _ (l : Lent) (able : Able l) (out room : ℕ) where
           pick W (isThere l ch)
           (λ t. let c = there ch t in read-taken ch c _ (taking (s₁ ch c) room))
           (λ t. idle h₀ _ 0)
+
+-- ---- each call
+
+-- numbers as bytes are bytes
+pub bytes-in : (l : List ℕ) → Bytes (bytesIn l)
+unfolding bytesIn
+bytes-in [] k = omega arith
+bytes-in (x ∷ l) zero = omega arith
+bytes-in (x ∷ l) (suc k) = bytes-in l k
+
+-- the buffers that a call is lent
+abbrev pub outOf : Call → List ℕ
+outOf (openCall out destination received) = out
+outOf (dispatchCall out received) = out
+outOf (settleCall out ch want) = out
+outOf (takeCall ch buf) = []
+outOf (readCall out ch buf received) = out
+outOf (writeCall out ch bytes received) = out
+outOf (closeCall out ch) = out
+outOf frontTaken = []
+
+abbrev pub bufOf : Call → List ℕ
+bufOf (openCall out destination received) = []
+bufOf (dispatchCall out received) = []
+bufOf (settleCall out ch want) = []
+bufOf (takeCall ch buf) = buf
+bufOf (readCall out ch buf received) = buf
+bufOf (writeCall out ch bytes received) = []
+bufOf (closeCall out ch) = []
+bufOf frontTaken = []
+
+-- every call on a state that is able, where it is whole
+pub call-writes : (w : World) → (isWhole (w .state) ≡ true → Able (lent w)) → (c : Call)
+    → Writes (lent w .state .header .negotiated) (length (outOf c)) (length (bufOf c)) (outcome w c)
+unfolding outcome openOf dispatchOf settleOf takeOf readOf writeOf closeOf frontCall
+call-writes w f (openCall out destination received) =
+    writes-checked-out (lent w) (length out) 0 (isWhole (w .state)) _
+    (λ t big. open-writes (lent w) (f t) (length out) 0 big (bytesIn received) (bytes-in received) (bytesIn destination))
+call-writes w f (dispatchCall out received) =
+    writes-checked-out (lent w) (length out) 0 (isWhole (w .state)) _
+    (λ t big. dispatch-writes (lent w) (f t) (length out) 0 big (bytesIn received) (bytes-in received))
+call-writes w f (settleCall out ch want) =
+    writes-checked-out (lent w) (length out) 0 (isWhole (w .state)) _ (λ t big. settle-writes (lent w) (f t) (length out) 0 big ch want)
+call-writes w f (takeCall ch buf) =
+    writes-checked (lent w) 0 (length buf) (isWhole (w .state)) _ (λ t. take-writes (lent w) (f t) 0 (length buf) ch)
+call-writes w f (readCall out ch buf received) =
+    writes-checked-out (lent w) (length out) (length buf) (isWhole (w .state)) _
+    (λ t big. read-writes (lent w) (f t) (length out) (length buf) big (bytesIn received) (bytes-in received) ch)
+call-writes w f (writeCall out ch bytes received) =
+    writes-checked-out (lent w) (length out) 0 (isWhole (w .state)) _
+    (λ t big. write-writes (lent w) (f t) (length out) 0 big (bytesIn received) (bytes-in received) ch (bytesIn bytes))
+call-writes w f (closeCall out ch) =
+    writes-checked-out (lent w) (length out) 0 (isWhole (w .state)) _ (λ t big. close-writes (lent w) (f t) (length out) 0 big ch)
+call-writes w f frontTaken =
+    writes-checked (lent w) 0 0 (isWhole (w .state)) _ (λ t. front-writes (lent w) (f t) 0 0)
+
+seen-as : (w : World) (c : Call) → seen w c ≡ seenIn (lent w .state .header .negotiated) (outOf c) (bufOf c) (outcome w c)
+unfolding seen
+seen-as w (openCall out destination received) = refl
+seen-as w (dispatchCall out received) = refl
+seen-as w (settleCall out ch want) = refl
+seen-as w (takeCall ch buf) = refl
+seen-as w (readCall out ch buf received) = refl
+seen-as w (writeCall out ch bytes received) = refl
+seen-as w (closeCall out ch) = refl
+seen-as w frontTaken = refl
+
+-- so what is seen of it is what its outcome says
+pub seen-is : (w : World) → (isWhole (w .state) ≡ true → Able (lent w)) → (c : Call) → seen w c ≡ heardOf (lent w .state .header .negotiated) (outcome w c)
+seen-is w f c =
+    seen-as w c ∙ heard-call (lent w .state .header .negotiated) (outOf c) (bufOf c) (outcome w c) (call-writes w f c)
