@@ -3,36 +3,30 @@
 --     taken-back   what a buffer's first bytes are after a put
 --     heard-acks   the credit that is read is the frames' own; heard-open: and so is the last OPEN's
 --     heard-call   what is seen of an outcome whose frames and bytes fit
-use mathlib.Core.Path.{_≡_, refl, sym, ap, subst, _∙_}
-use mathlib.Core.Bool.{Bool, true, false, cond, _&&_}
+use mathlib.Core.Path.{_≡_, refl, sym, ap, _∙_}
+use mathlib.Core.Bool.{Bool, true, false, cond}
 use mathlib.Core.List.{List, [], _∷_, _++_, map}
-use Prim.Native.Nat.{ℕ, zero, suc, _+_, _-_, _≤_, _<_, _^_, min}
+use Prim.Native.Nat.{ℕ, zero, suc, _+_, _≤_, _<_, _^_}
 use native.Mathlib.Omega.{arith}
-use lib.Dec.{eqb, ltb}
-use lib.ListN.{length, take, drop}
+use lib.Dec.{eqb}
+use lib.ListN.{length, take}
 use lib.Seq.{drop-at}
-use Rattle.le.specs.Le.{numOf, bytesOf, part, put}
-use Rattle.le.proofs.Laws.{length-bytesOf, write-read}
+use Rattle.le.specs.Le.{bytesOf, part, put}
+use Rattle.le.proofs.Laws.{write-read}
 use Rattle.le.proofs.Parts.{part-put-same}
 use Rattle.config.specs.declared.negotiated.Negotiated.{Negotiated}
 use Rattle.config.specs.declared.negotiated.RxPolicy.{RxPolicy}
-use Rattle.protocol.specs.declared.checksum.Checksum.{Checksum}
-use Rattle.protocol.specs.declared.command.Command.{Command}
 use Rattle.protocol.specs.declared.command.Command.the-variants.{Open, Ready, Close, Write}
 use Rattle.protocol.specs.Checksum.{policyFor}
-use Rattle.protocol.specs.declared.packet.Decoded.the-variants.{Waiting, InvalidCommand, InvalidMagic, PayloadTooLarge, InvalidChecksum, Accepted}
-use Rattle.protocol.specs.Packet.{maxPayload, payloadOf, decodeOf, usedOf, frameFor}
+use Rattle.protocol.specs.Packet.{maxPayload, decodeOf, usedOf, frameFor}
 use Rattle.protocol.proofs.RoundTrip.{Comes-back}
-use Rattle.slot.specs.declared.ids.LocalId.{LocalId}
-use Rattle.slot.specs.declared.ids.ChannelIds.{ChannelIds}
-use Rattle.slot.proofs.Laws.{cond-true, cond-false}
 use Rattle.state.specs.Rows.{flat}
 use Rattle.state.proofs.RowLaws.{Every}
 use Rattle.wire.specs.Wire.{creditBytes, okayBytes, closeBytes}
-use Rattle.wire.proofs.Laws.{credit-length, back}
+use Rattle.wire.proofs.Laws.{back}
 use Rattle.connection.specs.Calls.{Outcome, writtenBy, isReady}
 use Rattle.connection.specs.Frames.{Frame, okayFrame, closeFrame, openFrame, writeFrame, frameBytes, framesBytes}
-use Rattle.history.specs.Book.{isOpen, creditIn, acksOf, lastOpen}
+use Rattle.history.specs.Book.{creditIn, acksOf, lastOpen}
 use Rattle.history.specs.Run.{Sent, Seen, sentBy, sentIn, seenIn}
 use Rattle.history.proofs.Acts.{acksIn}
 

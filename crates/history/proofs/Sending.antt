@@ -2,34 +2,25 @@
 --     acts   `act_on` writes at most one frame; where it does, the slot at a place stays or has nothing unacknowledged
 --     silent-again, silent-clear   a second settling then writes none
 use mathlib.Core.Path.{_≡_, refl, sym, ap, subst, _∙_}
-use mathlib.Core.Bool.{Bool, true, false, not, cond, _&&_, true≢false}
-use mathlib.Core.List.{List, [], _∷_, _++_, map}
-use Prim.Native.Nat.{ℕ, zero, suc, _+_, _-_, _*_, _^_, _≤_, _<_, min, max}
+use mathlib.Core.Bool.{Bool, true, false, not, cond, true≢false}
+use mathlib.Core.List.{List, [], _∷_, _++_}
+use Prim.Native.Nat.{ℕ, _+_, _-_, _*_, _^_, _≤_, _<_, min}
 use native.Mathlib.Omega.{arith}
 use lib.Dec.{eqb, ltb, leb}
-use lib.ListN.{length, take, getD, set, length-append, length-take}
-use borrow.Author.Tests.{eqb-true, eqb-false, eq-eqb, ne-eqb, ltb-true, ltb-false, leb-true, not-false}
-use Rattle.le.specs.Le.{part, Bytes}
-use Rattle.le.proofs.Laws.{numOf-part}
+use lib.ListN.{length, set, length-append}
+use borrow.Author.Tests.{eqb-true, eqb-false, eq-eqb, ltb-false, not-false}
 use Rattle.le.proofs.Parts.{by-test}
 use Rattle.config.specs.declared.negotiated.Negotiated.{Negotiated}
 use Rattle.config.specs.declared.negotiated.RxPolicy.{RxPolicy}
-use Rattle.config.specs.Config.{openingCredit}
-use Rattle.config.specs.Negotiated.{policyOf, creditOf}
-use Rattle.config.proofs.Laws.{and-true}
-use Rattle.incoming.specs.declared.Pushed.{Pushed}
-use Rattle.incoming.specs.declared.Pushed.the-variants.{Queued, Full}
+use Rattle.config.specs.Negotiated.{policyOf}
 use Rattle.incoming.specs.Incoming.{PushOutcome, pushed, withdrawal}
 use Rattle.protocol.specs.declared.command.Command.{Command}
 use Rattle.protocol.specs.declared.command.Command.the-variants.{Sync, Connect, Open, Ready, Close, Write, Auth, StartTls}
 use Rattle.protocol.specs.declared.packet.Packet.{Packet}
-use Rattle.protocol.specs.Checksum.{policyFor, checkFor}
-use Rattle.protocol.specs.Packet.{maxPayload}
-use Rattle.protocol.proofs.PacketLaws.{frame-length}
+use Rattle.protocol.specs.Checksum.{policyFor}
 use Rattle.slot.specs.declared.ids.ChannelIds.{ChannelIds}
 use Rattle.slot.specs.declared.ids.LocalId.{LocalId}
 use Rattle.slot.specs.declared.ids.RemoteId.{RemoteId}
-use Rattle.slot.specs.declared.AckDecision.the-variants.{Now, Hold, Overflow, Early}
 use Rattle.slot.specs.declared.ChannelError.{ChannelError}
 use Rattle.slot.specs.declared.ChannelFault.the-variants.{RxOverflow, ShortReadyPayload, UnexpectedCommand}
 use Rattle.slot.specs.declared.ChannelSlot.{ChannelSlot}
@@ -43,26 +34,25 @@ use Rattle.slot.specs.declared.Settled.{Settled as SettledSlot}
 use Rattle.slot.specs.declared.Taken.{Taken}
 use Rattle.slot.specs.declared.Taken.the-variants.{Data, Nothing as NothingTaken, Closed as ClosedTaken}
 use Rattle.slot.specs.declared.Wrote.{Wrote}
-use Rattle.slot.specs.Slot.{withNumbers, acked, isAck, isOpening, isFailed, isClosed, openedBy, openedOf, readyBy, readyOf, creditOf as creditIn, heldOf, acksNow, bufferedWith, wroteOf, someLen, deliveredOf, ackLenOf, settledBy, settledSome, settledOf, hasData, takeLen, takenOf, closedSlot, SlotOk}
-use Rattle.slot.proofs.Kept.{pick, Readied-sound, opened-sound, ready-sound, buffered-sound, closed-sound, settled-sound}
-use Rattle.slot.proofs.Laws.{cond-true, cond-false, take-room}
+use Rattle.slot.specs.Slot.{withNumbers, acked, isAck, isOpening, isFailed, isClosed, openedBy, openedOf, readyBy, readyOf, creditOf as creditIn, heldOf, acksNow, bufferedWith, wroteOf, someLen, deliveredOf, ackLenOf, settledBy, settledSome, settledOf, hasData, takenOf, closedSlot, SlotOk}
+use Rattle.slot.proofs.Kept.{pick, Readied-sound, opened-sound, ready-sound, buffered-sound, closed-sound}
+use Rattle.slot.proofs.Laws.{cond-true, take-room}
 use Rattle.state.specs.declared.Header.{Header}
 use Rattle.state.specs.declared.PendingOpen.{PendingOpen}
-use Rattle.state.specs.Change.{Step, Change, slotTo, openTo, opensTo}
+use Rattle.state.specs.Change.{Step, Change}
 use Rattle.state.specs.Rows.{flat}
 use Rattle.state.proofs.RowLaws.{Every, every-append}
 use Rattle.table.specs.declared.DispatchOutcome.{DispatchOutcome}
 use Rattle.table.specs.declared.DispatchOutcome.the-variants.{AckWrite, CreditGranted, SlotClosed, DataBuffered, IncomingOpen, CancelPendingOpen, StrayReady, ChannelFault, Unmatched}
-use Rattle.table.specs.declared.Want.the-variants.{Local, Remote}
+use Rattle.table.specs.declared.Want.the-variants.{Local}
 use Rattle.table.specs.Table.{placeOf}
-use Rattle.table.specs.Dispatch.{left, stored, slotIn, faulted, remotePlace, closedAt, closeOf, readiedOf, granted, readyAt, strayOf, grantOf, Dispatched, with, wroteBy, wroteAt, writeOf, routeOf, dispatchOf}
-use Rattle.wire.specs.Wire.{creditBytes, okayBytes, closeBytes}
+use Rattle.table.specs.Dispatch.{left, stored, slotIn, faulted, remotePlace, closedAt, closeOf, readiedOf, granted, readyAt, strayOf, grantOf, Dispatched, wroteBy, wroteAt, writeOf, routeOf, dispatchOf}
 use Rattle.wire.proofs.Laws.{okay-length, close-length, credit-length}
 use Rattle.connection.specs.Act.{Acted, pushedBy, actedBy, tableOf, actOn}
 use Rattle.connection.specs.Answer.{ackLength}
 use Rattle.connection.specs.Calls.{ackFrames, idsIn}
-use Rattle.connection.specs.Frames.{Frame, okayFrame, closeFrame, openFrame, writeFrame, frameBytes, framesBytes}
-use Rattle.history.proofs.Heard.{SentFits, FrameFits, Writes}
+use Rattle.connection.specs.Frames.{Frame, okayFrame, closeFrame, frameBytes, framesBytes}
+use Rattle.history.proofs.Heard.{FrameFits}
 use Rattle.history.proofs.Places.{slotsBy, slots-append, slot-set-same, slot-set-other}
 
 -- ---- frames and their bytes

@@ -1,25 +1,24 @@
 -- What every call writes: at most two frames that are read back, within its buffers; so a caller sees just what the call's
 -- outcome says. Assumes nothing.
 use mathlib.Core.Path.{_≡_, refl, sym, ap, subst, _∙_}
-use mathlib.Core.Bool.{Bool, true, false, not, cond, _&&_, true≢false}
-use mathlib.Core.List.{List, [], _∷_, _++_, map}
-use Prim.Native.Nat.{ℕ, zero, suc, _+_, _-_, _*_, _^_, _%_, _≤_, _<_, min, max}
+use mathlib.Core.Bool.{Bool, true, false, not, _&&_, true≢false}
+use mathlib.Core.List.{List, [], _∷_, _++_}
+use Prim.Native.Nat.{ℕ, zero, suc, _+_, _^_, _≤_, _<_}
 use native.Mathlib.Omega.{arith}
 use lib.Dec.{eqb, ltb, leb}
-use lib.ListN.{length, take, drop, getD, set, length-append, length-take, length-set, List·getD-map}
-use borrow.Author.Tests.{eqb-true, eqb-false, eq-eqb, ne-eqb, ltb-true, ltb-false, leb-true, not-false}
+use lib.ListN.{length, take, set, length-append, length-take, length-set}
+use borrow.Author.Tests.{eqb-true, eqb-false, ltb-true, ltb-false, leb-true}
 use Rattle.le.specs.Le.{numOf, part, Bytes}
 use Rattle.le.proofs.Laws.{numOf-part}
 use Rattle.le.proofs.Parts.{by-test}
 use Rattle.config.specs.declared.negotiated.Negotiated.{Negotiated}
 use Rattle.config.specs.declared.negotiated.RxPolicy.{RxPolicy}
-use Rattle.config.specs.Config.{openingCredit, storesFit}
+use Rattle.config.specs.Config.{withinLimits, capOf, openingCredit, storesFit}
 use Rattle.config.specs.Negotiated.{policyOf, creditOf}
-use Rattle.config.proofs.Laws.{and-true}
+use Rattle.config.proofs.Laws.{and-true, within, sound as limits}
 use Rattle.incoming.specs.declared.Front.{Front}
 use Rattle.incoming.specs.declared.Front.the-variants.{Open as FrontOpen, Nothing as NoFront}
 use Rattle.incoming.specs.Incoming.{popped}
-use Rattle.protocol.specs.declared.command.Command.{Command}
 use Rattle.protocol.specs.declared.command.Command.the-variants.{Write, Open}
 use Rattle.protocol.specs.declared.packet.Packet.{Packet}
 use Rattle.protocol.specs.Checksum.{policyFor, checkFor}
@@ -27,47 +26,44 @@ use Rattle.protocol.specs.Message.{messageOf}
 use Rattle.protocol.specs.Packet.{maxPayload, packetOf}
 use Rattle.protocol.proofs.PacketLaws.{frame-length}
 use Rattle.protocol.proofs.RoundTrip.{Says}
-use Rattle.slot.specs.declared.ids.ChannelIds.{ChannelIds}
 use Rattle.slot.specs.declared.Budget.{Budget}
 use Rattle.slot.specs.declared.Budget.the-variants.{Bytes as Most, Nothing as NoBudget}
 use Rattle.slot.specs.declared.ChannelSlot.{ChannelSlot}
 use Rattle.slot.specs.declared.Failed.{Failed}
 use Rattle.slot.specs.declared.Failed.the-variants.{No, By}
 use Rattle.slot.specs.declared.PendingAck.{PendingAck}
-use Rattle.slot.specs.declared.PendingAck.the-variants.{Len, Nothing as NoAck}
+use Rattle.slot.specs.declared.PendingAck.the-variants.{Nothing as NoAck}
 use Rattle.slot.specs.declared.Readied.{Readied}
 use Rattle.slot.specs.declared.Readied.the-variants.{Slot, Short}
-use Rattle.slot.specs.declared.Settled.{Settled as SettledSlot}
 use Rattle.slot.specs.declared.Taken.{Taken}
-use Rattle.slot.specs.declared.Taken.the-variants.{Data, Nothing as NothingTaken, Closed as ClosedTaken}
 use Rattle.slot.specs.Ids.{closedBy, isClose}
-use Rattle.slot.specs.Slot.{emptySlot, openingSlot, isClosed, openedOf, readyOf, deliveredOf, settledOf, takenOf, hasData, budgetOf, closedSlot, SlotOk}
-use Rattle.slot.proofs.Kept.{pick, settled-sound}
-use Rattle.slot.proofs.Laws.{cond-true, cond-false}
+use Rattle.slot.specs.Slot.{emptySlot, isOpening, isFailed, slotOk, isClosed, readyOf, deliveredOf, settledOf, takenOf, budgetOf, SlotOk}
+use Rattle.slot.proofs.Kept.{pick, sound, settled-sound}
+use Rattle.slot.proofs.Laws.{cond-true}
 use Rattle.state.specs.declared.Header.{Header}
 use Rattle.state.specs.Change.{Change, slotTo, changedAll}
-use Rattle.state.specs.State.{stateOf}
-use Rattle.state.specs.Valid.{isWhole}
+use Rattle.state.specs.State.{isState, stateOf}
+use Rattle.state.specs.Valid.{filledOk, slotFine, slotsFine, waitingFine, headerFine, filledAt, whole, isWhole}
 use Rattle.state.proofs.RowLaws.{Every, every-append}
 use Rattle.state.proofs.StateLaws.{Fits, SlotFits}
 use Rattle.table.specs.declared.Allocated.{Allocated}
 use Rattle.table.specs.declared.Allocated.the-variants.{Channel, NoFree}
 use Rattle.table.specs.declared.ChannelId.{ChannelId}
-use Rattle.table.specs.declared.Want.the-variants.{Local, Empty}
+use Rattle.table.specs.declared.Want.the-variants.{Empty}
 use Rattle.table.specs.Table.{wantedBy, placeOf, numbered, allocated}
-use Rattle.table.specs.Dispatch.{slotIn, shareOf}
+use Rattle.table.specs.Dispatch.{slotIn}
 use Rattle.connection.specs.declared.Answer.{Answer}
-use Rattle.connection.specs.declared.Answer.the-variants.{Waiting, Refused}
+use Rattle.connection.specs.declared.Answer.the-variants.{Waiting}
 use Rattle.connection.specs.declared.Received.{Received}
-use Rattle.connection.specs.declared.Received.the-variants.{Packet as PacketIs, Stop}
-use Rattle.connection.specs.declared.Refusal.{Refusal}
 use Rattle.connection.specs.Act.{Acted, actOn}
-use Rattle.connection.specs.Calls.{Lent, Outcome, Work, untouched, begun, then, thenActed, withHeader, ends, checked, checkedOut, dropped, waitingFor, policy, idsIn, isThere, slotFor, ackFrames, unlessFault, receivedOf, bodyOf, frameLen, isWrite, isReady, dispatchBy, dispatchStep, settledAs, settleStep, frontOf, takenBy, takeStep, reread, readSettled, readActed, isDirect, readDirect, readBy, readTaken, readFirst, readStep, sendLen, sendSome, sendBy, sendAgain, writeReadied, writeActed, writeAct, writeBy, writeFirst, writeOn, writeStep, closeStep, frontBy, frontStep, openOn, stillWaits, openReadied, openActed, openBy, openStep, openOf, dispatchOf, settleOf, takeOf, readOf, writeOf, closeOf, frontCall}
-use Rattle.connection.specs.Frames.{Frame, okayFrame, closeFrame, openFrame, writeFrame, frameBytes, framesBytes}
+use Rattle.connection.specs.Calls.{Lent, Outcome, Work, begun, then, thenActed, withHeader, ends, checked, checkedOut, dropped, waitingFor, policy, idsIn, isThere, slotFor, ackFrames, receivedOf, bodyOf, frameLen, isWrite, isReady, dispatchBy, dispatchStep, settledAs, settleStep, frontOf, takenBy, takeStep, reread, readSettled, readActed, isDirect, readDirect, readBy, readTaken, readFirst, readStep, sendLen, sendSome, sendBy, sendAgain, writeReadied, writeActed, writeAct, writeBy, writeFirst, writeOn, writeStep, closeStep, frontBy, frontStep, openOn, stillWaits, openReadied, openActed, openBy, openStep, openOf, dispatchOf, settleOf, takeOf, readOf, writeOf, closeOf, frontCall}
+use Rattle.connection.specs.Frames.{Frame, closeFrame, openFrame, writeFrame, frameBytes, framesBytes}
 use Rattle.history.specs.Run.{bytesIn, Call, openCall, dispatchCall, settleCall, takeCall, readCall, writeCall, closeCall, frontTaken, World, lent, outcome, Seen, seenIn, seen}
-use Rattle.history.proofs.Heard.{SentFits, FrameFits, Writes, heardOf, heard-call}
+use Rattle.history.specs.Book.{acksOf, lastOpen}
+use Rattle.history.proofs.Acts.{acksIn}
+use Rattle.history.proofs.Heard.{FrameFits, Writes, heard-acks, openIn, heard-open, heardOf, heard-call}
 use Rattle.history.proofs.Packets.{Got, stopped, packet, got, reads-arg0, reads-arg1, body-length}
-use Rattle.history.proofs.Places.{slotsBy, slots-by, slot-set-same, slot-set-other, TableOk}
+use Rattle.history.proofs.Places.{slots-by, slot-set-same, slot-set-other}
 use Rattle.history.proofs.Sending.{IdsFit, Few, bytes-append, bytes-one, few-none, few-join, few-close, few-ack, Rests, quiet, same, clear, Own, Readied-ids, ready-ids, some, Acts, acts, settled-ids, settled-small, silent-clear, silent-again, Taking, took, nothing, shut, taking, no-data, delivered-ids, delivered-small}
 
 -- ---- what is asked of a state
@@ -89,21 +85,40 @@ every-ids [] j e = record { local = omega arith; remote = omega arith }
 every-ids (s ∷ ss) zero e = record { local = e .0 .local; remote = e .0 .remote }
 every-ids (s ∷ ss) (suc j) e = every-ids ss j (e .1)
 
--- a state that is read from bytes, and whose table is as a whole state's
-pub able : (l : Lent) → Fits (l .state) → l .state .header .negotiated .«max_payload» ≤ maxPayload
-    → TableOk (policy l) (l .state .header .negotiated .config .channels) (l .state .slots) (l .rx) → Able l
-unfolding creditOf openingCredit
-able l f m t =
+-- a filled slot of a whole state is sound
+fine-at : (channels cap i : ℕ) (ss : List ChannelSlot) (j : ℕ) → slotsFine channels cap i ss ≡ true → slotIn ss j .filled ≡ true → slotOk (slotIn ss j) cap ≡ true
+unfolding slotsFine slotFine filledOk slotIn emptySlot
+fine-at channels cap i [] j e f = absurd (true≢false (sym f))
+fine-at channels cap i (s ∷ ss) zero e f =
+    let a = and-true (slotFine channels cap i s) (slotsFine channels cap (suc i) ss) e .0 in
+    let b : (ltb i channels && filledOk s cap) ≡ true = sym (cond-true (s .filled) _ _ f) ∙ a in
+    and-true (not (isOpening (s .state)) && not (isFailed (s .failed)) && s .«has_remote») (slotOk s cap) (and-true (ltb i channels) (filledOk s cap) b .1) .1
+fine-at channels cap i (s ∷ ss) (suc j) e f = fine-at channels cap (suc i) ss j (and-true (slotFine channels cap i s) (slotsFine channels cap (suc i) ss) e .1) f
+
+-- a whole state whose numbers fit their fields
+pub able-whole : (l : Lent) → Fits (l .state) → whole (l .state) ≡ true → Able l
+unfolding whole headerFine creditOf openingCredit policyOf
+able-whole l f e =
+    let h = l .state .header in
+    let c = h .negotiated .config in
+    let fine = slotsFine (c .channels) (capOf c) 0 (l .state .slots) in
+    let waits = waitingFine h (filledAt (l .state .slots) (h .waiting .slot)) in
+    let a = and-true (headerFine h) fine (and-true (headerFine h && fine) waits (and-true (headerFine h && fine && waits) _ e .0) .0) in
+    let b₄ = and-true _ (leb (h .queued) (c .channels)) (a .0) .0 in
+    let b₃ = and-true _ (not (eqb (h .«next_local») 0)) b₄ .0 in
+    let b₂ = and-true _ (leb (h .negotiated .«protocol_version») 0x0100_0001) b₃ .0 in
+    let b = and-true (withinLimits c) (leb (h .negotiated .«max_payload») 1_048_576) b₂ in
+    let w = within c (b .0) in
     let i = f .header .initial in
     record {
       next = f .header .next;
       waits = f .header .local;
-      credit = pick (λ (x : ℕ). x < 2 ^ 32) (l .state .header .negotiated .«delayed_ack») (λ d. omega arith) (λ d. omega arith);
-      most = m;
-      size = t .size;
-      channels = t .most;
+      credit = pick (λ (x : ℕ). x < 2 ^ 32) (h .negotiated .«delayed_ack») (λ d. omega arith) (λ d. omega arith);
+      most = leb-true (h .negotiated .«max_payload») 1_048_576 (b .1);
+      size = f .full .slots;
+      channels = w .most-channels;
       ids = λ j. every-ids (l .state .slots) j (f .slots);
-      sound = t .sound;
+      sound = λ j t. sound (slotIn (l .state .slots) j) (capOf c) (limits c w .cap-small) (fine-at (c .channels) (capOf c) 0 (l .state .slots) j (a .1) t);
     }
 
 -- the numbers of a packet
@@ -517,8 +532,8 @@ module _ (l : Lent) (able : Able l) (out room : ℕ) where
             let b = c .below in
             let here : slotIn ss (ch .slot) ≡ s₁ = slot-set-same (l .state .slots) (ch .slot) s₁ (omega arith) in
             let o : Own (Unit {0}) p s₁ (some (a .frames)) t =
-                subst (λ (q : ChannelSlot). Own (Unit {0}) p q (some (a .frames)) t) here
-                (subst (λ (q : List ChannelSlot). Own (Unit {0}) p (slotIn ss (ch .slot)) (some (a .frames)) (slotIn q (ch .slot))) (sym (slots-by (l .state) (slotTo (ch .slot) s₁ ∷ a .changes))) (x .own)) in
+            subst (λ (q : ChannelSlot). Own (Unit {0}) p q (some (a .frames)) t) here
+            (subst (λ (q : List ChannelSlot). Own (Unit {0}) p (slotIn ss (ch .slot)) (some (a .frames)) (slotIn q (ch .slot))) (sym (slots-by (l .state) (slotTo (ch .slot) s₁ ∷ a .changes))) (x .own)) in
             let r = settledOf t p room in
             reread-by used (a .fault) _ (r .slot) (takenOf (r .slot) room) (again-few a t (x .writes) (o .ids) (o .sound tt) z (o .rests)) (taking (r .slot) room)
 
@@ -534,7 +549,7 @@ module _ (l : Lent) (able : Able l) (out room : ℕ) where
             let here : slotIn ss (ch .slot) ≡ s₁ = slot-set-same (l .state .slots) (ch .slot) s₁ (omega arith) in
             let ok = settled-sound (slotFor l ch) p room (p .«rx_cap») (c .sound) in
             let x = acts (Unit {0}) h₀ ss (l .state .opens) (l .rx) (l .store) k (bodyOf received k) (ch .slot) (ids-set (l .state .slots) (ch .slot) s₁ (able .ids) ids₁ (omega arith)) (omega arith)
-                (λ q. subst (λ (v : ChannelSlot). SlotOk v (p .«rx_cap»)) (sym here) ok) (g .arg0) (g .arg1) in
+            (λ q. subst (λ (v : ChannelSlot). SlotOk v (p .«rx_cap»)) (sym here) ok) (g .arg0) (g .arg1) in
             pick W (isDirect s₁ room k) (λ t. read-direct k s t)
             (λ t. pick W (closedBy (idsIn s₁) k) (λ u. stop₁ _ _ (frameLen k))
             (λ u. read-acted (actOn h₀ ss (l .state .opens) (l .rx) (l .store) k (bodyOf received k)) (frameLen k) z x))
@@ -619,7 +634,22 @@ seen-as w (writeCall out ch bytes received) = refl
 seen-as w (closeCall out ch) = refl
 seen-as w frontTaken = refl
 
--- so what is seen of it is what its outcome says
-pub seen-is : (w : World) → (isWhole (w .state) ≡ true → Able (lent w)) → (c : Call) → seen w c ≡ heardOf (lent w .state .header .negotiated) (outcome w c)
-seen-is w f c =
-    seen-as w c ∙ heard-call (lent w .state .header .negotiated) (outOf c) (bufOf c) (outcome w c) (call-writes w f c)
+-- what is seen of a call is what its outcome says, on a state whose numbers fit their fields
+module _ (w : World) (fits : Fits (stateOf (w .state))) (c : Call) where
+  abbrev agreed : Negotiated
+  agreed = stateOf (w .state) .header .negotiated
+
+  writes : Writes agreed (length (outOf c)) (length (bufOf c)) (outcome w c)
+  unfolding isWhole
+  writes = call-writes w (λ t. able-whole (lent w) fits (and-true (isState (w .state)) (whole (stateOf (w .state))) t .1)) c
+
+  pub seen-is : seen w c ≡ heardOf agreed (outcome w c)
+  seen-is = seen-as w c ∙ heard-call agreed (outOf c) (bufOf c) (outcome w c) writes
+
+  -- the credit that the book reads, and the last OPEN's
+  pub seen-acks : (l : ℕ) → acksOf l (seen w c .sent) ≡ acksIn (policyOf agreed) l (outcome w c .frames)
+  unfolding policyOf
+  seen-acks l = ap (λ (x : Seen). acksOf l (x .sent)) seen-is ∙ heard-acks (policyOf agreed) agreed l (outcome w c .frames) refl (writes .each)
+
+  pub seen-open : (a : ℕ) → lastOpen (seen w c .sent) a ≡ openIn (outcome w c .frames) a
+  seen-open a = ap (λ (x : Seen). lastOpen (x .sent) a) seen-is ∙ heard-open agreed (outcome w c .frames) a
