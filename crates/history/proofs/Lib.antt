@@ -1,11 +1,14 @@
 pub mod Acts
 pub mod Entries
 pub mod Good
+pub mod Heard
 pub mod Never13
 pub mod Packets
 pub mod Places
 pub mod Received
+pub mod Sending
 pub mod Steps
 pub mod WholeAct
 pub mod WholeCalls
 pub mod WholeWork
+pub mod Written

@@ -1,0 +1,173 @@
+-- What a caller hears of frames: their bytes read back. Assumes nothing.
+--     heard        the frames read from framesBytes are those that were written
+--     taken-back   what a buffer's first bytes are after a put
+--     heard-acks   the credit that is read is the frames' own; heard-open: and so is the last OPEN's
+--     heard-call   what is seen of an outcome whose frames and bytes fit
+use mathlib.Core.Path.{_≡_, refl, sym, ap, _∙_}
+use mathlib.Core.Bool.{Bool, true, false, cond}
+use mathlib.Core.List.{List, [], _∷_, _++_, map}
+use Prim.Native.Nat.{ℕ, zero, suc, _+_, _≤_, _<_, _^_}
+use native.Mathlib.Omega.{arith}
+use lib.Dec.{eqb}
+use lib.ListN.{length, take}
+use lib.Seq.{drop-at}
+use Rattle.le.specs.Le.{bytesOf, part, put}
+use Rattle.le.proofs.Laws.{write-read}
+use Rattle.le.proofs.Parts.{part-put-same}
+use Rattle.config.specs.declared.negotiated.Negotiated.{Negotiated}
+use Rattle.config.specs.declared.negotiated.RxPolicy.{RxPolicy}
+use Rattle.protocol.specs.declared.command.Command.the-variants.{Open, Ready, Close, Write}
+use Rattle.protocol.specs.Checksum.{policyFor}
+use Rattle.protocol.specs.Packet.{maxPayload, decodeOf, usedOf, frameFor}
+use Rattle.protocol.proofs.RoundTrip.{Comes-back}
+use Rattle.state.specs.Rows.{flat}
+use Rattle.state.proofs.RowLaws.{Every}
+use Rattle.wire.specs.Wire.{creditBytes, okayBytes, closeBytes}
+use Rattle.wire.proofs.Laws.{back}
+use Rattle.connection.specs.Calls.{Outcome, writtenBy, isReady}
+use Rattle.connection.specs.Frames.{Frame, okayFrame, closeFrame, openFrame, writeFrame, frameBytes, framesBytes}
+use Rattle.history.specs.Book.{creditIn, acksOf, lastOpen}
+use Rattle.history.specs.Run.{Sent, Seen, sentBy, sentIn, seenIn}
+use Rattle.history.proofs.Acts.{acksIn}
+
+-- ---- what a frame is as bytes
+
+-- what a frame is to its receiver
+abbrev pub sentOf : Negotiated → Frame → Sent
+sentOf n (okayFrame ids len) = record { command = Ready; arg0 = ids .local .0; arg1 = ids .remote .0; payload = creditBytes (n .«delayed_ack») len }
+sentOf n (closeFrame ids) = record { command = Close; arg0 = ids .local .0; arg1 = ids .remote .0; payload = [] }
+sentOf n (openFrame local credit destination) = record { command = Open; arg0 = local .0; arg1 = credit; payload = destination }
+sentOf n (writeFrame ids bytes) = record { command = Write; arg0 = ids .local .0; arg1 = ids .remote .0; payload = bytes }
+
+-- numbers of 32 bits, a payload within the maximum
+pub record SentFits (s : Sent) : Type 0 where
+  pub arg0-fits : s .arg0 < 2 ^ 32
+  pub arg1-fits : s .arg1 < 2 ^ 32
+  pub small : length (s .payload) ≤ maxPayload
+
+-- the number that an OKAY acknowledges
+abbrev pub lenOf : Frame → ℕ
+lenOf (okayFrame ids len) = len
+lenOf (closeFrame ids) = 0
+lenOf (openFrame local credit destination) = 0
+lenOf (writeFrame ids bytes) = 0
+
+-- a frame that is read back: its numbers are below 2 ^ 32, its payload is within the maximum; a length that is not sent
+-- may be any
+pub record FrameFits (n : Negotiated) (f : Frame) : Type 0 where
+  pub sent : SentFits (sentOf n f)
+  pub len-fits : n .«delayed_ack» ≡ true → lenOf f < 2 ^ 32
+
+-- the bytes of what is sent
+abbrev bytesFor : Negotiated → Sent → List ℕ
+bytesFor n s = frameFor (s .command) (s .arg0) (s .arg1) (s .payload) (policyFor (n .«protocol_version»))
+
+frame-is : (n : Negotiated) (f : Frame) → frameBytes n f ≡ bytesFor n (sentOf n f)
+unfolding frameBytes okayBytes closeBytes
+frame-is n (okayFrame ids len) = refl
+frame-is n (closeFrame ids) = refl
+frame-is n (openFrame local credit destination) = refl
+frame-is n (writeFrame ids bytes) = refl
+
+-- ---- frames read back
+
+-- one frame, whatever follows it
+module _ (n : Negotiated) (s : Sent) (h : SentFits s) (rest : List ℕ) where
+  abbrev l : List ℕ
+  l = bytesFor n s ++ rest
+
+  comes : Comes-back (s .command) (s .arg0) (s .arg1) (s .payload) maxPayload (length (bytesFor n s)) l
+  comes = back (s .command) (s .arg0) (s .arg1) (s .payload) (policyFor (n .«protocol_version»)) maxPayload (h .arg0-fits) (h .arg1-fits) (omega (arith, h .small)) rest
+
+  sent-one : (k : ℕ) → sentIn (suc k) l ≡ s ∷ sentIn k rest
+  unfolding sentIn sentBy usedOf
+  sent-one k =
+      let d = drop-at (bytesFor n s) rest (24 + length (s .payload)) (comes .length-is) in
+      rw (comes .frame-is, d, comes .payload-is)
+
+-- no bytes, no frames
+sent-none : (k : ℕ) → sentIn k [] ≡ []
+unfolding sentIn sentBy decodeOf
+sent-none zero = refl
+sent-none (suc k) = refl
+
+-- frames one behind the other
+pub heard-in : (n : Negotiated) (k : ℕ) (fs : List Frame) → length fs ≤ k → Every (FrameFits n) fs → sentIn k (framesBytes n fs) ≡ map (sentOf n) fs
+unfolding framesBytes flat
+heard-in n k [] h e = sent-none k
+heard-in n zero (f ∷ fs) h e = absurd (omega arith)
+heard-in n (suc k) (f ∷ fs) h e =
+    ap (λ (b : List ℕ). sentIn (suc k) (b ++ framesBytes n fs)) (frame-is n f)
+    ∙ sent-one n (sentOf n f) (e .0 .sent) (framesBytes n fs) k
+    ∙ ap (λ (x : List Sent). sentOf n f ∷ x) (heard-in n k fs (omega arith) (e .1))
+
+-- at most two, as a call writes them
+pub heard : (n : Negotiated) (fs : List Frame) → length fs ≤ 2 → Every (FrameFits n) fs → sentIn 2 (framesBytes n fs) ≡ map (sentOf n) fs
+heard n fs h e = heard-in n 2 fs h e
+
+-- what was put at the start of a buffer: frames in out, bytes handed over in the reader's
+pub taken-back : (buf h : List ℕ) → length h ≤ length buf → take (length h) (put buf 0 h) ≡ h
+unfolding part
+taken-back buf h e = part-put-same buf 0 h (omega arith)
+
+-- ---- the credit that is read
+
+-- an OKAY's payload as credit
+credit-back : (delayed : Bool) (len : ℕ) → (delayed ≡ true → len < 2 ^ 32) → creditIn (creditBytes delayed len) ≡ cond delayed len 0
+unfolding creditIn creditBytes bytesOf part
+credit-back true len h = write-read 4 len (h refl)
+credit-back false len h = refl
+
+-- is the one that the frames carry
+pub heard-acks : (p : RxPolicy) (n : Negotiated) (l : ℕ) (fs : List Frame) → p .delayed ≡ n .«delayed_ack» → Every (FrameFits n) fs
+    → acksOf l (map (sentOf n) fs) ≡ acksIn p l fs
+unfolding acksOf isReady
+heard-acks p n l [] d e = refl
+heard-acks p n l (okayFrame ids len ∷ fs) d e =
+    let c : creditIn (creditBytes (n .«delayed_ack») len) ≡ cond (p .delayed) len 0 = credit-back (n .«delayed_ack») len (e .0 .len-fits) ∙ ap (λ (t : Bool). cond t len 0) (sym d) in
+    let i = heard-acks p n l fs d (e .1) in
+    ap (λ (x : ℕ). cond (eqb (ids .local .0) l) x 0 + acksOf l (map (sentOf n) fs)) c ∙ ap (λ (x : ℕ). cond (eqb (ids .local .0) l) (cond (p .delayed) len 0) 0 + x) i
+heard-acks p n l (closeFrame ids ∷ fs) d e = let i = heard-acks p n l fs d (e .1) in omega arith
+heard-acks p n l (openFrame local credit destination ∷ fs) d e = let i = heard-acks p n l fs d (e .1) in omega arith
+heard-acks p n l (writeFrame ids bytes ∷ fs) d e = let i = heard-acks p n l fs d (e .1) in omega arith
+
+-- the credit in the last OPEN of some frames
+abbrev pub openIn : List Frame → ℕ → ℕ
+openIn [] a = a
+openIn (okayFrame ids len ∷ fs) a = openIn fs a
+openIn (closeFrame ids ∷ fs) a = openIn fs a
+openIn (openFrame local credit destination ∷ fs) a = openIn fs credit
+openIn (writeFrame ids bytes ∷ fs) a = openIn fs a
+
+-- is the one that is read
+pub heard-open : (n : Negotiated) (fs : List Frame) (a : ℕ) → lastOpen (map (sentOf n) fs) a ≡ openIn fs a
+unfolding lastOpen
+heard-open n [] a = refl
+heard-open n (okayFrame ids len ∷ fs) a = heard-open n fs a
+heard-open n (closeFrame ids ∷ fs) a = heard-open n fs a
+heard-open n (openFrame local credit destination ∷ fs) a = heard-open n fs credit
+heard-open n (writeFrame ids bytes ∷ fs) a = heard-open n fs a
+
+-- ---- what is seen of a call
+
+-- what a call writes: at most two frames that are read back, within out bytes; bytes handed over, within room
+pub record Writes (n : Negotiated) (out room : ℕ) (o : Outcome) : Type 0 where
+  pub few : length (o .frames) ≤ 2
+  pub each : Every (FrameFits n) (o .frames)
+  pub written : length (framesBytes n (o .frames)) ≤ out
+  pub handed : length (o .handed) ≤ room
+
+-- what an outcome says is seen
+abbrev pub heardOf : Negotiated → Outcome → Seen
+heardOf n o = record { answer = o .answer; used = o .used; sent = map (sentOf n) (o .frames); got = o .handed }
+
+-- and is what is seen, where the buffers have room for it
+pub heard-call : (n : Negotiated) (out buf : List ℕ) (o : Outcome) → Writes n (length out) (length buf) o → seenIn n out buf o ≡ heardOf n o
+unfolding seenIn writtenBy
+heard-call n out buf o h =
+    λ i. record {
+      answer = o .answer;
+      used = o .used;
+      sent = (ap (sentIn 2) (taken-back out (framesBytes n (o .frames)) (h .written)) ∙ heard n (o .frames) (h .few) (h .each)) i;
+      got = taken-back buf (o .handed) (h .handed) i;
+    }

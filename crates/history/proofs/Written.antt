@@ -1,0 +1,655 @@
+-- What every call writes: at most two frames that are read back, within its buffers; so a caller sees just what the call's
+-- outcome says. Assumes nothing.
+use mathlib.Core.Path.{_≡_, refl, sym, ap, subst, _∙_}
+use mathlib.Core.Bool.{Bool, true, false, not, _&&_, true≢false}
+use mathlib.Core.List.{List, [], _∷_, _++_}
+use Prim.Native.Nat.{ℕ, zero, suc, _+_, _^_, _≤_, _<_}
+use native.Mathlib.Omega.{arith}
+use lib.Dec.{eqb, ltb, leb}
+use lib.ListN.{length, take, set, length-append, length-take, length-set}
+use borrow.Author.Tests.{eqb-true, eqb-false, ltb-true, ltb-false, leb-true}
+use Rattle.le.specs.Le.{numOf, part, Bytes}
+use Rattle.le.proofs.Laws.{numOf-part}
+use Rattle.le.proofs.Parts.{by-test}
+use Rattle.config.specs.declared.negotiated.Negotiated.{Negotiated}
+use Rattle.config.specs.declared.negotiated.RxPolicy.{RxPolicy}
+use Rattle.config.specs.Config.{withinLimits, capOf, openingCredit, storesFit}
+use Rattle.config.specs.Negotiated.{policyOf, creditOf}
+use Rattle.config.proofs.Laws.{and-true, within, sound as limits}
+use Rattle.incoming.specs.declared.Front.{Front}
+use Rattle.incoming.specs.declared.Front.the-variants.{Open as FrontOpen, Nothing as NoFront}
+use Rattle.incoming.specs.Incoming.{popped}
+use Rattle.protocol.specs.declared.command.Command.the-variants.{Write, Open}
+use Rattle.protocol.specs.declared.packet.Packet.{Packet}
+use Rattle.protocol.specs.Checksum.{policyFor, checkFor}
+use Rattle.protocol.specs.Message.{messageOf}
+use Rattle.protocol.specs.Packet.{maxPayload, packetOf}
+use Rattle.protocol.proofs.PacketLaws.{frame-length}
+use Rattle.protocol.proofs.RoundTrip.{Says}
+use Rattle.slot.specs.declared.Budget.{Budget}
+use Rattle.slot.specs.declared.Budget.the-variants.{Bytes as Most, Nothing as NoBudget}
+use Rattle.slot.specs.declared.ChannelSlot.{ChannelSlot}
+use Rattle.slot.specs.declared.Failed.{Failed}
+use Rattle.slot.specs.declared.Failed.the-variants.{No, By}
+use Rattle.slot.specs.declared.PendingAck.{PendingAck}
+use Rattle.slot.specs.declared.PendingAck.the-variants.{Nothing as NoAck}
+use Rattle.slot.specs.declared.Readied.{Readied}
+use Rattle.slot.specs.declared.Readied.the-variants.{Slot, Short}
+use Rattle.slot.specs.declared.Taken.{Taken}
+use Rattle.slot.specs.Ids.{closedBy, isClose}
+use Rattle.slot.specs.Slot.{emptySlot, isOpening, isFailed, slotOk, isClosed, readyOf, deliveredOf, settledOf, takenOf, budgetOf, SlotOk}
+use Rattle.slot.proofs.Kept.{pick, sound, settled-sound}
+use Rattle.slot.proofs.Laws.{cond-true}
+use Rattle.state.specs.declared.Header.{Header}
+use Rattle.state.specs.Change.{Change, slotTo, changedAll}
+use Rattle.state.specs.State.{isState, stateOf}
+use Rattle.state.specs.Valid.{filledOk, slotFine, slotsFine, waitingFine, headerFine, filledAt, whole, isWhole}
+use Rattle.state.proofs.RowLaws.{Every, every-append}
+use Rattle.state.proofs.StateLaws.{Fits, SlotFits}
+use Rattle.table.specs.declared.Allocated.{Allocated}
+use Rattle.table.specs.declared.Allocated.the-variants.{Channel, NoFree}
+use Rattle.table.specs.declared.ChannelId.{ChannelId}
+use Rattle.table.specs.declared.Want.the-variants.{Empty}
+use Rattle.table.specs.Table.{wantedBy, placeOf, numbered, allocated}
+use Rattle.table.specs.Dispatch.{slotIn}
+use Rattle.connection.specs.declared.Answer.{Answer}
+use Rattle.connection.specs.declared.Answer.the-variants.{Waiting}
+use Rattle.connection.specs.declared.Received.{Received}
+use Rattle.connection.specs.Act.{Acted, actOn}
+use Rattle.connection.specs.Calls.{Lent, Outcome, Work, begun, then, thenActed, withHeader, ends, checked, checkedOut, dropped, waitingFor, policy, idsIn, isThere, slotFor, ackFrames, receivedOf, bodyOf, frameLen, isWrite, isReady, dispatchBy, dispatchStep, settledAs, settleStep, frontOf, takenBy, takeStep, reread, readSettled, readActed, isDirect, readDirect, readBy, readTaken, readFirst, readStep, sendLen, sendSome, sendBy, sendAgain, writeReadied, writeActed, writeAct, writeBy, writeFirst, writeOn, writeStep, closeStep, frontBy, frontStep, openOn, stillWaits, openReadied, openActed, openBy, openStep, openOf, dispatchOf, settleOf, takeOf, readOf, writeOf, closeOf, frontCall}
+use Rattle.connection.specs.Frames.{Frame, closeFrame, openFrame, writeFrame, frameBytes, framesBytes}
+use Rattle.history.specs.Run.{bytesIn, Call, openCall, dispatchCall, settleCall, takeCall, readCall, writeCall, closeCall, frontTaken, World, lent, outcome, Seen, seenIn, seen}
+use Rattle.history.specs.Book.{acksOf, lastOpen}
+use Rattle.history.proofs.Acts.{acksIn}
+use Rattle.history.proofs.Heard.{FrameFits, Writes, heard-acks, openIn, heard-open, heardOf, heard-call}
+use Rattle.history.proofs.Packets.{Got, stopped, packet, got, reads-arg0, reads-arg1, body-length}
+use Rattle.history.proofs.Places.{slots-by, slot-set-same, slot-set-other}
+use Rattle.history.proofs.Sending.{IdsFit, Few, bytes-append, bytes-one, few-none, few-join, few-close, few-ack, Rests, quiet, same, clear, Own, Readied-ids, ready-ids, some, Acts, acts, settled-ids, settled-small, silent-clear, silent-again, Taking, took, nothing, shut, taking, no-data, delivered-ids, delivered-small}
+
+-- ---- what is asked of a state
+
+-- its channels' numbers are of 32 bits, a filled slot's numbers are within its share, the limits are kept
+pub record Able (l : Lent) : Type 0 where
+  pub next : l .state .header .«next_local» < 2 ^ 32
+  pub waits : l .state .header .waiting .local .0 < 2 ^ 32
+  pub credit : creditOf (l .state .header .negotiated) < 2 ^ 32
+  pub most : l .state .header .negotiated .«max_payload» ≤ maxPayload
+  pub size : length (l .state .slots) ≡ 64
+  pub channels : l .state .header .negotiated .config .channels ≤ 64
+  pub ids : (j : ℕ) → IdsFit (idsIn (slotIn (l .state .slots) j))
+  pub sound : (j : ℕ) → slotIn (l .state .slots) j .filled ≡ true → SlotOk (slotIn (l .state .slots) j) (policy l .«rx_cap»)
+
+every-ids : (ss : List ChannelSlot) (j : ℕ) → Every SlotFits ss → IdsFit (idsIn (slotIn ss j))
+unfolding slotIn emptySlot
+every-ids [] j e = record { local = omega arith; remote = omega arith }
+every-ids (s ∷ ss) zero e = record { local = e .0 .local; remote = e .0 .remote }
+every-ids (s ∷ ss) (suc j) e = every-ids ss j (e .1)
+
+-- a filled slot of a whole state is sound
+fine-at : (channels cap i : ℕ) (ss : List ChannelSlot) (j : ℕ) → slotsFine channels cap i ss ≡ true → slotIn ss j .filled ≡ true → slotOk (slotIn ss j) cap ≡ true
+unfolding slotsFine slotFine filledOk slotIn emptySlot
+fine-at channels cap i [] j e f = absurd (true≢false (sym f))
+fine-at channels cap i (s ∷ ss) zero e f =
+    let a = and-true (slotFine channels cap i s) (slotsFine channels cap (suc i) ss) e .0 in
+    let b : (ltb i channels && filledOk s cap) ≡ true = sym (cond-true (s .filled) _ _ f) ∙ a in
+    and-true (not (isOpening (s .state)) && not (isFailed (s .failed)) && s .«has_remote») (slotOk s cap) (and-true (ltb i channels) (filledOk s cap) b .1) .1
+fine-at channels cap i (s ∷ ss) (suc j) e f = fine-at channels cap (suc i) ss j (and-true (slotFine channels cap i s) (slotsFine channels cap (suc i) ss) e .1) f
+
+-- a whole state whose numbers fit their fields
+pub able-whole : (l : Lent) → Fits (l .state) → whole (l .state) ≡ true → Able l
+unfolding whole headerFine creditOf openingCredit policyOf
+able-whole l f e =
+    let h = l .state .header in
+    let c = h .negotiated .config in
+    let fine = slotsFine (c .channels) (capOf c) 0 (l .state .slots) in
+    let waits = waitingFine h (filledAt (l .state .slots) (h .waiting .slot)) in
+    let a = and-true (headerFine h) fine (and-true (headerFine h && fine) waits (and-true (headerFine h && fine && waits) _ e .0) .0) in
+    let b₄ = and-true _ (leb (h .queued) (c .channels)) (a .0) .0 in
+    let b₃ = and-true _ (not (eqb (h .«next_local») 0)) b₄ .0 in
+    let b₂ = and-true _ (leb (h .negotiated .«protocol_version») 0x0100_0001) b₃ .0 in
+    let b = and-true (withinLimits c) (leb (h .negotiated .«max_payload») 1_048_576) b₂ in
+    let w = within c (b .0) in
+    let i = f .header .initial in
+    record {
+      next = f .header .next;
+      waits = f .header .local;
+      credit = pick (λ (x : ℕ). x < 2 ^ 32) (h .negotiated .«delayed_ack») (λ d. omega arith) (λ d. omega arith);
+      most = leb-true (h .negotiated .«max_payload») 1_048_576 (b .1);
+      size = f .full .slots;
+      channels = w .most-channels;
+      ids = λ j. every-ids (l .state .slots) j (f .slots);
+      sound = λ j t. sound (slotIn (l .state .slots) j) (capOf c) (limits c w .cap-small) (fine-at (c .channels) (capOf c) 0 (l .state .slots) j (a .1) t);
+    }
+
+-- the numbers of a packet
+record Args (k : Packet) : Type 0 where
+  arg0 : k .arg0 < 2 ^ 32
+  arg1 : k .arg1 < 2 ^ 32
+
+args : (received : List ℕ) (limit : ℕ) (k : Packet) → Bytes received → Says received limit k → Args k
+unfolding messageOf
+args received limit k b r =
+    let e0 = reads-arg0 received limit k r in
+    let e1 = reads-arg1 received limit k r in
+    let h0 : numOf (part received 4 4) < 2 ^ 32 = numOf-part 4 received 4 b in
+    let h1 : numOf (part received 8 4) < 2 ^ 32 = numOf-part 4 received 8 b in
+    record { arg0 = omega arith; arg1 = omega arith }
+
+-- ---- a call's end
+
+few-up : (n : Negotiated) (j k : ℕ) (fs : List Frame) → j ≤ k → Few n j fs → Few n k fs
+few-up n j k fs h a = let x = a .few in let y = a .short in record { few = omega arith; each = a .each; short = omega arith }
+
+-- no frames, and no acknowledgement
+no-frames : (n : Negotiated) (fs : List Frame) → some fs ≡ false → Few n 0 fs
+no-frames n [] e = few-none n 0
+no-frames n (f ∷ fs) e = absurd (true≢false e)
+
+no-ack : (n : Negotiated) (s : ChannelSlot) (a : PendingAck) → a ≡ NoAck → Few n 0 (ackFrames s a)
+unfolding ackFrames
+no-ack n s a e = subst (λ (x : PendingAck). Few n 0 (ackFrames s x)) (sym e) (few-none n 0)
+
+-- channels' numbers, with one slot anew
+ids-set : (ss : List ChannelSlot) (i : ℕ) (t : ChannelSlot) → ((j : ℕ) → IdsFit (idsIn (slotIn ss j))) → IdsFit (idsIn t) → i < length ss → (j : ℕ) → IdsFit (idsIn (slotIn (set ss i t) j))
+ids-set ss i t f g h j =
+    by-test (eqb j i)
+    (λ u. let e = eqb-true j i u in subst (λ (s : ChannelSlot). IdsFit (idsIn s)) (sym (ap (λ (x : ℕ). slotIn (set ss i t) x) e ∙ slot-set-same ss i t h)) g)
+    (λ u. subst (λ (s : ChannelSlot). IdsFit (idsIn s)) (sym (slot-set-other ss i j t (eqb-false j i u))) (f j))
+
+part-short : (l : List ℕ) (at n room : ℕ) → n ≤ room → length (part l at n) ≤ room
+unfolding part
+part-short l at n room h = simp length-take (omega arith)
+
+module _ (n : Negotiated) (out room : ℕ) where
+  -- with no frame
+  writes-none : (o : Outcome) → o .frames ≡ [] → length (o .handed) ≤ room → Writes n out room o
+  writes-none o e h =
+      let f = few-none n 0 in
+      let g : Few n 0 (o .frames) = subst (Few n 0) (sym e) f in
+      let a = g .few in
+      let b = g .short in
+      record { few = omega arith; each = g .each; written = omega arith; handed = h }
+
+  -- with frames of at most 28 bytes
+  writes-few : 56 ≤ out → (w : Work) (a : Answer) (used : ℕ) (bytes : List ℕ) → Few n 2 (w .frames) → length bytes ≤ room → Writes n out room (ends w a used bytes)
+  unfolding ends
+  writes-few big w a used bytes f h =
+      let x = f .few in
+      let y = f .short in
+      record { few = omega arith; each = f .each; written = omega arith; handed = h }
+
+-- the refusals ahead of every step
+module _ (l : Lent) (out room : ℕ) where
+  abbrev n₀ : Negotiated
+  n₀ = l .state .header .negotiated
+
+  writes-checked : (whole : Bool) (o : Outcome) → (whole ≡ true → Writes n₀ out room o) → Writes n₀ out room (checked whole l o)
+  unfolding checked
+  writes-checked whole o f =
+      pick (Writes n₀ out room) whole
+      (λ t. pick (Writes n₀ out room) (storesFit (n₀ .config) (length (l .rx)) (length (l .store))) (λ u. f t) (λ u. writes-none n₀ out room _ refl (omega arith)))
+      (λ t. writes-none n₀ out room _ refl (omega arith))
+
+  writes-checked-out : (whole : Bool) (o : Outcome) → (whole ≡ true → 56 ≤ out → Writes n₀ out room o) → Writes n₀ out room (checkedOut whole l out o)
+  unfolding checkedOut
+  writes-checked-out whole o f =
+      writes-checked whole _ (λ t. pick (Writes n₀ out room) (ltb out 56) (λ u. writes-none n₀ out room _ refl (omega arith)) (λ u. f t (ltb-false out 56 u)))
+
+-- ---- each step
+
+-- what an open is allotted
+data Allots : Allocated → Type 0 where
+  full : Allots NoFree
+  allots : (ch : ChannelId) → ch .local .0 < 2 ^ 32 → Allots (Channel ch)
+
+allotted : (h : Header) (ss : List ChannelSlot) → h .«next_local» < 2 ^ 32 → Allots (allocated h ss)
+unfolding allocated
+allotted h ss f =
+    let c = h .negotiated .config .channels in
+    let j = placeOf Empty c ss in
+    pick Allots (ltb j c) (λ t. allots (record { slot = j; local = record { 0 = h .«next_local» } }) f) (λ t. full)
+
+module _ (l : Lent) (able : Able l) (out room : ℕ) where
+  abbrev n : Negotiated
+  n = l .state .header .negotiated
+
+  abbrev h₀ : Header
+  h₀ = dropped (l .state .header)
+
+  abbrev W : Outcome → Type 0
+  W = Writes n out room
+
+  record There (ch : ChannelId) : Type 0 where
+    below : ch .slot < 64
+    sound : SlotOk (slotFor l ch) (policy l .«rx_cap»)
+    ids : IdsFit (idsIn (slotFor l ch))
+
+  there : (ch : ChannelId) → isThere l ch ≡ true → There ch
+  unfolding isThere wantedBy slotFor
+  there ch e =
+      let s = slotIn (l .state .slots) (ch .slot) in
+      let f = and-true (ltb (ch .slot) (n .config .channels)) (s .filled && eqb (s .local .0) (ch .local .0)) e in
+      let g = and-true (s .filled) (eqb (s .local .0) (ch .local .0)) (f .1) in
+      let b = ltb-true (ch .slot) (n .config .channels) (f .0) in
+      let c = able .channels in
+      record { below = omega arith; sound = able .sound (ch .slot) (g .0); ids = able .ids (ch .slot) }
+
+  -- taking
+  take-by : (ch : ChannelId) (s : ChannelSlot) (x : Taken) → Taking s room x → W (takenBy l ch s (begun h₀ l) x)
+  unfolding takenBy frontOf ends
+  take-by ch s x (took t k h) = writes-none n out room _ refl (part-short _ _ k room h)
+  take-by ch s x (nothing e) = writes-none n out room _ refl (omega arith)
+  take-by ch s x (shut e) = writes-none n out room _ refl (omega arith)
+
+  pub take-writes : (ch : ChannelId) → W (takeStep l ch room)
+  unfolding takeStep ends
+  take-writes ch =
+      pick W (isThere l ch) (λ t. take-by ch (slotFor l ch) _ (taking (slotFor l ch) room)) (λ t. writes-none n out room _ refl (omega arith))
+
+  -- the front
+  front-by : (h : Header) (xs : List Change) (f : Front) → W (frontBy l h xs f)
+  unfolding frontBy ends
+  front-by h xs (FrontOpen q less) = writes-none n out room _ refl (omega arith)
+  front-by h xs NoFront = writes-none n out room _ refl (omega arith)
+
+  pub front-writes : W (frontStep l)
+  unfolding frontStep
+  front-writes = front-by h₀ (popped h₀ (l .state .opens) .changes) (popped h₀ (l .state .opens) .result)
+
+  module _ (big : 56 ≤ out) where
+    -- a call's end, with short frames
+    done : (w : Work) (a : Answer) (used : ℕ) (bytes : List ℕ) → Few n 2 (w .frames) → length bytes ≤ room → W (ends w a used bytes)
+    done = writes-few n out room big
+
+    quit : (w : Work) (a : Answer) (used : ℕ) → Few n 2 (w .frames) → W (ends w a used [])
+    quit w a used f = done w a used [] f (omega arith)
+
+    -- nothing was written yet
+    idle : (h : Header) (a : Answer) (used : ℕ) → W (ends (begun h l) a used [])
+    idle h a used = quit (begun h l) a used (few-none n 2)
+
+    -- one frame behind what was written
+    two : (fs gs : List Frame) → Few n 1 fs → Few n 1 gs → Few n 2 (fs ++ gs)
+    two fs gs = few-join n 1 1 2 fs gs (omega arith)
+
+    no-more : (k : ℕ) (fs : List Frame) → Few n k fs → Few n k (fs ++ [])
+    no-more k fs f = few-join n k 0 k fs [] (omega arith) f (few-none n 0)
+
+    -- settling and closing
+    pub settle-writes : (ch : ChannelId) (want : ℕ) → W (settleStep l ch want)
+    unfolding settleStep settledAs policyOf
+    settle-writes ch want =
+        pick W (isThere l ch)
+        (λ t. let c = there ch t in
+        let s = slotFor l ch in
+        quit (then (begun h₀ l) _ (ackFrames (settledOf s (policy l) want .slot) (settledOf s (policy l) want .ack))) _ 0
+        (few-up n 1 2 _ (omega arith) (few-ack n _ _ (settled-ids s (policy l) want (c .ids)) (λ d. settled-small s (policy l) want (policy l .«rx_cap») (c .sound) d))))
+        (λ t. idle h₀ _ 0)
+
+    pub close-writes : (ch : ChannelId) → W (closeStep l ch)
+    unfolding closeStep
+    close-writes ch =
+        pick W (isThere l ch && slotFor l ch .«has_remote»)
+        (λ t. let c = there ch (and-true (isThere l ch) (slotFor l ch .«has_remote») t .0) in
+        quit (then (begun h₀ l) _ (closeFrame (idsIn (slotFor l ch)) ∷ [])) _ 0 (few-up n 1 2 _ (omega arith) (few-close n _ (c .ids))))
+        (λ t. idle h₀ _ 0)
+
+    -- a packet that is dispatched, whatever it leaves
+    acted-few : (h : Header) → h .negotiated ≡ n → (k : Packet) (payload : List ℕ) → Args k
+        → Acts ⊥ h (l .state .slots) 0 (actOn h (l .state .slots) (l .state .opens) (l .rx) (l .store) k payload)
+    acted-few h e k payload a =
+        let z = able .size in
+        acts ⊥ h (l .state .slots) (l .state .opens) (l .rx) (l .store) k payload 0 (able .ids) (omega arith) (λ q. absurd q) (a .arg0) (a .arg1)
+
+    -- an OPEN
+    open-sent : (destination : List ℕ) (ch : ChannelId) → ch .local .0 < 2 ^ 32 → length destination ≤ maxPayload → 24 + length destination ≤ out
+        → W (ends (then (begun (waitingFor (numbered (l .state .header)) ch) l) [] (openFrame (ch .local) (creditOf n) destination ∷ [])) Waiting 0 [])
+    unfolding ends frameBytes
+    open-sent destination ch f s r =
+        let b = bytes-one n (openFrame (ch .local) (creditOf n) destination) in
+        let k = policyFor (n .«protocol_version») in
+        let e = frame-length Open (ch .local .0) (creditOf n) destination (checkFor k destination) in
+        record {
+          few = omega arith;
+          each = (record { sent = record { arg0-fits = f; arg1-fits = able .credit; small = s }; len-fits = λ d. omega arith }, tt);
+          written = omega arith;
+          handed = omega arith;
+        }
+
+    open-on : (destination : List ℕ) (r : Allocated) → Allots r → W (openOn l out destination r)
+    unfolding openOn
+    open-on destination r full = idle (l .state .header) _ 0
+    open-on destination r (allots ch f) =
+        pick W (ltb maxPayload (length destination)) (λ t. idle (numbered (l .state .header)) _ 0)
+        (λ t. pick W (ltb out (24 + length destination)) (λ u. writes-none n out room _ refl (omega arith))
+        (λ u. open-sent destination ch f (ltb-false maxPayload (length destination) t) (ltb-false out (24 + length destination) u)))
+
+    module _ (received : List ℕ) (bytes : Bytes received) where
+      abbrev limit : ℕ
+      limit = n .config .«max_payload»
+
+      -- dispatching
+      dispatch-by : (r : Received) → Got received limit r → W (dispatchBy l h₀ received r)
+      unfolding dispatchBy
+      dispatch-by r (stopped a used s) = idle h₀ a used
+      dispatch-by r (packet k s) =
+          let x = acted-few h₀ refl k (bodyOf received k) (args received limit k bytes s) in
+          quit (thenActed (begun h₀ l) (actOn h₀ (l .state .slots) (l .state .opens) (l .rx) (l .store) k (bodyOf received k))) _ (frameLen k)
+          (few-up n 1 2 _ (omega arith) (x .writes))
+
+      pub dispatch-writes : W (dispatchStep l received)
+      unfolding dispatchStep
+      dispatch-writes = dispatch-by (receivedOf l received) (got l received)
+
+      -- an OPEN that waits goes on
+      open-readied : (ch : ChannelId) (remote used : ℕ) (r : Readied) → ch .local .0 < 2 ^ 32 → remote < 2 ^ 32 → W (openReadied l ch remote used r)
+      unfolding openReadied
+      open-readied ch remote used (Slot t) f g = quit (then (begun h₀ l) _ []) _ used (few-none n 2)
+      open-readied ch remote used Short f g =
+          quit (then (begun h₀ l) _ (closeFrame (record { local = ch .local; remote = record { 0 = remote } }) ∷ [])) _ used
+          (few-up n 1 2 _ (omega arith) (few-close n _ (record { local = f; remote = g })))
+
+      open-by : (ch : ChannelId) → ch .local .0 < 2 ^ 32 → (r : Received) → Got received limit r → W (openBy l ch received r)
+      unfolding openBy openActed
+      open-by ch f r (stopped a used s) = idle (stillWaits a (l .state .header)) a used
+      open-by ch f r (packet k s) =
+          let g = args received limit k bytes s in
+          let h = l .state .header in
+          let x = acted-few h refl k (bodyOf received k) g in
+          let mine = eqb (k .arg1) (ch .local .0) in
+          pick W (isReady (k .command) && mine) (λ t. open-readied ch (k .arg0) (frameLen k) _ f (g .arg0))
+          (λ t. pick W (isWrite (k .command) && mine)
+          (λ u. quit (then (begun h₀ l) _ (closeFrame (record { local = ch .local; remote = record { 0 = k .arg0 } }) ∷ [])) _ (frameLen k)
+          (few-up n 1 2 _ (omega arith) (few-close n _ (record { local = f; remote = g .arg0 }))))
+          (λ u. pick W (isClose (k .command) && mine) (λ v. idle h₀ _ (frameLen k))
+          (λ v. quit (withHeader (thenActed (begun h l) (actOn h (l .state .slots) (l .state .opens) (l .rx) (l .store) k (bodyOf received k))) _) _ (frameLen k)
+          (few-up n 1 2 _ (omega arith) (x .writes)))))
+
+      pub open-writes : (destination : List ℕ) → W (openStep l out destination received)
+      unfolding openStep
+      open-writes destination =
+          let h = l .state .header in
+          pick W (h .waiting .on)
+          (λ t. open-by (record { slot = h .waiting .slot; local = h .waiting .local }) (able .waits) (receivedOf l received) (got l received))
+          (λ t. open-on destination (allocated h (l .state .slots)) (allotted h (l .state .slots) (able .next)))
+
+      -- ---- writing
+
+      -- a WRTE, where its frame fits
+      send-some : (ch : ChannelId) (given : List ℕ) (used : ℕ) (w : Work) (s : ChannelSlot) (most : ℕ) → Few n 1 (w .frames) → w .header .negotiated ≡ n → IdsFit (idsIn s)
+          → W (sendSome l ch out given used w s (sendLen l given most))
+      unfolding sendSome sendLen ends frameBytes
+      send-some ch given used w s most f e i =
+          let k = sendLen l given most in
+          let b = take k given in
+          let g = writeFrame (idsIn s) b in
+          let m = able .most in
+          let x = f .few in
+          let c : length b ≤ k = simp length-take (omega arith) in
+          let z : k ≤ maxPayload = omega arith in
+          pick W (ltb out (length (framesBytes (w .header .negotiated) (w .frames)) + 24 + k)) (λ t. writes-none n out room _ refl (omega arith))
+          (λ t. let v = ltb-false out (length (framesBytes (w .header .negotiated) (w .frames)) + 24 + k) t in
+          let q = ap (λ (y : Negotiated). length (framesBytes y (w .frames))) e in
+          let y = length-append (w .frames) (g ∷ []) in
+          let a = bytes-append n (w .frames) (g ∷ []) in
+          let o = bytes-one n g in
+          let p = policyFor (n .«protocol_version») in
+          let j = frame-length Write (s .local .0) (s .remote .0) b (checkFor p b) in
+          record {
+            few = omega arith;
+            each = every-append (FrameFits n) (w .frames) (g ∷ []) (f .each)
+                (record { sent = record { arg0-fits = i .local; arg1-fits = i .remote; small = omega arith }; len-fits = λ d. omega arith }, tt);
+            written = omega arith;
+            handed = omega arith;
+          })
+
+      send-by : (ch : ChannelId) (given : List ℕ) (used : ℕ) (w : Work) (s : ChannelSlot) (r : Budget) → Few n 1 (w .frames) → w .header .negotiated ≡ n → IdsFit (idsIn s)
+          → W (sendBy l ch out given used w s r)
+      unfolding sendBy
+      send-by ch given used w s (Most most) f e i = send-some ch given used w s most f e i
+      send-by ch given used w s NoBudget f e i = quit (then w _ []) _ used (few-join n 1 0 2 _ [] (omega arith) f (few-none n 0))
+
+      send-again : (ch : ChannelId) (given : List ℕ) (used : ℕ) (w : Work) (s : ChannelSlot) → Few n 1 (w .frames) → w .header .negotiated ≡ n → IdsFit (idsIn s)
+          → W (sendAgain l ch out given used w s)
+      unfolding sendAgain
+      send-again ch given used w s f e i =
+          pick W (isClosed (s .state)) (λ t. quit (then w _ []) _ used (few-join n 1 0 2 _ [] (omega arith) f (few-none n 0)))
+          (λ t. send-by ch given used w s (budgetOf s (policy l)) f e i)
+
+      write-readied : (ch : ChannelId) (given : List ℕ) (used : ℕ) (s : ChannelSlot) (r : Readied) → Readied-ids r → W (writeReadied l ch out given used (begun h₀ l) s r)
+      unfolding writeReadied
+      write-readied ch given used s (Slot t) i = send-again ch given used (begun h₀ l) t (few-none n 1) refl i
+      write-readied ch given used s Short i = idle h₀ _ used
+
+      write-acted : (ch : ChannelId) (given : List ℕ) (used : ℕ) (a : Acted) (f : Failed) → ch .slot < 64 → Acts ⊥ h₀ (l .state .slots) (ch .slot) a
+          → W (writeActed l ch out given used (begun h₀ l) a f)
+      unfolding writeActed
+      write-acted ch given used a (By f) b x = quit (thenActed (begun h₀ l) a) _ used (few-up n 1 2 _ (omega arith) (x .writes))
+      write-acted ch given used a No b x =
+          send-again ch given used (thenActed (begun h₀ l) a) _ (x .writes) (x .agreed)
+          (subst (λ (ss : List ChannelSlot). IdsFit (idsIn (slotIn ss (ch .slot)))) (sym (slots-by (l .state) (a .changes))) (x .own .ids))
+
+      write-by : (ch : ChannelId) → There ch → (given : List ℕ) (r : Received) → Got received limit r → W (writeBy l ch out given (begun h₀ l) (slotFor l ch) received r)
+      unfolding writeBy writeAct
+      write-by ch c given r (stopped a used s) = idle h₀ a used
+      write-by ch c given r (packet k s) =
+          let g = args received limit k bytes s in
+          let z = able .size in
+          let b = c .below in
+          let t = slotFor l ch in
+          let a = actOn h₀ (l .state .slots) (l .state .opens) (l .rx) (l .store) k (bodyOf received k) in
+          let x = acts ⊥ h₀ (l .state .slots) (l .state .opens) (l .rx) (l .store) k (bodyOf received k) (ch .slot) (able .ids) (omega arith) (λ q. absurd q) (g .arg0) (g .arg1) in
+          pick W (isReady (k .command) && eqb (k .arg1) (t .local .0))
+          (λ u. write-readied ch given (frameLen k) t (readyOf t (bodyOf received k) (policy l)) (ready-ids t (bodyOf received k) (policy l) (c .ids)))
+          (λ u. pick W (closedBy (idsIn t) k) (λ v. quit (then (begun h₀ l) _ []) _ (frameLen k) (few-none n 2))
+          (λ v. write-acted ch given (frameLen k) a (a .fault) b x))
+
+      write-first : (ch : ChannelId) → There ch → (given : List ℕ) (r : Budget) → W (writeFirst l ch out given received (begun h₀ l) (slotFor l ch) r)
+      unfolding writeFirst
+      write-first ch c given (Most most) = send-some ch given 0 (begun h₀ l) (slotFor l ch) most (few-none n 1) refl (c .ids)
+      write-first ch c given NoBudget =
+          pick W (slotFor l ch .«has_remote») (λ t. write-by ch c given (receivedOf l received) (got l received)) (λ t. idle h₀ _ 0)
+
+      pub write-writes : (ch : ChannelId) (given : List ℕ) → W (writeStep l ch out given received)
+      unfolding writeStep writeOn
+      write-writes ch given =
+          pick W (eqb (length given) 0) (λ t. idle h₀ _ 0)
+          (λ t. pick W (isThere l ch)
+          (λ u. pick W (isClosed (slotFor l ch .state)) (λ v. idle h₀ _ 0) (λ v. write-first ch (there ch u) given (budgetOf (slotFor l ch) (policy l))))
+          (λ u. idle h₀ _ 0))
+
+      -- ---- reading
+
+      module _ (ch : ChannelId) (c : There ch) where
+        abbrev p : RxPolicy
+        p = policy l
+
+        -- the first settling: its slot, and what is written by then
+        abbrev s₁ : ChannelSlot
+        s₁ = settledOf (slotFor l ch) p room .slot
+
+        abbrev fs₁ : List Frame
+        fs₁ = ackFrames s₁ (settledOf (slotFor l ch) p room .ack)
+
+        abbrev w₁ : Work
+        w₁ = then (begun h₀ l) [] fs₁
+
+        ids₁ : IdsFit (idsIn s₁)
+        ids₁ = settled-ids (slotFor l ch) p room (c .ids)
+
+        few₁ : Few n 1 fs₁
+        unfolding policyOf
+        few₁ = few-ack n s₁ _ ids₁ (λ d. settled-small (slotFor l ch) p room (p .«rx_cap») (c .sound) d)
+
+        stop₁ : (xs : List Change) (a : Answer) (used : ℕ) → W (ends (then w₁ xs []) a used [])
+        stop₁ xs a used = quit (then w₁ xs []) a used (few-join n 1 0 2 fs₁ [] (omega arith) few₁ (few-none n 0))
+
+        -- straight to the reader
+        read-direct : (k : Packet) → Says received limit k → isDirect s₁ room k ≡ true
+            → W (readDirect ch (frameLen k) w₁ (bodyOf received k) (deliveredOf s₁ p (k .«data_length»)))
+        unfolding readDirect isDirect policyOf packetOf
+        read-direct k s t =
+            let e = body-length received limit k s in
+            let m = s .known .within in
+            let q = ap (λ (x : Packet). x .«data_length») (s .known .packet-is) in
+            let r = leb-true (k .«data_length») room (and-true (isWrite (k .command) && eqb (k .arg1) (s₁ .local .0)) (leb (k .«data_length») room) t .1) in
+            let d = deliveredOf s₁ p (k .«data_length») in
+            done (then w₁ _ (ackFrames (d .slot) (d .ack))) _ (frameLen k) (bodyOf received k)
+            (two fs₁ _ few₁ (few-ack n (d .slot) (d .ack) (delivered-ids s₁ p (k .«data_length») ids₁) (λ v. delivered-small s₁ p (k .«data_length») (omega arith) v)))
+            (omega arith)
+
+        -- what is written where the slot t is settled again, after a packet that was dispatched
+        abbrev fs₂ : Acted → ChannelSlot → List Frame
+        fs₂ a t = fs₁ ++ [] ++ a .frames ++ ackFrames (settledOf t p room .slot) (settledOf t p room .ack)
+
+        silent-few : (a : Acted) (t : ChannelSlot) → Few n 1 (a .frames) → settledOf t p room .ack ≡ NoAck → Few n 2 (fs₂ a t)
+        silent-few a t f e =
+            few-join n 2 0 2 (fs₁ ++ [] ++ a .frames) _ (omega arith) (two (fs₁ ++ []) (a .frames) (no-more 1 fs₁ few₁) f) (no-ack n _ _ e)
+
+        again-few : (a : Acted) (t : ChannelSlot) → Few n 1 (a .frames) → IdsFit (idsIn t) → SlotOk t (p .«rx_cap») → s₁ .buffered ≡ 0 → Rests (some (a .frames)) s₁ t → Few n 2 (fs₂ a t)
+        unfolding policyOf
+        again-few a t f i o z (quiet e) =
+            two (fs₁ ++ [] ++ a .frames) _ (few-join n 1 0 1 (fs₁ ++ []) (a .frames) (omega arith) (no-more 1 fs₁ few₁) (no-frames n (a .frames) e))
+            (few-ack n _ _ (settled-ids t p room i) (λ d. settled-small t p room (p .«rx_cap») o d))
+        again-few a t f i o z (same e) =
+            silent-few a t f (ap (λ (x : ChannelSlot). settledOf x p room .ack) e ∙ silent-again (slotFor l ch) p room z)
+        again-few a t f i o z (clear e) = silent-few a t f (silent-clear t p room e)
+
+        -- and what is then taken
+        reread-by : (used : ℕ) (fault : Failed) (w : Work) (s : ChannelSlot) (x : Taken) → Few n 2 (w .frames) → Taking s room x → W (reread ch (p .«rx_cap») used fault w s x)
+        unfolding reread frontOf
+        reread-by used fault w s x f (took t k h) = done (then w _ []) _ used _ (no-more 2 _ f) (part-short _ _ k room h)
+        reread-by used fault w s x f (nothing e) = quit (then w _ []) _ used (no-more 2 _ f)
+        reread-by used fault w s x f (shut e) = quit (then w _ []) _ used (no-more 2 _ f)
+
+        read-acted : (a : Acted) (used : ℕ) → s₁ .buffered ≡ 0 → Acts (Unit {0}) h₀ (set (l .state .slots) (ch .slot) s₁) (ch .slot) a
+            → W (readActed l ch room used (then w₁ (slotTo (ch .slot) s₁ ∷ []) []) a)
+        unfolding readActed readSettled
+        read-acted a used z x =
+            let ss = set (l .state .slots) (ch .slot) s₁ in
+            let t = slotIn (changedAll (l .state) (slotTo (ch .slot) s₁ ∷ a .changes) .slots) (ch .slot) in
+            let y = able .size in
+            let b = c .below in
+            let here : slotIn ss (ch .slot) ≡ s₁ = slot-set-same (l .state .slots) (ch .slot) s₁ (omega arith) in
+            let o : Own (Unit {0}) p s₁ (some (a .frames)) t =
+            subst (λ (q : ChannelSlot). Own (Unit {0}) p q (some (a .frames)) t) here
+            (subst (λ (q : List ChannelSlot). Own (Unit {0}) p (slotIn ss (ch .slot)) (some (a .frames)) (slotIn q (ch .slot))) (sym (slots-by (l .state) (slotTo (ch .slot) s₁ ∷ a .changes))) (x .own)) in
+            let r = settledOf t p room in
+            reread-by used (a .fault) _ (r .slot) (takenOf (r .slot) room) (again-few a t (x .writes) (o .ids) (o .sound tt) z (o .rests)) (taking (r .slot) room)
+
+        read-by : s₁ .buffered ≡ 0 → (r : Received) → Got received limit r → W (readBy l ch room w₁ s₁ received r)
+        unfolding readBy
+        read-by z r (stopped a used s) = stop₁ _ a used
+        read-by z r (packet k s) =
+            let g = args received limit k bytes s in
+            let ss = set (l .state .slots) (ch .slot) s₁ in
+            let y = able .size in
+            let b = c .below in
+            let e = length-set (l .state .slots) (ch .slot) s₁ in
+            let here : slotIn ss (ch .slot) ≡ s₁ = slot-set-same (l .state .slots) (ch .slot) s₁ (omega arith) in
+            let ok = settled-sound (slotFor l ch) p room (p .«rx_cap») (c .sound) in
+            let x = acts (Unit {0}) h₀ ss (l .state .opens) (l .rx) (l .store) k (bodyOf received k) (ch .slot) (ids-set (l .state .slots) (ch .slot) s₁ (able .ids) ids₁ (omega arith)) (omega arith)
+            (λ q. subst (λ (v : ChannelSlot). SlotOk v (p .«rx_cap»)) (sym here) ok) (g .arg0) (g .arg1) in
+            pick W (isDirect s₁ room k) (λ t. read-direct k s t)
+            (λ t. pick W (closedBy (idsIn s₁) k) (λ u. stop₁ _ _ (frameLen k))
+            (λ u. read-acted (actOn h₀ ss (l .state .opens) (l .rx) (l .store) k (bodyOf received k)) (frameLen k) z x))
+
+        read-taken : (x : Taken) → Taking s₁ room x → W (readTaken l ch room w₁ s₁ received x)
+        unfolding readTaken frontOf
+        read-taken x (took t k h) = done (then w₁ _ []) _ 0 _ (few-join n 1 0 2 fs₁ [] (omega arith) few₁ (few-none n 0)) (part-short _ _ k room h)
+        read-taken x (nothing e) =
+            pick W (s₁ .«has_remote») (λ t. read-by (no-data s₁ t e) (receivedOf l received) (got l received)) (λ t. stop₁ _ _ 0)
+        read-taken x (shut e) = stop₁ _ _ 0
+
+      pub read-writes : (ch : ChannelId) → W (readStep l ch room received)
+      unfolding readStep readFirst
+      read-writes ch =
+          pick W (isThere l ch)
+          (λ t. let c = there ch t in read-taken ch c _ (taking (s₁ ch c) room))
+          (λ t. idle h₀ _ 0)
+
+-- ---- each call
+
+-- numbers as bytes are bytes
+pub bytes-in : (l : List ℕ) → Bytes (bytesIn l)
+unfolding bytesIn
+bytes-in [] k = omega arith
+bytes-in (x ∷ l) zero = omega arith
+bytes-in (x ∷ l) (suc k) = bytes-in l k
+
+-- the buffers that a call is lent
+abbrev pub outOf : Call → List ℕ
+outOf (openCall out destination received) = out
+outOf (dispatchCall out received) = out
+outOf (settleCall out ch want) = out
+outOf (takeCall ch buf) = []
+outOf (readCall out ch buf received) = out
+outOf (writeCall out ch bytes received) = out
+outOf (closeCall out ch) = out
+outOf frontTaken = []
+
+abbrev pub bufOf : Call → List ℕ
+bufOf (openCall out destination received) = []
+bufOf (dispatchCall out received) = []
+bufOf (settleCall out ch want) = []
+bufOf (takeCall ch buf) = buf
+bufOf (readCall out ch buf received) = buf
+bufOf (writeCall out ch bytes received) = []
+bufOf (closeCall out ch) = []
+bufOf frontTaken = []
+
+-- every call on a state that is able, where it is whole
+pub call-writes : (w : World) → (isWhole (w .state) ≡ true → Able (lent w)) → (c : Call)
+    → Writes (lent w .state .header .negotiated) (length (outOf c)) (length (bufOf c)) (outcome w c)
+unfolding outcome openOf dispatchOf settleOf takeOf readOf writeOf closeOf frontCall
+call-writes w f (openCall out destination received) =
+    writes-checked-out (lent w) (length out) 0 (isWhole (w .state)) _
+    (λ t big. open-writes (lent w) (f t) (length out) 0 big (bytesIn received) (bytes-in received) (bytesIn destination))
+call-writes w f (dispatchCall out received) =
+    writes-checked-out (lent w) (length out) 0 (isWhole (w .state)) _
+    (λ t big. dispatch-writes (lent w) (f t) (length out) 0 big (bytesIn received) (bytes-in received))
+call-writes w f (settleCall out ch want) =
+    writes-checked-out (lent w) (length out) 0 (isWhole (w .state)) _ (λ t big. settle-writes (lent w) (f t) (length out) 0 big ch want)
+call-writes w f (takeCall ch buf) =
+    writes-checked (lent w) 0 (length buf) (isWhole (w .state)) _ (λ t. take-writes (lent w) (f t) 0 (length buf) ch)
+call-writes w f (readCall out ch buf received) =
+    writes-checked-out (lent w) (length out) (length buf) (isWhole (w .state)) _
+    (λ t big. read-writes (lent w) (f t) (length out) (length buf) big (bytesIn received) (bytes-in received) ch)
+call-writes w f (writeCall out ch bytes received) =
+    writes-checked-out (lent w) (length out) 0 (isWhole (w .state)) _
+    (λ t big. write-writes (lent w) (f t) (length out) 0 big (bytesIn received) (bytes-in received) ch (bytesIn bytes))
+call-writes w f (closeCall out ch) =
+    writes-checked-out (lent w) (length out) 0 (isWhole (w .state)) _ (λ t big. close-writes (lent w) (f t) (length out) 0 big ch)
+call-writes w f frontTaken =
+    writes-checked (lent w) 0 0 (isWhole (w .state)) _ (λ t. front-writes (lent w) (f t) 0 0)
+
+seen-as : (w : World) (c : Call) → seen w c ≡ seenIn (lent w .state .header .negotiated) (outOf c) (bufOf c) (outcome w c)
+unfolding seen
+seen-as w (openCall out destination received) = refl
+seen-as w (dispatchCall out received) = refl
+seen-as w (settleCall out ch want) = refl
+seen-as w (takeCall ch buf) = refl
+seen-as w (readCall out ch buf received) = refl
+seen-as w (writeCall out ch bytes received) = refl
+seen-as w (closeCall out ch) = refl
+seen-as w frontTaken = refl
+
+-- what is seen of a call is what its outcome says, on a state whose numbers fit their fields
+module _ (w : World) (fits : Fits (stateOf (w .state))) (c : Call) where
+  abbrev agreed : Negotiated
+  agreed = stateOf (w .state) .header .negotiated
+
+  writes : Writes agreed (length (outOf c)) (length (bufOf c)) (outcome w c)
+  unfolding isWhole
+  writes = call-writes w (λ t. able-whole (lent w) fits (and-true (isState (w .state)) (whole (stateOf (w .state))) t .1)) c
+
+  pub seen-is : seen w c ≡ heardOf agreed (outcome w c)
+  seen-is = seen-as w c ∙ heard-call agreed (outOf c) (bufOf c) (outcome w c) writes
+
+  -- the credit that the book reads, and the last OPEN's
+  pub seen-acks : (l : ℕ) → acksOf l (seen w c .sent) ≡ acksIn (policyOf agreed) l (outcome w c .frames)
+  unfolding policyOf
+  seen-acks l = ap (λ (x : Seen). acksOf l (x .sent)) seen-is ∙ heard-acks (policyOf agreed) agreed l (outcome w c .frames) refl (writes .each)
+
+  pub seen-open : (a : ℕ) → lastOpen (seen w c .sent) a ≡ openIn (outcome w c .frames) a
+  seen-open a = ap (λ (x : Seen). lastOpen (x .sent) a) seen-is ∙ heard-open agreed (outcome w c .frames) a
