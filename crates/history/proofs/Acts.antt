@@ -171,7 +171,7 @@ record Same (p : RxPolicy) (ss : List ChannelSlot) (d : Dispatched) (a : Acted) 
   credit : (l : ℕ) → acksIn p l (a .frames) ≡ 0
 
 -- changes that leave the slots
-abbrev NoSlot : List Change → Type 0
+abbrev pub NoSlot : List Change → Type 0
 NoSlot [] = Unit {0}
 NoSlot (slotTo i s ∷ xs) = ⊥
 NoSlot (headerTo h ∷ xs) = NoSlot xs
@@ -188,12 +188,12 @@ no-slot ss (opensTo qs ∷ xs) e = no-slot ss xs e
 more-changes : (ss : List ChannelSlot) (xs ys : List Change) → NoSlot ys → slotsBy ss (xs ++ ys) ≡ slotsBy ss xs
 more-changes ss xs ys e = slots-append ss xs ys ∙ no-slot (slotsBy ss xs) ys e
 
-pushed-slots : (h : Header) (opens : List PendingOpen) (remote : RemoteId) (credit : ℕ) (payload store : List ℕ) → NoSlot (pushed h opens remote credit payload store .changes)
+pub pushed-slots : (h : Header) (opens : List PendingOpen) (remote : RemoteId) (credit : ℕ) (payload store : List ℕ) → NoSlot (pushed h opens remote credit payload store .changes)
 unfolding pushed
 pushed-slots h opens remote credit payload store =
     pick (λ (o : PushOutcome). NoSlot (o .changes)) (leb (h .negotiated .config .channels) (h .queued)) (λ t. tt) (λ t. tt)
 
-withdrawn-slots : (h : Header) (opens : List PendingOpen) (remote : RemoteId) → NoSlot (withdrawal h opens remote .changes)
+pub withdrawn-slots : (h : Header) (opens : List PendingOpen) (remote : RemoteId) → NoSlot (withdrawal h opens remote .changes)
 unfolding withdrawal
 withdrawn-slots h opens remote = tt
 
@@ -336,7 +336,7 @@ ready-live : (s : ChannelSlot) (payload : List ℕ) (p : RxPolicy) → isClosed 
 unfolding readyOf
 ready-live s payload p h = pick (Leaves (λ (x : ChannelSlot). isClosed (x .state) ≡ false)) (p .delayed) (λ d. ready-live-by s (creditOf payload) h) (λ d. h)
 
-wrote-named : (s : ChannelSlot) (p : RxPolicy) (k : ℕ) → Named s (wroteOf s p k .slot)
+pub wrote-named : (s : ChannelSlot) (p : RxPolicy) (k : ℕ) → Named s (wroteOf s p k .slot)
 unfolding wroteOf bufferedWith
 wrote-named s p k =
     let P : Wrote → Type 0 = λ w. Named s (w .slot) in
@@ -354,7 +354,7 @@ pub ready-named : (s : ChannelSlot) (payload : List ℕ) (p : RxPolicy) → Leav
 unfolding readyOf
 ready-named s payload p = pick (Leaves (Named s)) (p .delayed) (λ d. ready-named-by s (creditOf payload)) (λ d. record { filled = refl; local = refl; remote = refl; known = refl })
 
-closed-named : (s : ChannelSlot) → Named s (closedSlot s)
+pub closed-named : (s : ChannelSlot) → Named s (closedSlot s)
 unfolding closedSlot
 closed-named s = record { filled = refl; local = refl; remote = refl; known = refl }
 

@@ -1,0 +1,262 @@
+-- Which places hold a channel, with what remote number, changes only where an open fills a slot or a close empties it.
+-- Assumes nothing.
+use mathlib.Core.Path.{_≡_, refl, sym, ap, ap₂, subst, _∙_}
+use mathlib.Core.Bool.{Bool, true, false, not, cond, _&&_, true≢false}
+use mathlib.Core.List.{List, [], _∷_, _++_, map, append-nil}
+use Prim.Native.Nat.{ℕ, _+_, _*_, _≤_, _<_, min}
+use native.Mathlib.Omega.{arith}
+use lib.Dec.{eqb, ltb, leb}
+use lib.ListN.{length, set}
+use lib.Seq.{map-set-same}
+use borrow.Author.Tests.{eqb-true, eqb-false, ltb-true}
+use Rattle.le.proofs.Parts.{by-test}
+use Rattle.config.specs.declared.negotiated.RxPolicy.{RxPolicy}
+use Rattle.config.specs.Negotiated.{policyOf}
+use Rattle.config.proofs.Laws.{and-true}
+use Rattle.incoming.specs.declared.Front.{Front}
+use Rattle.incoming.specs.declared.Front.the-variants.{Open as FrontOpen, Nothing as NoFront}
+use Rattle.incoming.specs.declared.Pushed.{Pushed}
+use Rattle.incoming.specs.declared.Pushed.the-variants.{Queued, Full}
+use Rattle.incoming.specs.Incoming.{PushOutcome, pushed, withdrawal, popped}
+use Rattle.protocol.specs.declared.command.Command.{Command}
+use Rattle.protocol.specs.declared.command.Command.the-variants.{Sync, Connect, Open, Ready, Close, Write, Auth, StartTls}
+use Rattle.protocol.specs.declared.packet.Packet.{Packet}
+use Rattle.slot.specs.declared.ids.LocalId.{LocalId}
+use Rattle.slot.specs.declared.ids.RemoteId.{RemoteId}
+use Rattle.slot.specs.declared.AckDecision.{AckDecision}
+use Rattle.slot.specs.declared.AckDecision.the-variants.{Now, Hold, Overflow, Early}
+use Rattle.slot.specs.declared.Budget.{Budget}
+use Rattle.slot.specs.declared.Budget.the-variants.{Bytes, Nothing as NoBudget}
+use Rattle.slot.specs.declared.ChannelSlot.{ChannelSlot}
+use Rattle.slot.specs.declared.Failed.{Failed}
+use Rattle.slot.specs.declared.Failed.the-variants.{No, By}
+use Rattle.slot.specs.declared.Readied.{Readied}
+use Rattle.slot.specs.declared.Readied.the-variants.{Slot, Short}
+use Rattle.slot.specs.declared.Settled.{Settled}
+use Rattle.slot.specs.declared.Taken.{Taken}
+use Rattle.slot.specs.declared.Taken.the-variants.{Data, Nothing as NothingTaken, Closed as ClosedTaken}
+use Rattle.slot.specs.Ids.{closedBy, isClose}
+use Rattle.slot.specs.Slot.{emptySlot, isOpening, isFailed, isClosed, hasData, settledOf, takenOf, tookOf, takeLen, errorOf, deliveredOf, closedSlot, spentOf, budgetOf, readyOf, openedOf, openingSlot, wroteOf}
+use Rattle.slot.proofs.Kept.{pick}
+use Rattle.slot.proofs.Laws.{cond-true, cond-false}
+use Rattle.state.specs.declared.Header.{Header}
+use Rattle.state.specs.declared.PendingOpen.{PendingOpen}
+use Rattle.state.specs.Change.{Step, Change, slotTo, headerTo, openTo, opensTo, changedAll}
+use Rattle.table.specs.declared.ChannelId.{ChannelId}
+use Rattle.table.specs.declared.DispatchOutcome.{DispatchOutcome}
+use Rattle.table.specs.declared.DispatchOutcome.the-variants.{AckWrite, CreditGranted, SlotClosed, DataBuffered, IncomingOpen, CancelPendingOpen, StrayReady, ChannelFault, Unmatched}
+use Rattle.table.specs.declared.Want.the-variants.{Local, Remote}
+use Rattle.table.specs.Table.{wantedBy, placeOf}
+use Rattle.table.specs.Dispatch.{slotIn, remotePlace, closedAt, closeOf, readiedOf, granted, readyAt, grantOf, Dispatched, wroteBy, wroteAt, writeOf, routeOf, dispatchOf}
+use Rattle.connection.specs.declared.Answer.{Answer}
+use Rattle.connection.specs.declared.Received.{Received}
+use Rattle.connection.specs.declared.Received.the-variants.{Packet as PacketIs, Stop}
+use Rattle.connection.specs.Act.{Acted, pushedBy, actedBy, tableOf, actOn}
+use Rattle.connection.specs.Calls.{Lent, Outcome, Work, begun, then, thenActed, ends, dropped, untouched, policy, bodyOf, frameLen, isThere, slotFor, ackFrames, receivedOf, unlessFault, dispatchBy, dispatchStep, settledAs, settleStep, takenBy, takeStep, reread, readSettled, readActed, isDirect, readDirect, readBy, readTaken, readFirst, readStep, sendSome, sendBy, sendAgain, writeReadied, writeActed, writeAct, writeBy, writeFirst, writeOn, writeStep, frontBy, frontStep, idsIn}
+use Rattle.connection.specs.Frames.{Frame}
+use Rattle.history.specs.Book.{Mark, noMark}
+use Rattle.history.proofs.Acts.{NoSlot, pushed-slots, withdrawn-slots, Named, ready-named, wrote-named, closed-named}
+use Rattle.history.proofs.Good.{Leaves}
+use Rattle.history.proofs.Packets.{markOf}
+use Rattle.history.proofs.Places.{slotsBy, slots-by, slots-append, slots-length, slot-set-same, slot-set-other, TableOk, found-filled}
+use Rattle.history.proofs.Steps.{settled-alike, delivered-same, table-set}
+
+-- changes of slots that keep their marks
+abbrev pub Tame : List ChannelSlot → List Change → Type 0
+Tame ss [] = Unit {0}
+Tame ss (slotTo i t ∷ xs) = (markOf t ≡ markOf (slotIn ss i)) × Tame (set ss i t) xs
+Tame ss (headerTo h ∷ xs) = Tame ss xs
+Tame ss (openTo i q ∷ xs) = Tame ss xs
+Tame ss (opensTo qs ∷ xs) = Tame ss xs
+
+-- leave the marks
+pub tame-marks : (ss : List ChannelSlot) (xs : List Change) → Tame ss xs → map markOf (slotsBy ss xs) ≡ map markOf ss
+unfolding slotIn
+tame-marks ss [] t = refl
+tame-marks ss (slotTo i s ∷ xs) t = tame-marks (set ss i s) xs (t .1) ∙ map-set-same markOf ss i s emptySlot (t .0)
+tame-marks ss (headerTo h ∷ xs) t = tame-marks ss xs t
+tame-marks ss (openTo i q ∷ xs) t = tame-marks ss xs t
+tame-marks ss (opensTo qs ∷ xs) t = tame-marks ss xs t
+
+pub tame-append : (ss : List ChannelSlot) (xs ys : List Change) → Tame ss xs → Tame (slotsBy ss xs) ys → Tame ss (xs ++ ys)
+tame-append ss [] ys t u = u
+tame-append ss (slotTo i s ∷ xs) ys t u = (t .0, tame-append (set ss i s) xs ys (t .1) u)
+tame-append ss (headerTo h ∷ xs) ys t u = tame-append ss xs ys t u
+tame-append ss (openTo i q ∷ xs) ys t u = tame-append ss xs ys t u
+tame-append ss (opensTo qs ∷ xs) ys t u = tame-append ss xs ys t u
+
+-- a call's end
+pub tame-ends : (ss : List ChannelSlot) (w : Work) (a : Answer) (used : ℕ) (handed : List ℕ) → Tame ss (w .changes) → Tame ss (ends w a used handed .changes)
+unfolding ends
+tame-ends ss w a used handed t = tame-append ss (w .changes) (headerTo (w .header) ∷ []) t tt
+
+-- one slot stored at a call's end
+pub tame-then : (ss : List ChannelSlot) (w : Work) (i : ℕ) (t : ChannelSlot) (fs : List Frame) → Tame ss (w .changes) → markOf t ≡ markOf (slotIn (slotsBy ss (w .changes)) i) → Tame ss (then w (slotTo i t ∷ []) fs .changes)
+tame-then ss w i t fs x e = tame-append ss (w .changes) (slotTo i t ∷ []) x (e, tt)
+
+mark-same : (s t : ChannelSlot) → t .filled ≡ s .filled → t .remote ≡ s .remote → markOf t ≡ markOf s
+mark-same s t e f = ap₂ (λ (x : Bool) (y : ℕ). cond x (record { there = true; remote = y }) noMark) e (ap (λ z. z .0) f)
+
+named-mark : (s t : ChannelSlot) → Named s t → markOf t ≡ markOf s
+named-mark s t n = mark-same s t (n .filled) (n .remote)
+
+settled-mark : (s : ChannelSlot) (p : RxPolicy) (want : ℕ) → s .«has_remote» ≡ true → markOf (settledOf s p want .slot) ≡ markOf s
+settled-mark s p want k = let a = settled-alike s p want k in mark-same s (settledOf s p want .slot) (a .filled) (a .remote)
+
+-- ---- dispatching
+
+tame-none : (ss : List ChannelSlot) (xs : List Change) → NoSlot xs → Tame ss xs
+tame-none ss [] n = tt
+tame-none ss (slotTo i s ∷ xs) n = absurd n
+tame-none ss (headerTo h ∷ xs) n = tame-none ss xs n
+tame-none ss (openTo i q ∷ xs) n = tame-none ss xs n
+tame-none ss (opensTo qs ∷ xs) n = tame-none ss xs n
+
+module _ (p : RxPolicy) (n : ℕ) (ss : List ChannelSlot) (rx : List ℕ) (ok : TableOk p n ss rx) (payload : List ℕ) where
+  abbrev tame-step : Step DispatchOutcome → Type 0
+  tame-step x = Tame ss (x .changes)
+
+  tame-closed : (f : ℕ) (other : DispatchOutcome) → tame-step (closedAt f n ss other)
+  unfolding closedAt
+  tame-closed f other = pick tame-step (ltb f n) (λ t. (named-mark (slotIn ss f) (closedSlot (slotIn ss f)) (closed-named (slotIn ss f)), tt)) (λ t. tt)
+
+  tame-close : (remote : RemoteId) (local : LocalId) → tame-step (closeOf n ss remote local)
+  unfolding closeOf
+  tame-close remote local =
+      pick tame-step (eqb (local .0) 0) (λ t. tame-closed (remotePlace n ss remote) (CancelPendingOpen remote)) (λ t. tame-closed (placeOf (Local local) n ss) Unmatched)
+
+  tame-granted : (f : ℕ) (remote : RemoteId) (r : Readied) → Leaves (Named (slotIn ss f)) r → tame-step (granted f (slotIn ss f) remote r)
+  unfolding granted
+  tame-granted f remote (Slot t) x = (named-mark (slotIn ss f) t x, tt)
+  tame-granted f remote Short x = tt
+
+  tame-ready : (remote : RemoteId) (local : LocalId) → tame-step (grantOf p n ss remote local payload)
+  unfolding grantOf readyAt readiedOf
+  tame-ready remote local =
+      let f = placeOf (Local local) n ss in
+      pick tame-step (ltb f n)
+      (λ t. let fill = found-filled p n ss rx ok local (ltb-true f n t) in
+      pick tame-step (isFailed (slotIn ss f .failed)) (λ u. tt)
+      (λ u. subst (λ (r : Readied). tame-step (granted f (slotIn ss f) remote r)) (sym (cond-false (isOpening (slotIn ss f .state)) _ _ (ok .opened f fill)))
+      (tame-granted f remote (readyOf (slotIn ss f) payload p) (ready-named (slotIn ss f) payload p))))
+      (λ t. tt)
+
+  tame-wrote : (f : ℕ) (remote : RemoteId) (d : AckDecision) → Tame ss (wroteBy p f (slotIn ss f) remote payload rx (wroteOf (slotIn ss f) p (length payload) .slot) d .step .changes)
+  unfolding wroteBy
+  tame-wrote f remote (Now len) = (named-mark (slotIn ss f) (wroteOf (slotIn ss f) p (length payload) .slot) (wrote-named (slotIn ss f) p (length payload)), tt)
+  tame-wrote f remote Hold = (named-mark (slotIn ss f) (wroteOf (slotIn ss f) p (length payload) .slot) (wrote-named (slotIn ss f) p (length payload)), tt)
+  tame-wrote f remote Overflow = tt
+  tame-wrote f remote Early = tt
+
+  tame-write : (remote : RemoteId) (local : LocalId) → Tame ss (writeOf p n ss remote local payload rx .step .changes)
+  unfolding writeOf wroteAt
+  tame-write remote local =
+      let f = placeOf (Local local) n ss in
+      let P : Dispatched → Type 0 = λ d. Tame ss (d .step .changes) in
+      pick P (ltb f n) (λ t. pick P (isFailed (slotIn ss f .failed)) (λ u. tt) (λ u. tame-wrote f remote (wroteOf (slotIn ss f) p (length payload) .decision))) (λ t. tt)
+
+  tame-route : (c : Command) (a l : ℕ) → Tame ss (routeOf p n ss c a l payload rx .step .changes)
+  unfolding routeOf
+  tame-route Connect a l = tt
+  tame-route Auth a l = tt
+  tame-route StartTls a l = tt
+  tame-route Open a l = tt
+  tame-route Close a l = tame-close (record { 0 = a }) (record { 0 = l })
+  tame-route Write a l = tame-write (record { 0 = a }) (record { 0 = l })
+  tame-route Ready a l = tame-ready (record { 0 = a }) (record { 0 = l })
+  tame-route Sync a l = tt
+
+module _ (ss : List ChannelSlot) (h : Header) (opens : List PendingOpen) (payload store : List ℕ) (d : Dispatched) (t : Tame ss (d .step .changes)) where
+  tame-pushed : (remote : RemoteId) (o : PushOutcome) (r : Pushed) → NoSlot (o .changes) → Tame ss (pushedBy h store d remote o r .changes)
+  unfolding pushedBy
+  tame-pushed remote o (Queued more) e = tame-append ss (d .step .changes) (o .changes) t (tame-none _ (o .changes) e)
+  tame-pushed remote o Full e = t
+
+  tame-acted : (o : DispatchOutcome) → Tame ss (actedBy h opens payload store d o .changes)
+  unfolding actedBy
+  tame-acted (AckWrite i ids len) = t
+  tame-acted (CreditGranted i) = t
+  tame-acted (SlotClosed i) = t
+  tame-acted (DataBuffered i) = t
+  tame-acted (IncomingOpen remote credit) =
+      tame-pushed remote (pushed h opens remote credit payload store) (pushed h opens remote credit payload store .result) (pushed-slots h opens remote credit payload store)
+  tame-acted (CancelPendingOpen remote) = tame-append ss (d .step .changes) (withdrawal h opens remote .changes) t (tame-none _ (withdrawal h opens remote .changes) (withdrawn-slots h opens remote))
+  tame-acted (StrayReady ids) = t
+  tame-acted (ChannelFault i ids opening f) = t
+  tame-acted Unmatched = t
+
+pub tame-act : (h : Header) (ss : List ChannelSlot) (opens : List PendingOpen) (rx store : List ℕ) (k : Packet) (payload : List ℕ) → TableOk (policyOf (h .negotiated)) (h .negotiated .config .channels) ss rx
+    → Tame ss (actOn h ss opens rx store k payload .changes)
+unfolding actOn tableOf dispatchOf
+tame-act h ss opens rx store k payload ok =
+    tame-acted ss h opens payload store (tableOf h ss rx k payload)
+    (tame-route (policyOf (h .negotiated)) (h .negotiated .config .channels) ss rx ok payload (k .command) (k .arg0) (k .arg1)) (tableOf h ss rx k payload .step .result)
+
+-- ---- the calls
+
+module _ (l : Lent) (ok : TableOk (policy l) (l .state .header .negotiated .config .channels) (l .state .slots) (l .rx)) where
+  abbrev p : RxPolicy
+  p = policy l
+
+  abbrev ss : List ChannelSlot
+  ss = l .state .slots
+
+  abbrev h0 : Header
+  h0 = dropped (l .state .header)
+
+  abbrev tame : Outcome → Type 0
+  tame x = Tame ss (x .changes)
+
+  tame-plain : (h : Header) (a : Answer) (used : ℕ) (bs : List ℕ) → tame (ends (begun h l) a used bs)
+  tame-plain h a used bs = tame-ends ss (begun h l) a used bs tt
+
+  there-filled : (ch : ChannelId) → isThere l ch ≡ true → slotIn ss (ch .slot) .filled ≡ true
+  unfolding isThere wantedBy
+  there-filled ch t =
+      let s = slotIn ss (ch .slot) in
+      and-true (s .filled) (eqb (s .local .0) (ch .local .0)) (and-true (ltb (ch .slot) (l .state .header .negotiated .config .channels)) (s .filled && eqb (s .local .0) (ch .local .0)) t .1) .0
+
+  dispatch-tame-by : (h : Header) (received : List ℕ) (r : Received) → h .negotiated ≡ l .state .header .negotiated → TableOk (policyOf (h .negotiated)) (h .negotiated .config .channels) ss (l .rx) → tame (dispatchBy l h received r)
+  unfolding dispatchBy
+  dispatch-tame-by h received (Stop a used) e o = tame-plain h a used []
+  dispatch-tame-by h received (PacketIs k) e o =
+      let act = actOn h ss (l .state .opens) (l .rx) (l .store) k (bodyOf received k) in
+      tame-ends ss (thenActed (begun h l) act) _ (frameLen k) [] (tame-act h ss (l .state .opens) (l .rx) (l .store) k (bodyOf received k) o)
+
+  pub dispatch-tame : (received : List ℕ) → tame (dispatchStep l received)
+  unfolding dispatchStep
+  dispatch-tame received = dispatch-tame-by h0 received (receivedOf l received) refl ok
+
+  pub settle-tame : (ch : ChannelId) (want : ℕ) → tame (settleStep l ch want)
+  unfolding settleStep settledAs slotFor
+  settle-tame ch want =
+      pick tame (isThere l ch)
+      (λ t. let r = settledOf (slotIn ss (ch .slot)) p want in
+      tame-ends ss (then (begun h0 l) (slotTo (ch .slot) (r .slot) ∷ []) (ackFrames (r .slot) (r .ack))) _ 0 []
+      (settled-mark (slotIn ss (ch .slot)) p want (ok .known (ch .slot) (there-filled ch t)), tt))
+      (λ t. tame-plain h0 _ 0 [])
+
+  took-mark : (s : ChannelSlot) (n : ℕ) → markOf (tookOf s n) ≡ markOf s
+  unfolding tookOf
+  took-mark s n = refl
+
+  pub take-tame : (ch : ChannelId) (room : ℕ) → tame (takeStep l ch room)
+  unfolding takeStep takenBy takenOf slotFor
+  take-tame ch room =
+      let s = slotIn ss (ch .slot) in
+      let P : Taken → Type 0 = λ y. tame (takenBy l ch s (begun h0 l) y) in
+      pick tame (isThere l ch)
+      (λ t. pick P (hasData s) (λ d. tame-ends ss (then (begun h0 l) (slotTo (ch .slot) (tookOf s (takeLen s room)) ∷ []) []) _ 0 _ (took-mark s (takeLen s room), tt))
+      (λ d. pick P (isClosed (s .state)) (λ c. tame-plain h0 _ 0 []) (λ c. tame-plain h0 _ 0 [])))
+      (λ t. tame-plain h0 _ 0 [])
+
+  front-tame-by : (h : Header) (xs : List Change) (f : Front) → Tame ss xs → tame (frontBy l h xs f)
+  unfolding frontBy
+  front-tame-by h xs (FrontOpen q less) t = tame-ends ss (then (begun less l) xs []) _ 0 [] t
+  front-tame-by h xs NoFront t = tame-plain h _ 0 []
+
+  pub front-tame : tame (frontStep l)
+  unfolding frontStep popped
+  front-tame =
+      front-tame-by h0 (popped h0 (l .state .opens) .changes) (popped h0 (l .state .opens) .result)
+      (pick (λ (x : Step Front). Tame ss (x .changes)) (eqb (h0 .queued) 0) (λ t. tt) (λ t. tt))
