@@ -6,7 +6,7 @@ use mathlib.Core.List.{List, [], _∷_, _++_, map, append-nil}
 use Prim.Native.Nat.{ℕ, _+_, _*_, _≤_, _<_, min}
 use native.Mathlib.Omega.{arith}
 use lib.Dec.{eqb, ltb, leb}
-use lib.ListN.{length, set}
+use lib.ListN.{length, take, set}
 use lib.Seq.{map-set-same}
 use borrow.Author.Tests.{eqb-true, eqb-false, ltb-true}
 use Rattle.le.proofs.Parts.{by-test}
@@ -37,7 +37,7 @@ use Rattle.slot.specs.declared.Taken.{Taken}
 use Rattle.slot.specs.declared.Taken.the-variants.{Data, Nothing as NothingTaken, Closed as ClosedTaken}
 use Rattle.slot.specs.Ids.{closedBy, isClose}
 use Rattle.slot.specs.Slot.{emptySlot, isOpening, isFailed, isClosed, hasData, settledOf, takenOf, tookOf, takeLen, errorOf, deliveredOf, closedSlot, spentOf, budgetOf, readyOf, openedOf, openingSlot, wroteOf}
-use Rattle.slot.proofs.Kept.{pick}
+use Rattle.slot.proofs.Kept.{pick, settled-sound}
 use Rattle.slot.proofs.Laws.{cond-true, cond-false}
 use Rattle.state.specs.declared.Header.{Header}
 use Rattle.state.specs.declared.PendingOpen.{PendingOpen}
@@ -49,13 +49,14 @@ use Rattle.table.specs.declared.Want.the-variants.{Local, Remote}
 use Rattle.table.specs.Table.{wantedBy, placeOf}
 use Rattle.table.specs.Dispatch.{slotIn, remotePlace, closedAt, closeOf, readiedOf, granted, readyAt, grantOf, Dispatched, wroteBy, wroteAt, writeOf, routeOf, dispatchOf}
 use Rattle.connection.specs.declared.Answer.{Answer}
+use Rattle.connection.specs.declared.Answer.the-variants.{Written}
 use Rattle.connection.specs.declared.Received.{Received}
 use Rattle.connection.specs.declared.Received.the-variants.{Packet as PacketIs, Stop}
 use Rattle.connection.specs.Act.{Acted, pushedBy, actedBy, tableOf, actOn}
-use Rattle.connection.specs.Calls.{Lent, Outcome, Work, begun, then, thenActed, ends, dropped, untouched, policy, bodyOf, frameLen, isThere, slotFor, ackFrames, receivedOf, unlessFault, dispatchBy, dispatchStep, settledAs, settleStep, takenBy, takeStep, reread, readSettled, readActed, isDirect, readDirect, readBy, readTaken, readFirst, readStep, sendSome, sendBy, sendAgain, writeReadied, writeActed, writeAct, writeBy, writeFirst, writeOn, writeStep, frontBy, frontStep, idsIn}
-use Rattle.connection.specs.Frames.{Frame}
+use Rattle.connection.specs.Calls.{Lent, Outcome, Work, begun, then, thenActed, ends, dropped, untouched, policy, bodyOf, frameLen, isThere, slotFor, ackFrames, receivedOf, unlessFault, dispatchBy, dispatchStep, settledAs, settleStep, takenBy, takeStep, reread, readSettled, readActed, isDirect, readDirect, readBy, readTaken, readFirst, readStep, sendSome, sendBy, sendAgain, writeReadied, writeActed, writeAct, writeBy, writeFirst, writeOn, writeStep, frontBy, frontStep, idsIn, isReady}
+use Rattle.connection.specs.Frames.{Frame, writeFrame, framesBytes}
 use Rattle.history.specs.Book.{Mark, noMark}
-use Rattle.history.proofs.Acts.{NoSlot, pushed-slots, withdrawn-slots, Named, ready-named, wrote-named, closed-named}
+use Rattle.history.proofs.Acts.{acted-at, at-named, NoSlot, pushed-slots, withdrawn-slots, Named, ready-named, wrote-named, closed-named}
 use Rattle.history.proofs.Good.{Leaves}
 use Rattle.history.proofs.Packets.{markOf}
 use Rattle.history.proofs.Places.{slotsBy, slots-by, slots-append, slots-length, slot-set-same, slot-set-other, TableOk, found-filled}
@@ -192,6 +193,31 @@ tame-act h ss opens rx store k payload ok =
     tame-acted ss h opens payload store (tableOf h ss rx k payload)
     (tame-route (policyOf (h .negotiated)) (h .negotiated .config .channels) ss rx ok payload (k .command) (k .arg0) (k .arg1)) (tableOf h ss rx k payload .step .result)
 
+took-mark : (s : ChannelSlot) (n : ℕ) → markOf (tookOf s n) ≡ markOf s
+unfolding tookOf
+took-mark s n = refl
+
+-- what is taken keeps the mark
+abbrev tame-taken : ChannelSlot → Taken → Type 0
+tame-taken s (Data t n) = markOf t ≡ markOf s
+tame-taken s NothingTaken = Unit {0}
+tame-taken s (ClosedTaken e) = Unit {0}
+
+taken-tame : (s : ChannelSlot) (room : ℕ) → tame-taken s (takenOf s room)
+unfolding takenOf
+taken-tame s room =
+    pick (tame-taken s) (hasData s) (λ d. took-mark s (takeLen s room)) (λ d. pick (tame-taken s) (isClosed (s .state)) (λ c. tt) (λ c. tt))
+
+spent-mark : (s : ChannelSlot) (p : RxPolicy) (n : ℕ) → markOf (spentOf s p n) ≡ markOf s
+unfolding spentOf
+spent-mark s p n = pick (λ (t : ChannelSlot). markOf t ≡ markOf s) (p .delayed) (λ d. refl) (λ d. refl)
+
+delivered-mark : (s : ChannelSlot) (p : RxPolicy) (n : ℕ) → markOf (deliveredOf s p n .slot) ≡ markOf s
+unfolding deliveredOf
+delivered-mark s p n =
+    let P : Settled → Type 0 = λ r. markOf (r .slot) ≡ markOf s in
+    pick P (p .delayed) (λ d. refl) (λ d. pick P (leb (p .watermark) (s .buffered)) (λ t. refl) (λ t. pick P (s .«has_remote») (λ k. refl) (λ k. refl)))
+
 -- ---- the calls
 
 module _ (l : Lent) (ok : TableOk (policy l) (l .state .header .negotiated .config .channels) (l .state .slots) (l .rx)) where
@@ -236,10 +262,6 @@ module _ (l : Lent) (ok : TableOk (policy l) (l .state .header .negotiated .conf
       (settled-mark (slotIn ss (ch .slot)) p want (ok .known (ch .slot) (there-filled ch t)), tt))
       (λ t. tame-plain h0 _ 0 [])
 
-  took-mark : (s : ChannelSlot) (n : ℕ) → markOf (tookOf s n) ≡ markOf s
-  unfolding tookOf
-  took-mark s n = refl
-
   pub take-tame : (ch : ChannelId) (room : ℕ) → tame (takeStep l ch room)
   unfolding takeStep takenBy takenOf slotFor
   take-tame ch room =
@@ -260,3 +282,167 @@ module _ (l : Lent) (ok : TableOk (policy l) (l .state .header .negotiated .conf
   front-tame =
       front-tame-by h0 (popped h0 (l .state .opens) .changes) (popped h0 (l .state .opens) .result)
       (pick (λ (x : Step Front). Tame ss (x .changes)) (eqb (h0 .queued) 0) (λ t. tt) (λ t. tt))
+
+  -- ---- read
+
+  module _ (ch : ChannelId) (room : ℕ) (received : List ℕ) (fill : slotIn ss (ch .slot) .filled ≡ true) where
+    abbrev j : ℕ
+    j = ch .slot
+
+    abbrev s1 : ChannelSlot
+    s1 = settledOf (slotIn ss j) p room .slot
+
+    mark1 : markOf s1 ≡ markOf (slotIn ss j)
+    mark1 = settled-mark (slotIn ss j) p room (ok .known j fill)
+
+    abbrev w1 : Work
+    w1 = then (begun h0 l) [] (ackFrames s1 (settledOf (slotIn ss j) p room .ack))
+
+    -- a slot with the same mark stored at the end
+    read-end-tame : (t : ChannelSlot) (fs : List Frame) (a : Answer) (used : ℕ) (bs : List ℕ) → markOf t ≡ markOf (slotIn ss j) → tame (ends (then w1 (slotTo j t ∷ []) fs) a used bs)
+    read-end-tame t fs a used bs e = tame-ends ss (then w1 (slotTo j t ∷ []) fs) a used bs (e, tt)
+
+    module _ (k : Packet) where
+      abbrev ss1 : List ChannelSlot
+      ss1 = set ss j s1
+
+      ok1 : TableOk p (l .state .header .negotiated .config .channels) ss1 (l .rx)
+      ok1 = table-set p (l .state .header .negotiated .config .channels) ss (l .rx) j s1 ok fill (settled-alike (slotIn ss j) p room (ok .known j fill)) (settled-sound (slotIn ss j) p room (p .«rx_cap») (ok .sound j fill))
+
+      abbrev act : Acted
+      act = actOn h0 ss1 (l .state .opens) (l .rx) (l .store) k (bodyOf received k)
+
+      abbrev w2 : Work
+      w2 = thenActed (then w1 (slotTo j s1 ∷ []) []) act
+
+      tame2 : Tame ss (w2 .changes)
+      tame2 = (mark1, tame-act h0 ss1 (l .state .opens) (l .rx) (l .store) k (bodyOf received k) ok1)
+
+      there2 : slotIn (slotsBy ss1 (act .changes)) j .«has_remote» ≡ true
+      there2 =
+          let z = ok .size in
+          let y = ok .most in
+          let h = ok .below j fill in
+          let u : slotIn ss1 j ≡ s1 = slot-set-same ss j s1 (omega arith) in
+          let f1 : slotIn ss1 j .filled ≡ true = ap (λ (x : ChannelSlot). x .filled) u ∙ settled-alike (slotIn ss j) p room (ok .known j fill) .filled ∙ fill in
+          at-named p _ _ _ _ _ _ _ _ (acted-at h0 ss1 (l .state .opens) (l .rx) (l .store) k (bodyOf received k) ok1 j f1) .known ∙ ok1 .known j f1
+
+      abbrev s2 : ChannelSlot
+      s2 = slotIn (slotsBy ss1 (act .changes)) j
+
+      abbrev r3 : Settled
+      r3 = settledOf s2 p room
+
+      mark3 : markOf (r3 .slot) ≡ markOf (slotIn (slotsBy ss1 (act .changes ++ [])) j)
+      mark3 = settled-mark s2 p room there2 ∙ ap (λ (x : List Change). markOf (slotIn (slotsBy ss1 x) j)) (sym (append-nil (act .changes)))
+
+      abbrev w3 : Work
+      w3 = then w2 [] (ackFrames (r3 .slot) (r3 .ack))
+
+      tame3 : (t : ChannelSlot) (a : Answer) (used : ℕ) (bs : List ℕ) → markOf t ≡ markOf (r3 .slot) → tame (ends (then w3 (slotTo j t ∷ []) []) a used bs)
+      tame3 t a used bs e =
+          tame-ends ss (then w3 (slotTo j t ∷ []) []) a used bs
+          (tame-then ss w3 j t [] (tame-append ss (w2 .changes) [] tame2 tt) (e ∙ mark3))
+
+      reread-tame : (y : Taken) (used : ℕ) (fault : Failed) → tame-taken (r3 .slot) y → tame (reread ch (p .«rx_cap») used fault w3 (r3 .slot) y)
+      unfolding reread
+      reread-tame (Data t n) used fault e = tame3 t _ used _ e
+      reread-tame NothingTaken used fault e = tame3 (r3 .slot) _ used [] refl
+      reread-tame (ClosedTaken x) used fault e = tame3 (r3 .slot) _ used [] refl
+
+      acted-tame : (used : ℕ) → tame (readActed l ch room used (then w1 (slotTo j s1 ∷ []) []) act)
+      unfolding readActed readSettled
+      acted-tame used =
+          let e : slotIn (changedAll (l .state) (slotTo j s1 ∷ act .changes) .slots) j ≡ s2 = ap (λ (x : List ChannelSlot). slotIn x j) (slots-by (l .state) (slotTo j s1 ∷ act .changes)) in
+          subst (λ (x : ChannelSlot). tame (readSettled l ch room used (act .fault) (thenActed (then w1 (slotTo j s1 ∷ []) []) act) (settledOf x p room))) (sym e)
+          (reread-tame (takenOf (r3 .slot) room) used (act .fault) (taken-tame (r3 .slot) room))
+
+      packet-tame : tame (readBy l ch room w1 s1 received (PacketIs k))
+      unfolding readBy readDirect
+      packet-tame =
+          pick tame (isDirect s1 room k)
+          (λ t. read-end-tame (deliveredOf s1 p (k .«data_length») .slot) _ _ (frameLen k) _ (delivered-mark s1 p (k .«data_length») ∙ mark1))
+          (λ t. pick tame (closedBy (idsIn s1) k)
+          (λ u. read-end-tame (closedSlot s1) [] _ (frameLen k) [] (named-mark s1 (closedSlot s1) (closed-named s1) ∙ mark1))
+          (λ u. acted-tame (frameLen k)))
+
+    received-tame : (r : Received) → tame (readBy l ch room w1 s1 received r)
+    unfolding readBy
+    received-tame (Stop a used) = read-end-tame s1 [] a used [] mark1
+    received-tame (PacketIs k) = packet-tame k
+
+    taken-by-tame : (y : Taken) → tame-taken s1 y → tame (readTaken l ch room w1 s1 received y)
+    unfolding readTaken
+    taken-by-tame (Data t n) e = read-end-tame t [] _ 0 _ (e ∙ mark1)
+    taken-by-tame NothingTaken e = pick tame (s1 .«has_remote») (λ t. received-tame (receivedOf l received)) (λ t. read-end-tame s1 [] _ 0 [] mark1)
+    taken-by-tame (ClosedTaken x) e = read-end-tame s1 [] _ 0 [] mark1
+
+  pub read-tame : (ch : ChannelId) (room : ℕ) (received : List ℕ) → tame (readStep l ch room received)
+  unfolding readStep readFirst slotFor
+  read-tame ch room received =
+      pick tame (isThere l ch)
+      (λ t. taken-by-tame ch room received (there-filled ch t) (takenOf (settledOf (slotIn ss (ch .slot)) p room .slot) room) (taken-tame (settledOf (slotIn ss (ch .slot)) p room .slot) room))
+      (λ t. tame-plain h0 _ 0 [])
+
+  -- ---- write
+
+  module _ (ch : ChannelId) (out : ℕ) (bytes received : List ℕ) (fill : slotIn ss (ch .slot) .filled ≡ true) where
+    abbrev jw : ℕ
+    jw = ch .slot
+
+    some-tame : (used : ℕ) (w : Work) (s : ChannelSlot) (n : ℕ) → Tame ss (w .changes) → markOf s ≡ markOf (slotIn (slotsBy ss (w .changes)) jw) → tame (sendSome l ch out bytes used w s n)
+    unfolding sendSome
+    some-tame used w s n t e =
+        pick tame (ltb out (length (framesBytes (w .header .negotiated) (w .frames)) + 24 + n)) (λ u. tt)
+        (λ u. tame-ends ss (then w (slotTo jw (spentOf s p n) ∷ []) (writeFrame (idsIn s) (take n bytes) ∷ [])) (Written n) used []
+        (tame-then ss w jw (spentOf s p n) (writeFrame (idsIn s) (take n bytes) ∷ []) t (spent-mark s p n ∙ e)))
+
+    by-tame : (used : ℕ) (w : Work) (s : ChannelSlot) (x : Budget) → Tame ss (w .changes) → markOf s ≡ markOf (slotIn (slotsBy ss (w .changes)) jw) → tame (sendBy l ch out bytes used w s x)
+    unfolding sendBy
+    by-tame used w s (Bytes most) t e = some-tame used w s _ t e
+    by-tame used w s NoBudget t e = tame-ends ss (then w (slotTo jw s ∷ []) []) _ used [] (tame-then ss w jw s [] t e)
+
+    again-tame : (used : ℕ) (w : Work) (s : ChannelSlot) → Tame ss (w .changes) → markOf s ≡ markOf (slotIn (slotsBy ss (w .changes)) jw) → tame (sendAgain l ch out bytes used w s)
+    unfolding sendAgain
+    again-tame used w s t e =
+        pick tame (isClosed (s .state)) (λ c. tame-ends ss (then w (slotTo jw s ∷ []) []) _ used [] (tame-then ss w jw s [] t e)) (λ c. by-tame used w s (budgetOf s p) t e)
+
+    abbrev w0 : Work
+    w0 = begun h0 l
+
+    abbrev s0 : ChannelSlot
+    s0 = slotIn ss jw
+
+    readied-tame : (used : ℕ) (r : Readied) → Leaves (Named s0) r → tame (writeReadied l ch out bytes used w0 s0 r)
+    unfolding writeReadied
+    readied-tame used (Slot t) x = again-tame used w0 t tt (named-mark s0 t x)
+    readied-tame used Short x = tame-plain h0 _ used []
+
+    fault-tame : (used : ℕ) (k : Packet) (f : Failed) → tame (writeActed l ch out bytes used w0 (actOn h0 ss (l .state .opens) (l .rx) (l .store) k (bodyOf received k)) f)
+    unfolding writeActed
+    fault-tame used k (By f) = tame-ends ss (thenActed w0 (actOn h0 ss (l .state .opens) (l .rx) (l .store) k (bodyOf received k))) _ used [] (tame-act h0 ss (l .state .opens) (l .rx) (l .store) k (bodyOf received k) ok)
+    fault-tame used k No =
+        let a = actOn h0 ss (l .state .opens) (l .rx) (l .store) k (bodyOf received k) in
+        again-tame used (thenActed w0 a) _ (tame-act h0 ss (l .state .opens) (l .rx) (l .store) k (bodyOf received k) ok) (ap (λ (x : List ChannelSlot). markOf (slotIn x jw)) (slots-by (l .state) (a .changes)))
+
+    write-received-tame : (r : Received) → tame (writeBy l ch out bytes w0 s0 received r)
+    unfolding writeBy writeAct
+    write-received-tame (Stop a used) = tame-plain h0 a used []
+    write-received-tame (PacketIs k) =
+        pick tame (isReady (k .command) && eqb (k .arg1) (s0 .local .0)) (λ t. readied-tame (frameLen k) (readyOf s0 (bodyOf received k) p) (ready-named s0 (bodyOf received k) p))
+        (λ t. pick tame (closedBy (idsIn s0) k)
+        (λ u. tame-ends ss (then w0 (slotTo jw (closedSlot s0) ∷ []) []) _ (frameLen k) [] (named-mark s0 (closedSlot s0) (closed-named s0), tt))
+        (λ u. fault-tame (frameLen k) k (actOn h0 ss (l .state .opens) (l .rx) (l .store) k (bodyOf received k) .fault)))
+
+    first-tame : (x : Budget) → tame (writeFirst l ch out bytes received w0 s0 x)
+    unfolding writeFirst
+    first-tame (Bytes most) = some-tame 0 w0 s0 _ tt refl
+    first-tame NoBudget = pick tame (s0 .«has_remote») (λ t. write-received-tame (receivedOf l received)) (λ t. tame-plain h0 _ 0 [])
+
+  pub write-tame : (ch : ChannelId) (out : ℕ) (bytes received : List ℕ) → tame (writeStep l ch out bytes received)
+  unfolding writeStep writeOn slotFor
+  write-tame ch out bytes received =
+      pick tame (eqb (length bytes) 0) (λ z. tame-plain h0 _ 0 [])
+      (λ z. pick tame (isThere l ch)
+      (λ t. pick tame (isClosed (slotIn ss (ch .slot) .state)) (λ c. tame-plain h0 _ 0 []) (λ c. first-tame ch out bytes received (there-filled ch t) (budgetOf (slotIn ss (ch .slot)) p)))
+      (λ t. tame-plain h0 _ 0 []))
