@@ -264,6 +264,33 @@ module _ (h : Header) (ss : List ChannelSlot) (opens : List PendingOpen) (rx sto
         (subst (λ (ts : List ChannelSlot). A ts (d .rx) (faultOf (d .step .result))) (sym (same .slots))
         (at-route pol (h .negotiated .config .channels) ss rx ok i there payload (k .command) (k .arg0) (k .arg1))))
 
+-- ---- a CLSE is no fault
+
+abbrev Faultless : Step DispatchOutcome → Type 0
+Faultless x = faultOf (x .result) ≡ No
+
+faultless-closed : (f n : ℕ) (ss : List ChannelSlot) (other : DispatchOutcome) → faultOf other ≡ No → Faultless (closedAt f n ss other)
+unfolding closedAt
+faultless-closed f n ss other e = pick Faultless (ltb f n) (λ t. refl) (λ t. e)
+
+faultless-route : (p : RxPolicy) (n : ℕ) (ss : List ChannelSlot) (c : Command) (a l : ℕ) (payload rx : List ℕ) → isClose c ≡ true → Faultless (routeOf p n ss c a l payload rx .step)
+unfolding routeOf isClose closeOf
+faultless-route p n ss Connect a l payload rx e = absurd (true≢false (sym e))
+faultless-route p n ss Auth a l payload rx e = absurd (true≢false (sym e))
+faultless-route p n ss StartTls a l payload rx e = absurd (true≢false (sym e))
+faultless-route p n ss Open a l payload rx e = absurd (true≢false (sym e))
+faultless-route p n ss Close a l payload rx e =
+    pick Faultless (eqb l 0) (λ t. faultless-closed (remotePlace n ss (record { 0 = a })) n ss (CancelPendingOpen (record { 0 = a })) refl)
+    (λ t. faultless-closed (placeOf (Local (record { 0 = l })) n ss) n ss Unmatched refl)
+faultless-route p n ss Write a l payload rx e = absurd (true≢false (sym e))
+faultless-route p n ss Ready a l payload rx e = absurd (true≢false (sym e))
+faultless-route p n ss Sync a l payload rx e = absurd (true≢false (sym e))
+
+pub close-fault : (h : Header) (ss : List ChannelSlot) (opens : List PendingOpen) (rx store : List ℕ) (k : Packet) (payload : List ℕ) → isClose (k .command) ≡ true → actOn h ss opens rx store k payload .fault ≡ No
+unfolding tableOf dispatchOf
+close-fault h ss opens rx store k payload e =
+    same h ss opens rx store k payload .fault ∙ faultless-route (policyOf (h .negotiated)) (h .negotiated .config .channels) ss (k .command) (k .arg0) (k .arg1) payload rx e
+
 -- ---- the receive store keeps its length
 
 module _ (p : RxPolicy) (n : ℕ) (ss : List ChannelSlot) (rx : List ℕ) (ok : TableOk p n ss rx) (payload : List ℕ) where

@@ -4,6 +4,7 @@ pub mod Good
 pub mod Heard
 pub mod Marks
 pub mod Never13
+pub mod Opens
 pub mod Packets
 pub mod Places
 pub mod Received

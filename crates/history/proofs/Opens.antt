@@ -1,0 +1,197 @@
+-- An open beside the books: of a channel that is in the table, and of the one that it fills. Assumes nothing.
+use mathlib.Core.Path.{_≡_, refl, sym, ap, ap₂, subst, _∙_}
+use mathlib.Core.Bool.{Bool, true, false, not, cond, _&&_, true≢false}
+use mathlib.Core.List.{List, [], _∷_, _++_, map}
+use Prim.Native.Nat.{ℕ, _+_, _*_, _≤_, _<_}
+use native.Mathlib.Omega.{arith}
+use lib.Dec.{eqb, ltb}
+use lib.ListN.{length, set}
+use borrow.Author.Tests.{eqb-true, eqb-false, ne-eqb}
+use Rattle.le.proofs.Parts.{by-test}
+use Rattle.config.specs.declared.negotiated.RxPolicy.{RxPolicy}
+use Rattle.config.specs.Negotiated.{creditOf}
+use Rattle.config.proofs.Laws.{and-true}
+use Rattle.protocol.specs.declared.message.Message.{Message}
+use Rattle.protocol.specs.declared.packet.Packet.{Packet}
+use Rattle.protocol.specs.Packet.{maxPayload}
+use Rattle.protocol.proofs.RoundTrip.{Says}
+use Rattle.slot.specs.declared.ids.LocalId.{LocalId}
+use Rattle.slot.specs.declared.ids.RemoteId.{RemoteId}
+use Rattle.slot.specs.declared.ChannelSlot.{ChannelSlot}
+use Rattle.slot.specs.declared.Failed.{Failed}
+use Rattle.slot.specs.declared.Failed.the-variants.{No, By}
+use Rattle.slot.specs.declared.Readied.{Readied}
+use Rattle.slot.specs.declared.Readied.the-variants.{Slot, Short}
+use Rattle.slot.specs.Ids.{isClose}
+use Rattle.slot.specs.Slot.{openingSlot, openedOf}
+use Rattle.slot.proofs.Kept.{pick}
+use Rattle.slot.proofs.Laws.{cond-true, cond-false}
+use Rattle.state.specs.declared.Header.{Header}
+use Rattle.state.specs.Change.{slotTo}
+use Rattle.table.specs.declared.Allocated.{Allocated}
+use Rattle.table.specs.declared.Allocated.the-variants.{Channel, NoFree}
+use Rattle.table.specs.declared.ChannelId.{ChannelId}
+use Rattle.table.specs.Table.{first, allocated, numbered}
+use Rattle.table.specs.Dispatch.{slotIn}
+use Rattle.connection.specs.declared.Answer.{Answer}
+use Rattle.connection.specs.declared.Answer.the-variants.{Waiting, Opened, Refused}
+use Rattle.connection.specs.declared.Received.{Received}
+use Rattle.connection.specs.declared.Received.the-variants.{Packet as PacketIs, Stop}
+use Rattle.connection.specs.declared.Refusal.the-variants.{PayloadTooLarge, ShortReadyPayload, UnexpectedCommand, OutShort, ChannelClosed, NoFreeChannels}
+use Rattle.connection.specs.Act.{Acted, actOn}
+use Rattle.connection.specs.Answer.{refusalNumber, numberOf}
+use Rattle.connection.specs.Calls.{Lent, Outcome, Work, begun, then, thenActed, withHeader, ends, untouched, dropped, waitingFor, policy, bodyOf, frameLen, receivedOf, unlessFault, stillWaits, isWrite, isReady, openOn, openReadied, openActed, openBy, openStep}
+use Rattle.connection.specs.Frames.{Frame, closeFrame, openFrame}
+use Rattle.history.specs.Run.{Sent, Seen}
+use Rattle.history.specs.Book.{Book, Mark, hasRemote, overB, sentB, wrteB, acksB, acksOf, packetB, frameB, headerAt, isWrte, isClse, isRefused, endsOpen}
+use Rattle.history.specs.Demand3.{runOf}
+use Rattle.history.proofs.Acts.{acksIn, mineOf, acted-acks, good-by, frame-none, close-fault}
+use Rattle.history.proofs.Good.{Good, Limits, Leaves, sent-good, quiet-good, acked-none}
+use Rattle.history.proofs.Packets.{Stops, Got, stopped, packet, got, markOf, reads-write, reads-close, reads-arg1, reads-payload, write-no-close, ready-no-write}
+use Rattle.history.proofs.Places.{slotsBy, slot-set-other, TableOk}
+use Rattle.history.proofs.Steps.{seenOf, stop-good, packet-good, acted-good, not-four, tells-fault, waiting-four, Fine, ends-fine}
+
+and-false : (x : Bool) → (x && false) ≡ false
+and-false true = refl
+and-false false = refl
+
+module _ (l : Lent) (credit : ℕ) (ok : TableOk (policy l) (l .state .header .negotiated .config .channels) (l .state .slots) (l .rx))
+    (lim : Limits (policy l) credit (l .state .header .negotiated .config .«max_payload»)) (i : ℕ) (there : slotIn (l .state .slots) i .filled ≡ true)
+    (b : Book) (g : Good (policy l) credit (slotIn (l .state .slots) i) (runOf (l .rx) (policy l .«rx_cap») i (slotIn (l .state .slots) i)) b)
+    (received : List ℕ) (fs : List Sent) where
+  abbrev p : RxPolicy
+  p = policy l
+
+  abbrev ss : List ChannelSlot
+  ss = l .state .slots
+
+  abbrev dir : List Mark
+  dir = map markOf ss
+
+  abbrev h : Header
+  h = l .state .header
+
+  abbrev taken : Answer → ℕ → Book
+  taken a used = packetB dir i received (endsOpen a) (record { answer = a; used = used; sent = fs; got = [] }) b
+
+  abbrev open-fine : Outcome → Type 0
+  open-fine x = acksOf (b .local) fs ≡ acksIn p (b .local) (x .frames) → Fine p credit ss i x (acksB (b .local) (seenOf x fs) (packetB dir i received (endsOpen (x .answer)) (seenOf x fs) b))
+
+  abbrev here : Book → Type 0
+  here c = Good p credit (slotIn ss i) (runOf (l .rx) (p .«rx_cap») i (slotIn ss i)) c
+
+  -- an end that leaves this slot
+  open-ends : (w : Work) (a : Answer) (used : ℕ) → slotIn (slotsBy ss (w .changes)) i ≡ slotIn ss i → w .rx ≡ l .rx → acksIn p (b .local) (w .frames) ≡ 0 → here (taken a used) → open-fine (ends w a used [])
+  unfolding ends
+  open-ends w a used e1 e2 z f e =
+      ends-fine p credit ss i w a used [] _
+      (acked-none p credit _ _ _
+      (good-by p credit _ _ _ _ _ _ e1 (ap (λ (x : List ℕ). runOf x (p .«rx_cap») i (slotIn (slotsBy ss (w .changes)) i)) e2 ∙ ap (runOf (l .rx) (p .«rx_cap») i) e1) refl f) (acksOf (b .local) fs) (e ∙ z))
+
+  unused : (a : Answer) → here (taken a 0)
+  unfolding packetB
+  unused a = g
+
+  on-fine : (out : ℕ) (destination : List ℕ) (a : Allocated) → open-fine (openOn l out destination a)
+  unfolding openOn
+  on-fine out destination NoFree = open-ends (begun h l) (Refused NoFreeChannels) 0 refl refl refl (unused (Refused NoFreeChannels))
+  on-fine out destination (Channel ch) =
+      pick open-fine (ltb maxPayload (length destination)) (λ t. open-ends (begun (numbered h) l) (Refused PayloadTooLarge) 0 refl refl refl (unused (Refused PayloadTooLarge)))
+      (λ t. pick open-fine (ltb out (24 + length destination))
+      (λ u e. acked-none p credit _ _ _ (unused (Refused OutShort)) (acksOf (b .local) fs) e)
+      (λ u. open-ends (then (begun (waitingFor (numbered h) ch) l) [] (openFrame (ch .local) (creditOf (h .negotiated)) destination ∷ [])) Waiting 0 refl refl refl (unused Waiting)))
+
+  -- the open that waits, at another place
+  module _ (ch : ChannelId) (away : i ≡ ch .slot → ⊥) where
+    module _ (k : Packet) (sy : Says received (h .negotiated .config .«max_payload») k) where
+      abbrev lim9 : ℕ
+      lim9 = h .negotiated .config .«max_payload»
+
+      abbrev m : Message
+      m = headerAt received
+
+      abbrev body : List ℕ
+      body = bodyOf received k
+
+      -- a packet that is neither a WRTE nor a CLSE
+      okay-taken : (a : Answer) → eqb (numberOf a) 4 ≡ false → isReady (k .command) ≡ true → here (taken a (frameLen k))
+      okay-taken a four rd =
+          let r = ready-no-write (k .command) rd in
+          let ec : isClse m ≡ false = reads-close received lim9 k sy ∙ r .1 in
+          packet-good p credit _ lim _ _ b g dir i received (endsOpen a) lim9 k a fs [] _ _ sy four (ap (λ (x : Bool). x && isRefused a) ec)
+          (good-by p credit _ _ _ _ b _ refl refl
+          (frame-none dir i (b .acked) m body a b (ap (λ (x : Bool). x && eqb (m .arg1) (b .local)) (reads-write received lim9 k sy ∙ r .0))
+          (ap (λ (x : Bool). x && cond (eqb (m .arg1) 0) (not (eqb (m .arg0) 0) && (eqb (first (hasRemote (m .arg0)) dir) i)) (eqb (m .arg1) (b .local))) ec)) g)
+
+      readied-fine : isReady (k .command) ≡ true → (r : Readied) → open-fine (openReadied l ch (k .arg0) (frameLen k) r)
+      unfolding openReadied numberOf refusalNumber
+      readied-fine rd (Slot t) = open-ends (then (begun (dropped h) l) (slotTo (ch .slot) t ∷ []) []) (Opened ch) (frameLen k) (slot-set-other ss (ch .slot) i t away) refl refl (okay-taken (Opened ch) refl rd)
+      readied-fine rd Short =
+          open-ends (then (begun (dropped h) l) [] (closeFrame (record { local = ch .local; remote = record { 0 = k .arg0 } }) ∷ [])) (Refused ShortReadyPayload) (frameLen k) refl refl refl (okay-taken (Refused ShortReadyPayload) refl rd)
+
+      -- a WRTE too early, whose number a channel may share
+      early-fine : isWrite (k .command) ≡ true → open-fine (ends (then (begun (dropped h) l) [] (closeFrame (record { local = ch .local; remote = record { 0 = k .arg0 } }) ∷ [])) (Refused UnexpectedCommand) (frameLen k) [])
+      unfolding numberOf refusalNumber frameB
+      early-fine wr =
+          let a : Answer = Refused UnexpectedCommand in
+          let nc = write-no-close (k .command) wr in
+          let ec : isClse m ≡ false = reads-close received lim9 k sy ∙ nc in
+          let e0 : (isClse m && cond (eqb (m .arg1) 0) (not (eqb (m .arg0) 0) && (eqb (first (hasRemote (m .arg0)) dir) i)) (eqb (m .arg1) (b .local))) ≡ false =
+          ap (λ (x : Bool). x && cond (eqb (m .arg1) 0) (not (eqb (m .arg0) 0) && (eqb (first (hasRemote (m .arg0)) dir) i)) (eqb (m .arg1) (b .local))) ec in
+          open-ends (then (begun (dropped h) l) [] (closeFrame (record { local = ch .local; remote = record { 0 = k .arg0 } }) ∷ [])) a (frameLen k) refl refl refl
+          (packet-good p credit _ lim _ _ b g dir i received (endsOpen a) lim9 k a fs [] _ _ sy refl (ap (λ (x : Bool). x && true) ec)
+          (pick here (isWrte m && eqb (m .arg1) (b .local))
+          (λ t. quiet-good p credit _ _ _ (sent-good p credit _ _ b g (b .acked) (length body)))
+          (λ t. good-by p credit _ _ _ _ b _ refl refl (cond-false _ _ _ e0) g)))
+
+      -- a CLSE ends it, and closes no book
+      ended-fine : isClose (k .command) ≡ true → open-fine (ends (begun (dropped h) l) (Refused ChannelClosed) (frameLen k) [])
+      unfolding numberOf refusalNumber packetB
+      ended-fine cl =
+          let ec : (isClse m && true) ≡ true = ap (λ (x : Bool). x && true) (reads-close received lim9 k sy ∙ cl) in
+          open-ends (begun (dropped h) l) (Refused ChannelClosed) (frameLen k) refl refl refl
+          (good-by p credit _ _ _ _ b _ refl refl (cond-false (eqb (frameLen k) 0) _ _ (ne-eqb (frameLen k) 0 (λ x. omega arith)) ∙ cond-true (isClse m && true) _ _ ec) g)
+
+      -- any other packet
+      abbrev act : Acted
+      act = actOn h ss (l .state .opens) (l .rx) (l .store) k body
+
+      not-ended : endsOpen (unlessFault (act .fault) Waiting) m ≡ false
+      unfolding unlessFault
+      not-ended =
+          by-test (isClose (k .command))
+          (λ t. let e = close-fault h ss (l .state .opens) (l .rx) (l .store) k body t in
+          ap (λ (x : Failed). isClse m && isRefused (unlessFault x Waiting)) e ∙ and-false (isClse m))
+          (λ t. ap (λ (x : Bool). x && isRefused (unlessFault (act .fault) Waiting)) (reads-close received lim9 k sy ∙ t))
+
+      acted-fine : open-fine (openActed l (frameLen k) act)
+      unfolding openActed ends
+      acted-fine e =
+          let a = unlessFault (act .fault) Waiting in
+          let w = thenActed (begun h l) act in
+          ends-fine p credit ss i (withHeader w (stillWaits a (act .header))) a (frameLen k) [] _
+          (acked-none p credit _ _ _
+          (packet-good p credit _ lim _ _ b g dir i received (endsOpen a) lim9 k a fs [] _ _ sy (not-four (act .fault) Waiting waiting-four) not-ended
+          (acted-good h ss (l .state .opens) (l .rx) (l .store) ok credit lim i there b g dir refl received k sy (b .acked) (omega arith) a (tells-fault (mineOf ss i k) (act .fault) Waiting refl)))
+          (acksOf (b .local) fs) (e ∙ acted-acks h ss (l .state .opens) (l .rx) (l .store) k body (b .local)))
+
+      packet-fine : open-fine (openBy l ch received (PacketIs k))
+      unfolding openBy
+      packet-fine =
+          let mine = eqb (k .arg1) (ch .local .0) in
+          pick open-fine (isReady (k .command) && mine) (λ t. readied-fine (and-true (isReady (k .command)) mine t .0) (openedOf (openingSlot (ch .local)) (record { 0 = k .arg0 }) body p))
+          (λ t. pick open-fine (isWrite (k .command) && mine) (λ u. early-fine (and-true (isWrite (k .command)) mine u .0))
+          (λ u. pick open-fine (isClose (k .command) && mine) (λ v. ended-fine (and-true (isClose (k .command)) mine v .0)) (λ v. acted-fine)))
+
+    by-fine : (r : Received) → Got received (h .negotiated .config .«max_payload») r → open-fine (openBy l ch received r)
+    unfolding openBy
+    by-fine r (stopped a used st) = open-ends (begun (stillWaits a h) l) a used refl refl refl (stop-good p credit _ lim _ _ b g dir i received (endsOpen a) a used fs [] st)
+    by-fine r (packet k sy) = packet-fine k sy
+
+  -- an open beside the book of a channel that is in the table
+  pub open-call : (out : ℕ) (destination : List ℕ) → (h .waiting .on ≡ true → i ≡ h .waiting .slot → ⊥) → open-fine (openStep l out destination received)
+  unfolding openStep
+  open-call out destination away =
+      by-test (h .waiting .on)
+      (λ t. subst open-fine (sym (cond-true (h .waiting .on) _ _ t)) (by-fine (record { slot = h .waiting .slot; local = h .waiting .local }) (away t) (receivedOf l received) (got l received)))
+      (λ t. subst open-fine (sym (cond-false (h .waiting .on) _ _ t)) (on-fine out destination (allocated h ss)))
