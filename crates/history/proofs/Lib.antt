@@ -2,6 +2,7 @@ pub mod Acts
 pub mod Entries
 pub mod Good
 pub mod Heard
+pub mod Joins
 pub mod Marks
 pub mod Never13
 pub mod Opens
