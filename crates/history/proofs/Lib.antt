@@ -1,4 +1,5 @@
 pub mod Acts
+pub mod Asks
 pub mod Entries
 pub mod Good
 pub mod Heard
