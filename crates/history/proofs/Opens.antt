@@ -47,7 +47,8 @@ use Rattle.history.specs.Book.{Book, Mark, hasRemote, overB, sentB, wrte
 use Rattle.history.specs.Demand3.{runOf}
 use Rattle.history.proofs.Acts.{acksIn, mineOf, acted-acks, good-by, frame-none, close-fault}
 use Rattle.history.proofs.Good.{Good, Limits, Leaves, sent-good, quiet-good, acked-none}
-use Rattle.history.proofs.Packets.{Stops, Got, stopped, packet, got, markOf, reads-write, reads-close, reads-arg1, reads-payload, write-no-close, ready-no-write}
+use Rattle.history.proofs.Marks.{Tame, tame-ends, tame-act}
+use Rattle.history.proofs.Packets.{isOpened, Stops, Got, stopped, packet, got, markOf, reads-write, reads-close, reads-arg1, reads-payload, write-no-close, ready-no-write}
 use Rattle.history.proofs.Places.{slotsBy, slot-set-other, TableOk}
 use Rattle.history.proofs.Steps.{seenOf, stop-good, packet-good, acted-good, not-four, tells-fault, waiting-four, Fine, ends-fine}
 
@@ -195,3 +196,70 @@ module _ (l : Lent) (credit : ℕ) (ok : TableOk (policy l) (l .state .header .n
       by-test (h .waiting .on)
       (λ t. subst open-fine (sym (cond-true (h .waiting .on) _ _ t)) (by-fine (record { slot = h .waiting .slot; local = h .waiting .local }) (away t) (receivedOf l received) (got l received)))
       (λ t. subst open-fine (sym (cond-false (h .waiting .on) _ _ t)) (on-fine out destination (allocated h ss)))
+
+-- ---- the slot that an open fills
+
+-- a slot is filled, or none is
+pub data Opens (l : Lent) (received : List ℕ) : Outcome → Type 0 where
+  fills : (x : Outcome) (t : ChannelSlot) (k : Packet) → Says received (l .state .header .negotiated .config .«max_payload») k
+      → x .answer ≡ Opened (record { slot = l .state .header .waiting .slot; local = l .state .header .waiting .local })
+      → slotsBy (l .state .slots) (x .changes) ≡ set (l .state .slots) (l .state .header .waiting .slot) t → x .rx ≡ l .rx → l .state .header .waiting .on ≡ true
+      → openedOf (openingSlot (l .state .header .waiting .local)) (record { 0 = k .arg0 }) (bodyOf received k) (policy l) ≡ Slot t → Opens l received x
+  leaves : (x : Outcome) → isOpened (x .answer) ≡ false → Tame (l .state .slots) (x .changes) → Opens l received x
+
+module _ (l : Lent) (ok : TableOk (policy l) (l .state .header .negotiated .config .channels) (l .state .slots) (l .rx)) (received : List ℕ) where
+  abbrev hh : Header
+  hh = l .state .header
+
+  abbrev ws : List ChannelSlot
+  ws = l .state .slots
+
+  plain : (w : Work) (a : Answer) (used : ℕ) → isOpened a ≡ false → Tame ws (w .changes) → Opens l received (ends w a used [])
+  unfolding ends
+  plain w a used e t = leaves (ends w a used []) e (tame-ends ws w a used [] t)
+
+  opens-on : (out : ℕ) (destination : List ℕ) (a : Allocated) → Opens l received (openOn l out destination a)
+  unfolding openOn
+  opens-on out destination NoFree = plain (begun hh l) (Refused NoFreeChannels) 0 refl tt
+  opens-on out destination (Channel ch) =
+      pick (Opens l received) (ltb maxPayload (length destination)) (λ t. plain (begun (numbered hh) l) (Refused PayloadTooLarge) 0 refl tt)
+      (λ t. pick (Opens l received) (ltb out (24 + length destination)) (λ u. leaves (untouched l OutShort) refl tt)
+      (λ u. plain (then (begun (waitingFor (numbered hh) ch) l) [] (openFrame (ch .local) (creditOf (hh .negotiated)) destination ∷ [])) Waiting 0 refl tt))
+
+  abbrev wch : ChannelId
+  wch = record { slot = hh .waiting .slot; local = hh .waiting .local }
+
+  opens-readied : hh .waiting .on ≡ true → (k : Packet) → Says received (hh .negotiated .config .«max_payload») k → (r : Readied)
+      → openedOf (openingSlot (hh .waiting .local)) (record { 0 = k .arg0 }) (bodyOf received k) (policy l) ≡ r → Opens l received (openReadied l wch (k .arg0) (frameLen k) r)
+  unfolding openReadied ends
+  opens-readied on k sy (Slot t) e = fills _ t k sy refl refl refl on e
+  opens-readied on k sy Short e = plain (then (begun (dropped hh) l) [] (closeFrame (record { local = hh .waiting .local; remote = record { 0 = k .arg0 } }) ∷ [])) (Refused ShortReadyPayload) (frameLen k) refl tt
+
+  not-opened : (f : Failed) → isOpened (unlessFault f Waiting) ≡ false
+  unfolding unlessFault
+  not-opened No = refl
+  not-opened (By f) = refl
+
+  opens-acted : (k : Packet) → Opens l received (openActed l (frameLen k) (actOn hh ws (l .state .opens) (l .rx) (l .store) k (bodyOf received k)))
+  unfolding openActed
+  opens-acted k =
+      let b = actOn hh ws (l .state .opens) (l .rx) (l .store) k (bodyOf received k) in
+      let a = unlessFault (b .fault) Waiting in
+      plain (withHeader (thenActed (begun hh l) b) (stillWaits a (b .header))) a (frameLen k) (not-opened (b .fault)) (tame-act hh ws (l .state .opens) (l .rx) (l .store) k (bodyOf received k) ok)
+
+  opens-by : hh .waiting .on ≡ true → (r : Received) → Got received (hh .negotiated .config .«max_payload») r → Opens l received (openBy l wch received r)
+  unfolding openBy
+  opens-by on r (stopped a used st) = plain (begun (stillWaits a hh) l) a used (st .unopened) tt
+  opens-by on r (packet k sy) =
+      let mine = eqb (k .arg1) (hh .waiting .local .0) in
+      pick (Opens l received) (isReady (k .command) && mine) (λ t. opens-readied on k sy (openedOf (openingSlot (hh .waiting .local)) (record { 0 = k .arg0 }) (bodyOf received k) (policy l)) refl)
+      (λ t. pick (Opens l received) (isWrite (k .command) && mine)
+      (λ u. plain (then (begun (dropped hh) l) [] (closeFrame (record { local = hh .waiting .local; remote = record { 0 = k .arg0 } }) ∷ [])) (Refused UnexpectedCommand) (frameLen k) refl tt)
+      (λ u. pick (Opens l received) (isClose (k .command) && mine) (λ v. plain (begun (dropped hh) l) (Refused ChannelClosed) (frameLen k) refl tt) (λ v. opens-acted k)))
+
+  pub opens : (out : ℕ) (destination : List ℕ) → Opens l received (openStep l out destination received)
+  unfolding openStep
+  opens out destination =
+      by-test (hh .waiting .on)
+      (λ t. subst (Opens l received) (sym (cond-true (hh .waiting .on) _ _ t)) (opens-by t (receivedOf l received) (got l received)))
+      (λ t. subst (Opens l received) (sym (cond-false (hh .waiting .on) _ _ t)) (opens-on out destination (allocated hh ws)))

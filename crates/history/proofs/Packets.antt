@@ -30,7 +30,7 @@ use Rattle.table.specs.Table.{first, wantedBy, placeOf}
 use Rattle.table.specs.Dispatch.{slotIn}
 use Rattle.table.proofs.DispatchLaws.{first-found}
 use Rattle.connection.specs.declared.Answer.{Answer}
-use Rattle.connection.specs.declared.Answer.the-variants.{Waiting, Refused}
+use Rattle.connection.specs.declared.Answer.the-variants.{Done, Waiting, Nothing, Opened, Settled as SettledIs, Read, Written, Front as FrontIs, Refused}
 use Rattle.connection.specs.declared.Received.{Received}
 use Rattle.connection.specs.declared.Received.the-variants.{Packet as PacketIs, Stop}
 use Rattle.connection.specs.declared.Refusal.the-variants.{InvalidCommand, InvalidMagic, PayloadTooLarge, InvalidChecksum}
@@ -46,10 +46,23 @@ and-cond false y = refl
 
 -- ---- a packet, or none
 
+-- whether an answer says that a slot was filled
+abbrev pub isOpened : Answer → Bool
+isOpened (Opened ch) = true
+isOpened Done = false
+isOpened Waiting = false
+isOpened Nothing = false
+isOpened (SettledIs a) = false
+isOpened (Read n) = false
+isOpened (Written n) = false
+isOpened (FrontIs r c p n) = false
+isOpened (Refused r) = false
+
 -- none: nothing is used, or a damaged frame is
 pub record Stops (a : Answer) (used : ℕ) : Type 0 where
   pub quiet : eqb (numberOf a) 4 ≡ false → used ≡ 0
   pub late : isEarly a ≡ false
+  pub unopened : isOpened a ≡ false
 
 pub data Got (received : List ℕ) (limit : ℕ) : Received → Type 0 where
   stopped : (a : Answer) (used : ℕ) → Stops a used → Got received limit (Stop a used)
@@ -57,11 +70,11 @@ pub data Got (received : List ℕ) (limit : ℕ) : Received → Type 0 where
 
 got-by : (received : List ℕ) (limit : ℕ) (d : Decoded) → decodeOf received limit ≡ d → Got received limit (receivedBy d)
 unfolding receivedBy numberOf refusalNumber
-got-by received limit FrameWaiting e = stopped Waiting 0 (record { quiet = λ n. refl; late = refl })
-got-by received limit (WordInvalid word) e = stopped (Refused (InvalidCommand word)) 0 (record { quiet = λ n. refl; late = refl })
-got-by received limit MagicInvalid e = stopped (Refused InvalidMagic) 0 (record { quiet = λ n. refl; late = refl })
-got-by received limit LengthTooLarge e = stopped (Refused PayloadTooLarge) 0 (record { quiet = λ n. refl; late = refl })
-got-by received limit (SumInvalid used) e = stopped (Refused InvalidChecksum) used (record { quiet = λ n. absurd (true≢false n); late = refl })
+got-by received limit FrameWaiting e = stopped Waiting 0 (record { quiet = λ n. refl; late = refl; unopened = refl })
+got-by received limit (WordInvalid word) e = stopped (Refused (InvalidCommand word)) 0 (record { quiet = λ n. refl; late = refl; unopened = refl })
+got-by received limit MagicInvalid e = stopped (Refused InvalidMagic) 0 (record { quiet = λ n. refl; late = refl; unopened = refl })
+got-by received limit LengthTooLarge e = stopped (Refused PayloadTooLarge) 0 (record { quiet = λ n. refl; late = refl; unopened = refl })
+got-by received limit (SumInvalid used) e = stopped (Refused InvalidChecksum) used (record { quiet = λ n. absurd (true≢false n); late = refl; unopened = refl })
 got-by received limit (Accepted k) e = packet k (says received limit k e)
 
 pub got : (l : Lent) (received : List ℕ) → Got received (l .state .header .negotiated .config .«max_payload») (receivedOf l received)
