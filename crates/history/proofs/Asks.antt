@@ -51,7 +51,7 @@ use Rattle.connection.specs.Act.{Acted, pushedBy, actedBy, tableOf, actOn}
 use Rattle.connection.specs.Calls.{Lent, Outcome, Work, begun, then, thenActed, withHeader, ends, untouched, dropped, waitingFor, policy, bodyOf, frameLen, idsIn, isThere, slotFor, receivedOf, unlessFault, stillWaits, isWrite, isReady, dispatchBy, dispatchStep, settledAs, settleStep, takenBy, takeStep, reread, readSettled, readActed, isDirect, readDirect, readBy, readTaken, readFirst, readStep, sendSome, sendBy, sendAgain, writeReadied, writeActed, writeAct, writeBy, writeFirst, writeOn, writeStep, closeStep, frontBy, frontStep, openOn, openReadied, openActed, openBy, openStep}
 use Rattle.connection.specs.Frames.{Frame, okayFrame, closeFrame, openFrame, writeFrame, framesBytes}
 use Rattle.history.proofs.Heard.{openIn}
-use Rattle.history.proofs.Joins.{ends-header}
+use Rattle.history.proofs.Steps.{ends-header}
 
 -- ---- `act_on` leaves the waiting open
 

@@ -10,6 +10,7 @@ use lib.Seq.{getD-set-same, getD-set-other}
 use borrow.Author.Tests.{eqb-true, eqb-false, eq-eqb, ne-eqb}
 use Rattle.le.proofs.Parts.{by-test}
 use Rattle.config.specs.declared.negotiated.RxPolicy.{RxPolicy}
+use Rattle.config.specs.Negotiated.{creditOf}
 use Rattle.slot.specs.declared.ChannelSlot.{ChannelSlot}
 use Rattle.slot.proofs.Kept.{pick}
 use Rattle.slot.proofs.Laws.{cond-true, cond-false}
@@ -23,12 +24,15 @@ use Rattle.connection.specs.declared.Answer.the-variants.{Refused}
 use Rattle.connection.specs.declared.Refusal.{Refusal}
 use Rattle.connection.specs.declared.Refusal.the-variants.{StoreShort, OutShort, BrokenState}
 use Rattle.connection.specs.Answer.{refusalNumber, numberOf}
-use Rattle.connection.specs.Calls.{Lent, Outcome, Work, ends, untouched, policy}
+use Rattle.connection.specs.Calls.{Lent, Outcome, Work, ends, untouched, policy, dispatchStep, settleStep, takeStep, readStep, writeStep, closeStep, frontStep, openStep}
 use Rattle.connection.specs.Frames.{Frame}
 use Rattle.history.specs.Run.{Call, openCall, dispatchCall, settleCall, takeCall, readCall, writeCall, closeCall, frontTaken, bytesIn, Sent, Seen}
 use Rattle.history.specs.Book.{Book, noBook, Mark, noMark, Ledger, isOn, isEarly, isRefused, handedB, ackedB, settleB, readB, writeB, packetB, acksOf, lastOpen, entryOn, openedB, fillB, fillM, marks, entry}
 use Rattle.history.specs.Demand3.{runOf}
 use Rattle.history.proofs.Acts.{acksIn, good-by}
+use Rattle.history.proofs.Asks.{Asks, dispatch-asks, settle-asks, take-asks, read-asks, write-asks, close-asks, front-asks, open-asks}
+use Rattle.history.proofs.Entries.{On, on, dispatch-good, settle-call, take-call, read-call, write-call, close-this, close-else, front-call}
+use Rattle.history.proofs.Marks.{tame-marks, dispatch-tame, settle-tame, take-tame, read-tame, write-tame, front-tame}
 use Rattle.history.proofs.Good.{Good, Limits, acked-none, handed-none}
 use Rattle.history.proofs.Heard.{openIn}
 use Rattle.history.proofs.Packets.{markOf, mark-at}
@@ -46,15 +50,6 @@ mark-filled s =
 
 pub filled-by : (ss : List ChannelSlot) (i : ℕ) → getD (map markOf ss) i noMark .there ≡ slotIn ss i .filled
 filled-by ss i = ap (λ (x : Mark). x .there) (mark-at ss i) ∙ mark-filled (slotIn ss i)
-
-last-header : (c : Connection) (xs : List Change) (h : Header) → changedAll c (xs ++ headerTo h ∷ []) .header ≡ h
-last-header c [] h = refl
-last-header c (x ∷ xs) h = last-header (changed c x) xs h
-
--- the header after a call's end is the one that it had in hand
-pub ends-header : (c : Connection) (w : Work) (a : Answer) (used : ℕ) (bs : List ℕ) → changedAll c (ends w a used bs .changes) .header ≡ w .header
-unfolding ends
-ends-header c w a used bs = last-header c (w .changes) (w .header)
 
 -- what is kept of one place, between calls
 pub record Kept (p : RxPolicy) (credit i : ℕ) (on : Bool) (ss : List ChannelSlot) (rx : List ℕ) (x : Ledger) : Type 0 where
@@ -140,3 +135,81 @@ module _ (p : RxPolicy) (credit i : ℕ) (c : Connection) (rx : List ℕ) (y : L
   early-kept call l r fs er e z o =
       plain-kept call (untouched l r) fs (early-marks call r (map markOf ss)) refl (early-opened call r) (λ w d. o (y .asked) ∙ k .asks w d)
       (λ b g f. good-by p credit _ _ _ _ _ _ refl (ap (λ (x : List ℕ). runOf x (p .«rx_cap») i (slotIn ss i)) er) refl (early-good call r fs e z b g))
+
+-- ---- each call, once it is not refused by 8, 9 or 13
+
+module _ (l : Lent) (ok : TableOk (policy l) (l .state .header .negotiated .config .channels) (l .state .slots) (l .rx))
+    (lim : Limits (policy l) (creditOf (l .state .header .negotiated)) (l .state .header .negotiated .config .«max_payload»))
+    (apart : l .state .header .waiting .on ≡ true → slotIn (l .state .slots) (l .state .header .waiting .slot) .filled ≡ false)
+    (i : ℕ) (y : Ledger) (k : Kept (policy l) (creditOf (l .state .header .negotiated)) i (l .state .header .waiting .on) (l .state .slots) (l .rx) y) where
+  abbrev p : RxPolicy
+  p = policy l
+
+  abbrev credit : ℕ
+  credit = creditOf (l .state .header .negotiated)
+
+  abbrev ws : List ChannelSlot
+  ws = l .state .slots
+
+  -- what a caller sees is what the outcome says
+  pub record Hears (x : Outcome) (fs : List Sent) : Type 0 where
+    pub acks : (n : ℕ) → acksOf n fs ≡ acksIn p n (x .frames)
+    pub opens : (a : ℕ) → lastOpen fs a ≡ openIn (x .frames) a
+
+  abbrev pub Follows : Call → Outcome → Type 0
+  Follows call x = (fs : List Sent) → Hears x fs → KeptBy p credit i (l .state) x (entry p i call (seenOf x fs) y)
+
+  asked : (x : Outcome) (fs : List Sent) → Hears x fs → Asks l (y .asked) credit (k .asks) x
+      → changedAll (l .state) (x .changes) .header .waiting .on ≡ true → p .delayed ≡ true → lastOpen fs (y .asked) ≡ credit
+  asked x fs hs a t d = hs .opens (y .asked) ∙ a t d
+
+  pub early-follows : (call : Call) (r : Refusal) → isEarly (Refused r) ≡ true → Follows call (untouched l r)
+  early-follows call r e fs hs = early-kept p credit i (l .state) (l .rx) y k call l r fs refl e (hs .acks) (hs .opens)
+
+  pub dispatch-follows : (out received : List ℕ) → Follows (dispatchCall out received) (dispatchStep l (bytesIn received))
+  unfolding marks openedB entryOn
+  dispatch-follows out received fs hs =
+      let x = dispatchStep l (bytesIn received) in
+      plain-kept p credit i (l .state) (l .rx) y k (dispatchCall out received) x fs refl (tame-marks ws (x .changes) (dispatch-tame l ok (bytesIn received))) (λ b. refl)
+      (asked x fs hs (dispatch-asks l (y .asked) credit (k .asks) (bytesIn received)))
+      (λ b g f. dispatch-good l credit ok lim i f b g (bytesIn received) fs (hs .acks (b .local)))
+
+  pub settle-follows : (out : List ℕ) (ch : ChannelId) (want : ℕ) → Follows (settleCall out ch want) (settleStep l ch want)
+  unfolding marks openedB entryOn
+  settle-follows out ch want fs hs =
+      let x = settleStep l ch want in
+      plain-kept p credit i (l .state) (l .rx) y k (settleCall out ch want) x fs refl (tame-marks ws (x .changes) (settle-tame l ok ch want)) (λ b. refl)
+      (asked x fs hs (settle-asks l (y .asked) credit (k .asks) ch want))
+      (λ b g f. settle-call l credit ok lim i f b g ch want fs (hs .acks (b .local)))
+
+  pub take-follows : (ch : ChannelId) (buf : List ℕ) → Follows (takeCall ch buf) (takeStep l ch (length buf))
+  unfolding marks openedB entryOn
+  take-follows ch buf fs hs =
+      let x = takeStep l ch (length buf) in
+      plain-kept p credit i (l .state) (l .rx) y k (takeCall ch buf) x fs refl (tame-marks ws (x .changes) (take-tame l ok ch (length buf))) (λ b. refl)
+      (asked x fs hs (take-asks l (y .asked) credit (k .asks) ch (length buf)))
+      (λ b g f. take-call l credit ok lim i f b g (length buf) ch)
+
+  pub read-follows : (out : List ℕ) (ch : ChannelId) (buf received : List ℕ) → Follows (readCall out ch buf received) (readStep l ch (length buf) (bytesIn received))
+  unfolding marks openedB entryOn
+  read-follows out ch buf received fs hs =
+      let x = readStep l ch (length buf) (bytesIn received) in
+      plain-kept p credit i (l .state) (l .rx) y k (readCall out ch buf received) x fs refl (tame-marks ws (x .changes) (read-tame l ok ch (length buf) (bytesIn received))) (λ b. refl)
+      (asked x fs hs (read-asks l (y .asked) credit (k .asks) ch (length buf) (bytesIn received)))
+      (λ b g f. read-call l credit ok lim i f b g (length buf) (bytesIn received) fs ch (hs .acks (b .local)))
+
+  pub write-follows : (out : List ℕ) (ch : ChannelId) (bytes received : List ℕ) → Follows (writeCall out ch bytes received) (writeStep l ch (length out) (bytesIn bytes) (bytesIn received))
+  unfolding marks openedB entryOn
+  write-follows out ch bytes received fs hs =
+      let x = writeStep l ch (length out) (bytesIn bytes) (bytesIn received) in
+      plain-kept p credit i (l .state) (l .rx) y k (writeCall out ch bytes received) x fs refl (tame-marks ws (x .changes) (write-tame l ok ch (length out) (bytesIn bytes) (bytesIn received))) (λ b. refl)
+      (asked x fs hs (write-asks l (y .asked) credit (k .asks) ch (length out) (bytesIn bytes) (bytesIn received)))
+      (λ b g f. write-call l credit ok lim i f b g ch (length out) (bytesIn bytes) (bytesIn received) fs (hs .acks (b .local)))
+
+  pub front-follows : Follows frontTaken (frontStep l)
+  unfolding marks openedB entryOn
+  front-follows fs hs =
+      let x = frontStep l in
+      plain-kept p credit i (l .state) (l .rx) y k frontTaken x fs refl (tame-marks ws (x .changes) (front-tame l ok)) (λ b. refl)
+      (asked x fs hs (front-asks l (y .asked) credit (k .asks)))
+      (λ b g f. front-call l credit ok lim i f b g)

@@ -27,7 +27,8 @@ use Rattle.slot.specs.declared.Settled.{Settled}
 use Rattle.slot.specs.Slot.{withNumbers, acked, isOpening, isFailed, isClosed, spentOf, deliveredOf, settledOf, tookOf, SlotOk}
 use Rattle.slot.proofs.Kept.{pick, settled-sound}
 use Rattle.slot.proofs.Laws.{cond-true, cond-false}
-use Rattle.state.specs.Change.{Change, slotTo, headerTo}
+use Rattle.state.specs.Change.{Change, slotTo, headerTo, changed, changedAll}
+use Rattle.state.specs.State.{Connection}
 use Rattle.state.specs.declared.Header.{Header}
 use Rattle.state.specs.declared.PendingOpen.{PendingOpen}
 use Rattle.table.specs.Dispatch.{slotIn, shareOf}
@@ -55,6 +56,15 @@ seenOf x fs = record { answer = x .answer; used = x .used; sent = fs; got = x .h
 pub nil-of : (l : List ℕ) → length l ≡ 0 → l ≡ []
 nil-of [] e = refl
 nil-of (x ∷ l) e = absurd (omega arith)
+
+last-header : (c : Connection) (xs : List Change) (h : Header) → changedAll c (xs ++ headerTo h ∷ []) .header ≡ h
+last-header c [] h = refl
+last-header c (x ∷ xs) h = last-header (changed c x) xs h
+
+-- the header after a call's end is the one that it had in hand
+pub ends-header : (c : Connection) (w : Work) (a : Answer) (used : ℕ) (bs : List ℕ) → changedAll c (ends w a used bs .changes) .header ≡ w .header
+unfolding ends
+ends-header c w a used bs = last-header c (w .changes) (w .header)
 
 -- ---- slots that are the same channel
 
