@@ -12,6 +12,7 @@ pub mod Places
 pub mod Received
 pub mod Sending
 pub mod Steps
+pub mod Theorem
 pub mod WholeAct
 pub mod WholeCalls
 pub mod WholeWork

@@ -95,6 +95,17 @@ module _ (n : Negotiated) (r : List ℕ) (rx store : ℕ) where
     pub holds-kept : (x : Call) → Kept (lent w) (outcome w x)
     holds-kept x = call-kept w holds-whole (whole-own n (stateOf (w .state) .header) (stateOf (w .state) .slots) (stateOf (w .state) .opens) (h .facts)) x
 
+    -- the state after a call
+    pub state-after : (x : Call) → stateOf (after w x .state) ≡ changedAll (stateOf (w .state)) (outcome w x .changes)
+    unfolding after
+    state-after x =
+        let k = holds-kept x in
+        let c = stateOf (w .state) in
+        ap stateOf (ap (λ (b : List ℕ). putAll b (outcome w x .changes)) (h .is-layout) ∙ changes-layout c r (outcome w x .changes) (whole-full n c (h .facts)) (k .within))
+        ∙ state-forth (changedAll c (outcome w x .changes)) r
+        (whole-fits n (changedAll c (outcome w x .changes))
+        (subst (λ (m : Negotiated). Whole m (changedAll c (outcome w x .changes) .header) (changedAll c (outcome w x .changes) .slots) (changedAll c (outcome w x .changes) .opens)) (h .facts .header .negotiated) (k .facts)))
+
     pub holds-after : (x : Call) → Holds n r rx store (after w x)
     unfolding after
     holds-after x =
@@ -113,7 +124,7 @@ module _ (n : Negotiated) (r : List ℕ) (rx store : ℕ) where
 
 -- ---- what make leaves
 
-in-replicate : {A : Type 0} (k i : ℕ) (a : A) → getD (replicate k a) i a ≡ a
+pub in-replicate : {A : Type 0} (k i : ℕ) (a : A) → getD (replicate k a) i a ≡ a
 in-replicate zero i a = refl
 in-replicate (suc k) zero a = refl
 in-replicate (suc k) (suc i) a = in-replicate k i a
@@ -163,6 +174,15 @@ module _ (c : ConnectionConfig) (a b : ℕ) (host device : Bool) (state rx store
       holds-of n (drop 4730 state) (length rx) (length store) _ (fresh n)
       (ap (λ (x : Made). x .state) (cond-true (withinLimits c) _ _ e) ∙ put-start state (layout (fresh n)) (length-layout (fresh n) (whole-full n (fresh n) g)))
       g refl refl
+
+  -- the state is fresh
+  pub made-state : stateOf (made c a b host device state rx store .state) ≡ fresh (negotiatedOf host device a b c)
+  unfolding made makeOf
+  made-state =
+      let n = negotiatedOf host device a b c in
+      let g = fresh-whole n (limits-of c a b host device e) in
+      ap stateOf (ap (λ (x : Made). x .state) (cond-true (withinLimits c) _ _ e) ∙ put-start state (layout (fresh n)) (length-layout (fresh n) (whole-full n (fresh n) g)))
+      ∙ state-forth (fresh n) (drop 4730 state) (whole-fits n (fresh n) g)
 
   pub all-holds : (cs : List Call) → Holds (negotiatedOf host device a b c) (drop 4730 state) (length rx) (length store) (afterAll (made c a b host device state rx store) cs)
   all-holds cs = holds-all (negotiatedOf host device a b c) (drop 4730 state) (length rx) (length store) _ made-holds cs
