@@ -39,6 +39,12 @@ use Rattle.history.proofs.Places.{slotsBy, slots-by, TableOk}
 use Rattle.history.proofs.Steps.{seenOf}
 use Rattle.history.proofs.Written.{seen-is, seen-acks, seen-open}
 
+-- what store lengths that fit give
+fits-long : (c : ConnectionConfig) (a b : ℕ) (host device : Bool) (rx store : ℕ) → storesFit c rx store ≡ true
+    → negotiatedOf host device a b c .config .channels * (2 * capOf (negotiatedOf host device a b c .config)) ≤ rx
+unfolding storesFit rxStoreLen negotiatedOf
+fits-long c a b host device rx store e = leb-true (c .channels * (2 * capOf c)) rx (and-true (leb (c .channels * (2 * capOf c)) rx) (leb (openStoreLen c) store) e .0)
+
 -- ---- one call
 
 -- what is kept of one place of a world
@@ -144,3 +150,65 @@ module _ (w : World) (r : List ℕ) (rx store : ℕ) where
           subst (K (stateOf (after w x .state)) (stateOf (after w x .state) .slots)) (sym (sees x))
           (subst (λ (d : Connection). K d (d .slots) (seenOf o (seen w x .sent))) (sym st)
           (subst (λ (ss : List ChannelSlot). K (changedAll c (o .changes)) ss (seenOf o (seen w x .sent))) (sym (slots-by c (o .changes))) (call-follows x (seen w x .sent) (hears x))))
+
+-- the same where what was negotiated is known by another name
+keeps : (n : Negotiated) (w : World) (r : List ℕ) (rx store : ℕ) → Holds n r rx store w → n .config .channels * (2 * capOf (n .config)) ≤ rx → Distinct w → (i : ℕ) (y : Ledger) → KeptIn n i w y
+    → (x : Call) → KeptIn n i (after w x) (entry (policyOf n) i x (seen w x) y)
+keeps n w r rx store h long far i y k x =
+    let m = stateOf (w .state) .header .negotiated in
+    let e : m ≡ n = h .facts .header .negotiated in
+    let G : Negotiated → Type 0 = λ z. Holds z r rx store w → z .config .channels * (2 * capOf (z .config)) ≤ rx → KeptIn z i w y → KeptIn z i (after w x) (entry (policyOf z) i x (seen w x) y) in
+    subst G e (λ hm lm km. let a = hm .rx-length in call-keeps w r rx store hm (subst (λ (z : ℕ). m .config .channels * (2 * capOf (m .config)) ≤ z) (sym a) lm) far i y km x) h long k
+
+-- ---- a list of calls
+
+module _ (n : Negotiated) (r : List ℕ) (rx store : ℕ) (long : n .config .channels * (2 * capOf (n .config)) ≤ rx) (i : ℕ) where
+  keeps-all : (w : World) (y : Ledger) → Holds n r rx store w → Distinct w → KeptIn n i w y → (cs : List Call) → Apart w cs → KeptIn n i (afterAll w cs) (ledgerAfter (policyOf n) i w y cs)
+  unfolding afterAll ledgerAfter Apart
+  keeps-all w y h far k [] a = k
+  keeps-all w y h far k (x ∷ cs) a = keeps-all (after w x) (entry (policyOf n) i x (seen w x) y) (holds-after n r rx store w h x) (a .0) (keeps n w r rx store h long far i y k x) cs (a .1)
+
+-- ---- where it begins
+
+module _ (n : Negotiated) (w : World) (e : stateOf (w .state) ≡ fresh n) where
+  no-slot : (i : ℕ) → slotOf w i .filled ≡ false
+  unfolding slotIn fresh emptySlot
+  no-slot i = ap (λ (d : Connection). slotIn (d .slots) i .filled) e ∙ ap (λ (s : ChannelSlot). s .filled) (in-replicate 64 i emptySlot)
+
+  fresh-far : Distinct w
+  fresh-far i j f g q = absurd (true≢false (sym f ∙ no-slot i))
+
+  fresh-kept : (i : ℕ) → KeptIn n i w clean
+  unfolding fresh emptySlot
+  fresh-kept i =
+      record {
+        marked = ap (λ (d : Connection). map markOf (d .slots)) (sym e);
+        asks = λ t d. absurd (true≢false (sym t ∙ ap (λ (d : Connection). d .header .waiting .on) e));
+        full = λ f. absurd (true≢false (sym f ∙ no-slot i));
+        none = λ f. refl;
+      }
+
+-- ---- demand 3
+
+claim : (p : RxPolicy) (credit : ℕ) (s : ChannelSlot) (q : List ℕ) (b : Book) → Good p credit s q b → Claim p s q b
+claim p credit s q b g =
+    let m = g .nums in
+    record {
+      there = g .there;
+      exact = g .stream;
+      sum = λ d c small. let o = g .owed d c in omega arith;
+      aside = λ d c. g .owed d c .same;
+      most = λ d c. let o = g .owed d c in omega arith;
+      never11 = g .kept;
+    }
+
+pub demand-3 : Demand3
+demand-3 c a b host device state rx store within big cs apart i f =
+    let n = negotiatedOf host device a b c in
+    let w = made c a b host device state rx store in
+    by-test (storesFit c (length rx) (length store))
+    (λ t. let k = keeps-all n (drop 4730 state) (length rx) (length store) (fits-long c a b host device (length rx) (length store) t) i w clean (made-holds c a b host device state rx store within)
+    (fresh-far n w (made-state c a b host device state rx store within)) (fresh-kept n w (made-state c a b host device state rx store within) i) cs apart in
+    claim (policyOf n) (creditOf n) _ _ _ (k .full f))
+    (λ t. let e = always-8 c a b host device state rx store within big t cs .0 in
+    absurd (true≢false (sym f ∙ ap (λ (v : World). slotOf v i .filled) e ∙ no-slot n w (made-state c a b host device state rx store within) i)))
