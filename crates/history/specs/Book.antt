@@ -54,10 +54,13 @@ newBook l r c = record { there = true; local = l; remote = r; opening = c; sent 
 
 -- ---- entries
 
--- "adds its length to sent"; the rule: "sent before it is below the credit in our OPEN plus acknowledged as it stood before
--- that call"
+-- the device's rule: "sent before it is below the credit in our OPEN plus acknowledged as it stood before that call"
+abbrev pub withinRule : ℕ → Book → Bool
+withinRule before b = ltb (b .sent) (b .opening + before)
+
+-- "adds its length to sent"
 abbrev pub sentB : ℕ → ℕ → Book → Book
-sentB before n b = record { there = b .there; local = b .local; remote = b .remote; opening = b .opening; sent = b .sent + n; accepted = b .accepted; handed = b .handed; acked = b .acked; aside = b .aside; closed = b .closed; kept = b .kept && ltb (b .sent) (b .opening + before); over = b .over }
+sentB before n b = record { there = b .there; local = b .local; remote = b .remote; opening = b .opening; sent = b .sent + n; accepted = b .accepted; handed = b .handed; acked = b .acked; aside = b .aside; closed = b .closed; kept = b .kept && withinRule before b; over = b .over }
 
 -- "its payload joins accepted"
 abbrev pub acceptedB : List ℕ → Book → Book
