@@ -53,7 +53,7 @@ use Rattle.connection.specs.Calls.{ackFrames, idsIn, isWrite}
 use Rattle.connection.specs.Frames.{Frame, okayFrame, closeFrame, openFrame, writeFrame}
 use Rattle.history.specs.Book.{Book, Mark, sentB, acceptedB, closedB, overB, isRefused, isWrte, closesB, wrteB, frameB}
 use Rattle.history.specs.Demand3.{runOf}
-use Rattle.history.proofs.Good.{Good, Limits, Leaves, carried, carried-none, sent-good, quiet-good, refuse-good, accept-good, shut-good, ready-good}
+use Rattle.history.proofs.Good.{Terms, Good, Limits, Leaves, carried, carried-none, sent-good, quiet-good, refuse-good, accept-good, shut-good, ready-good}
 use Rattle.history.proofs.Places.{SameRun, ready-run, found-filled, room-for, Decides, buffers, overflows, isTaken, decides, slotsBy, slots-append, TableOk, faultOf, At, apart, wrote, over, credited, shut, AtPlace, closes, at-route}
 
 -- ---- the credit of frames
@@ -448,7 +448,7 @@ pub record Tells (mine : Bool) (fault : Failed) (a : Answer) : Type 0 where
   pub over : mine ≡ true → fault ≡ By RxOverflow → (isRefused a ≡ true) × (eqb (numberOf a) 11 ≡ true)
 
 -- the same of equal slots, runs and books
-pub good-by : (p : RxPolicy) (credit : ℕ) (s t : ChannelSlot) (q r : List ℕ) (b c : Book) → t ≡ s → r ≡ q → c ≡ b → Good p credit s q b → Good p credit t r c
+pub good-by : (p : RxPolicy) (credit : Terms) (s t : ChannelSlot) (q r : List ℕ) (b c : Book) → t ≡ s → r ≡ q → c ≡ b → Good p credit s q b → Good p credit t r c
 good-by p credit s t q r b c e f h g =
     subst (λ (x : ChannelSlot). Good p credit x r c) (sym e) (subst (λ (x : List ℕ). Good p credit s x c) (sym f) (subst (Good p credit s q) (sym h) g))
 
@@ -465,7 +465,7 @@ module _ (d : List Mark) (i before : ℕ) (m : Message) (payload : List ℕ) (a 
   unfolding frameB
   frame-none e f = cond-false (isWrte m && eqb (m .arg1) (b .local)) _ _ e ∙ cond-false (closesB d i b m) _ _ f
 
-module _ (p : RxPolicy) (credit most : ℕ) (lim : Limits p credit most) (s : ChannelSlot) (q : List ℕ) (b : Book) (g : Good p credit s q b) (o : isOpening (s .state) ≡ false)
+module _ (p : RxPolicy) (credit : Terms) (most : ℕ) (lim : Limits p credit most) (s : ChannelSlot) (q : List ℕ) (b : Book) (g : Good p credit s q b) (o : isOpening (s .state) ≡ false)
     (payload : List ℕ) (small : length payload ≤ most) (before : ℕ) (early : before ≤ b .acked) (d : List Mark) (i : ℕ) (m : Message) (a : Answer) where
   -- a WRTE that was taken
   wrte-taken : heldOf s + length payload ≤ p .«rx_cap» → isRefused a ≡ false → Good p credit (wroteOf s p (length payload) .slot) (q ++ payload) (wrteB before payload a b)

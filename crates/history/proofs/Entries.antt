@@ -58,12 +58,12 @@ use Rattle.history.specs.Run.{Sent, Seen}
 use Rattle.history.specs.Book.{writeB, isClse, hasRemote, endsOther, noMark, ownEnd, acceptedB, sentB, closedB, damagedB, isWrte, payloadAt, Mark, readB, readUsedB, isRefused, handedB, isEarly, settleB, isOn, Book, ackedB, acksOf, acksB, packetB, frameB, headerAt, never}
 use Rattle.history.specs.Demand3.{runOf}
 use Rattle.history.proofs.Acts.{frame-none, at-keeps, at-stays, Named, at-named, at-sound, at-fits, at-live, acted-length, acks-own, acks-other, acksIn, acks-append, mineOf, endsOf, acted-acks, acted-at, Tells, good-by, at-good}
-use Rattle.history.proofs.Good.{ready-good, spent-good, Leaves, deliver-good, shut-good, settle-empty, acked-drop, took-good, handed-none, Good, Limits, acked-none, carried, settle-good}
+use Rattle.history.proofs.Good.{Terms, settled-takes, ready-good, spent-good, Leaves, deliver-good, shut-good, settle-empty, acked-drop, took-good, handed-none, Good, Limits, acked-none, carried, settle-good}
 use Rattle.history.proofs.Packets.{Stops, Got, stopped, packet, got, markOf, reads-write, reads-close, reads-arg0, reads-arg1, reads-payload, ready-no-write, write-no-close, reads-end, mark-at, body-length, body-small, closes-agree}
 use Rattle.history.proofs.Places.{closed-run, ready-run, At, slots-by, slots-append, slots-length, slotsBy, slot-set-same, slot-set-other, SameRun, TableOk}
 use Rattle.history.proofs.Steps.{fault-apart, unless-is, waiting-four, spent-run, late-error, late-unless, four-error, over-told, table-set, delivered-same, damaged-good, nil-of, Alike, settled-alike, settled-run, acted-good, seenOf, stop-good, packet-good, not-four, tells-fault, Fine, ends-fine}
 
-module _ (l : Lent) (credit : ℕ) (ok : TableOk (policy l) (l .state .header .negotiated .config .channels) (l .state .slots) (l .rx))
+module _ (l : Lent) (credit : Terms) (ok : TableOk (policy l) (l .state .header .negotiated .config .channels) (l .state .slots) (l .rx))
     (lim : Limits (policy l) credit (l .state .header .negotiated .config .«max_payload»)) (i : ℕ) (there : slotIn (l .state .slots) i .filled ≡ true)
     (b : Book) (g : Good (policy l) credit (slotIn (l .state .slots) i) (runOf (l .rx) (policy l .«rx_cap») i (slotIn (l .state .slots) i)) b) where
   abbrev p : RxPolicy
@@ -253,9 +253,9 @@ module _ (l : Lent) (credit : ℕ) (ok : TableOk (policy l) (l .state .header .n
     rest-is = let e = share-long in let r = sound .run-fits in part-taken (shareOf rx (p .«rx_cap») i) (s .head) (s .buffered) n h (omega arith)
 
     -- taken, beside the book
-    taken-slot : (c : Book) → Good p credit s (runOf rx (p .«rx_cap») i s) c
+    taken-slot : (c : Book) → Good p credit s (runOf rx (p .«rx_cap») i s) c → (credit .reads ≡ true → p .delayed ≡ true → c .closed ≡ false → n ≤ s .settled)
         → Good p credit (tookOf s n) (runOf rx (p .«rx_cap») i (tookOf s n)) (handedB (frontOf rx (p .«rx_cap») i s n) c)
-    taken-slot c f = good-by p credit _ _ _ _ _ _ refl rest-is (ap (λ (x : List ℕ). handedB x c) front-is) (took-good p credit s _ c f n)
+    taken-slot c f most = good-by p credit _ _ _ _ _ _ refl rest-is (ap (λ (x : List ℕ). handedB x c) front-is) (took-good p credit s _ c f n most)
 
   -- the channel at this place, as a caller names it
   abbrev me : LocalId → ChannelId
@@ -268,9 +268,9 @@ module _ (l : Lent) (credit : ℕ) (ok : TableOk (policy l) (l .state .header .n
     abbrev takes-fine : ChannelId → Outcome → Type 0
     takes-fine ch x = Fine p credit ss i x (cond (isOn i b ch) (handedB (x .handed) b) b)
 
-    take-me : (local : LocalId) → isOn i b (me local) ≡ true → takes-fine (me local) (takenBy l (me local) (slotIn ss i) (begun (dropped (l .state .header)) l) (takenOf (slotIn ss i) room))
+    take-me : (local : LocalId) → isOn i b (me local) ≡ true → (credit .reads ≡ true → ⊥) → takes-fine (me local) (takenBy l (me local) (slotIn ss i) (begun (dropped (l .state .header)) l) (takenOf (slotIn ss i) room))
     unfolding takenOf takenBy ends
-    take-me local o =
+    take-me local o only =
         let s = slotIn ss i in
         let w = begun (dropped (l .state .header)) l in
         let P : Taken → Type 0 = λ t. takes-fine (me local) (takenBy l (me local) s w t) in
@@ -280,7 +280,7 @@ module _ (l : Lent) (credit : ℕ) (ok : TableOk (policy l) (l .state .header .n
         pick P (hasData s)
         (λ d. ends-fine p credit ss i (then w (slotTo i (tookOf s n) ∷ []) []) (Read n) 0 (frontOf (l .rx) (p .«rx_cap») i s n) _
         (good-this i (tookOf s n) (l .rx) _ refl
-        (good-by p credit _ _ _ _ _ _ refl refl (book (frontOf (l .rx) (p .«rx_cap») i s n)) (taken-slot (l .rx) refl s sound n (take-held s room (sound .settled-buffered)) b g))))
+        (good-by p credit _ _ _ _ _ _ refl refl (book (frontOf (l .rx) (p .«rx_cap») i s n)) (taken-slot (l .rx) refl s sound n (take-held s room (sound .settled-buffered)) b g (λ t d c. absurd (only t))))))
         (λ d. pick P (isClosed (s .state))
         (λ c. ends-fine p credit ss i w (Refused (errorRefusal (errorOf (s .failed)))) 0 [] _ (good-by p credit _ _ _ _ _ _ refl refl (book []) (handed-none p credit _ _ b g)))
         (λ c. ends-fine p credit ss i w Nothing 0 [] _ (good-by p credit _ _ _ _ _ _ refl refl (book []) (handed-none p credit _ _ b g))))
@@ -293,19 +293,19 @@ module _ (l : Lent) (credit : ℕ) (ok : TableOk (policy l) (l .state .header .n
     take-else ch s NothingTaken d o = none-fine Nothing _ (good-by p credit _ _ _ _ b _ refl refl (cond-false (isOn i b ch) _ _ o) g)
     take-else ch s (ClosedTaken e) d o = none-fine (Refused (errorRefusal e)) _ (good-by p credit _ _ _ _ b _ refl refl (cond-false (isOn i b ch) _ _ o) g)
 
-    take-by : (ch : ChannelId) → On ch → takes-fine ch (takeStep l ch room)
+    take-by : (ch : ChannelId) → On ch → (isOn i b ch ≡ true → credit .reads ≡ true → ⊥) → takes-fine ch (takeStep l ch room)
     unfolding takeStep slotFor ends
-    take-by ch (this d t o) =
+    take-by ch (this d t o) only =
         subst (takes-fine ch) (sym (cond-true (isThere l ch) _ _ t))
         (subst (λ (x : ChannelId). takes-fine x (takenBy l x (slotIn ss (x .slot)) (begun (dropped (l .state .header)) l) (takenOf (slotIn ss (x .slot)) room))) (sym (is-me ch d))
-        (take-me (ch .local) (ap (isOn i b) (sym (is-me ch d)) ∙ o)))
-    take-by ch (another d t f ne o) =
+        (take-me (ch .local) (ap (isOn i b) (sym (is-me ch d)) ∙ o) (only o)))
+    take-by ch (another d t f ne o) only =
         subst (takes-fine ch) (sym (cond-true (isThere l ch) _ _ t)) (take-else ch (slotIn ss (ch .slot)) (takenOf (slotIn ss (ch .slot)) room) d o)
-    take-by ch (none t o) =
+    take-by ch (none t o) only =
         subst (takes-fine ch) (sym (cond-false (isThere l ch) _ _ t)) (none-fine (Refused ChannelClosed) _ (good-by p credit _ _ _ _ b _ refl refl (cond-false (isOn i b ch) _ _ o) g))
 
-    pub take-call : (ch : ChannelId) → takes-fine ch (takeStep l ch room)
-    take-call ch = take-by ch (on ch)
+    pub take-call : (ch : ChannelId) → (isOn i b ch ≡ true → credit .reads ≡ true → ⊥) → takes-fine ch (takeStep l ch room)
+    take-call ch only = take-by ch (on ch) only
 
   -- ---- close
 
@@ -419,7 +419,8 @@ module _ (l : Lent) (credit : ℕ) (ok : TableOk (policy l) (l .state .header .n
     unfolding numberOf
     read-data n e =
         unused-fine (tookOf s1 n) (Read n) (frontOf (l .rx) (p .«rx_cap») i s1 n) refl
-        (taken-slot (l .rx) refl s1 sound1 n (subst (λ (x : ℕ). x ≤ s1 .buffered) (sym e) (take-held s1 room (sound1 .settled-buffered))) _ good1)
+        (taken-slot (l .rx) refl s1 sound1 n (subst (λ (x : ℕ). x ≤ s1 .buffered) (sym e) (take-held s1 room (sound1 .settled-buffered))) _ good1
+        (λ t d c. subst (λ (x : ℕ). x ≤ s1 .settled) (sym e) (settled-takes p credit (slotIn ss i) _ b room g d c)))
 
     -- an answer with nothing handed over
     read-plain : (a : Answer) → isEarly a ≡ false → reads-fine (ends (then w1 (slotTo i s1 ∷ []) []) a 0 [])
@@ -683,7 +684,8 @@ module _ (l : Lent) (credit : ℕ) (ok : TableOk (policy l) (l .state .header .n
               let n = takeLen (r3 .slot) room in
               pick (λ (y : Taken). reads-fine (rereads y)) (hasData (r3 .slot))
               (λ d. final-fine (tookOf (r3 .slot) n) (Read n) (frontOf (act .rx) (p .«rx_cap») i (r3 .slot) n) refl refl
-              (taken-slot (act .rx) length2 (r3 .slot) sound3 n (take-held (r3 .slot) room (sound3 .settled-buffered)) _ (good3 (Read n) (tells-read n))))
+              (taken-slot (act .rx) length2 (r3 .slot) sound3 n (take-held (r3 .slot) room (sound3 .settled-buffered)) _ (good3 (Read n) (tells-read n))
+              (λ x d c. settled-takes p credit (slotIn ts i) _ _ room (good2 (Read n) (tells-read n)) d c)))
               (λ d. pick (λ (y : Taken). reads-fine (rereads y)) (isClosed (r3 .slot .state))
               (λ c. let x = errorOf (r3 .slot .failed) in
               let a = unlessFault (act .fault) (Refused (errorRefusal x)) in

@@ -24,12 +24,12 @@ use Rattle.slot.specs.declared.ChannelState.the-variants.{Closed}
 use Rattle.slot.specs.declared.PendingAck.{PendingAck}
 use Rattle.slot.specs.declared.PendingAck.the-variants.{Len, Nothing}
 use Rattle.slot.specs.declared.Settled.{Settled}
-use Rattle.slot.specs.Slot.{openingSlot, openedBy, openedOf, creditOf, readyBy, readyOf, spentOf, isOpening, acksNow, wroteOf, emptySlot, withRemote, withState, withNumbers, withSending, acked, isClosed, heldOf, bufferedWith, someLen, deliveredOf, ackLenOf, settledBy, settledSome, settledOf, tookOf, closedSlot}
+use Rattle.slot.specs.Slot.{takeLen, openingSlot, openedBy, openedOf, creditOf, readyBy, readyOf, spentOf, isOpening, acksNow, wroteOf, emptySlot, withRemote, withState, withNumbers, withSending, acked, isClosed, heldOf, bufferedWith, someLen, deliveredOf, ackLenOf, settledBy, settledSome, settledOf, tookOf, closedSlot}
 use Rattle.slot.specs.declared.Wrote.{Wrote}
 use Rattle.slot.proofs.Kept.{pick}
 use Rattle.slot.proofs.Laws.{cond-true, cond-false}
 use Rattle.connection.specs.Answer.{ackLength}
-use Rattle.history.specs.Book.{Book, newBook, sentB, acceptedB, handedB, ackedB, asideB, closedB, overB, bookSlot, newAside, settleB}
+use Rattle.history.specs.Book.{Book, withinRule, newBook, sentB, acceptedB, handedB, ackedB, asideB, closedB, overB, bookSlot, newAside, settleB}
 
 -- the numbers of a channel, whatever its mode
 pub record Nums (cap buffered settled accepted handed acked sent : ℕ) : Type 0 where
@@ -47,24 +47,31 @@ pub record Owed (buffered settled unacked accepted acked aside : ℕ) : Type 0 w
   pub low : acked + unacked ≤ accepted
   pub high : min accepted (2 ^ 64 - 1) ≤ acked + unacked
 
--- q: the bytes that the slot has buffered; credit: what our OPENs carry in delayed mode
-pub record Good (p : RxPolicy) (credit : ℕ) (s : ChannelSlot) (q : List ℕ) (b : Book) : Type 0 where
+-- what our OPENs carry in delayed mode; whether the channel is read by reads alone
+pub record Terms : Type 0 where
+  pub credit : ℕ
+  pub reads : Bool
+
+-- q: the bytes that the slot has buffered
+pub record Good (p : RxPolicy) (credit : Terms) (s : ChannelSlot) (q : List ℕ) (b : Book) : Type 0 where
   pub filled : s .filled ≡ true
   pub known : s .«has_remote» ≡ true
   pub there : b .there ≡ true
   pub loc : b .local ≡ s .local .0
   pub rem : b .remote ≡ s .remote .0
-  pub opened : p .delayed ≡ true → b .opening ≡ credit
+  pub opened : p .delayed ≡ true → b .opening ≡ credit .credit
   pub run : length q ≡ s .buffered
   pub stream : b .handed ++ q ≡ b .accepted
   pub nums : Nums (p .«rx_cap») (s .buffered) (s .settled) (length (b .accepted)) (length (b .handed)) (b .acked) (b .sent)
   pub ends : b .closed ≡ isClosed (s .state)
   pub owed : p .delayed ≡ true → b .closed ≡ false → Owed (s .buffered) (s .settled) (s .unacked) (length (b .accepted)) (b .acked) (b .aside)
   pub kept : p .delayed ≡ true → b .kept ≡ true → b .over ≡ false
+  -- what reads hand over was acknowledged
+  pub even : credit .reads ≡ true → p .delayed ≡ true → b .closed ≡ false → length (b .handed) + s .settled ≤ b .acked
 
 -- what limits that are kept give
-pub record Limits (p : RxPolicy) (credit most : ℕ) : Type 0 where
-  pub fits : credit + most ≤ suc (p .«rx_cap»)
+pub record Limits (p : RxPolicy) (credit : Terms) (most : ℕ) : Type 0 where
+  pub fits : credit .credit + most ≤ suc (p .«rx_cap»)
   pub payload : most ≤ p .«rx_cap»
   pub small : p .«rx_cap» ≤ 16777216
 
@@ -83,6 +90,10 @@ carried-delayed p a d = cond-true (p .delayed) _ 0 d
 pub carried-plain : (p : RxPolicy) (a : PendingAck) → p .delayed ≡ false → carried p a ≡ 0
 unfolding carried
 carried-plain p a d = cond-false (p .delayed) _ 0 d
+
+-- what the device's rule says
+rule-says : (before : ℕ) (b : Book) → withinRule before b ≡ true → b .sent < b .opening + before
+rule-says before b e = ltb-true (b .sent) (b .opening + before) e
 
 -- ---- settling
 
@@ -127,7 +138,7 @@ aside-by s p n r d h (not-due z f e) =
     ap (λ (x : Settled). x .slot .settled) e ∙ m ∙ sym (cond-true (eqb (s .settled) 0) n (s .settled) (eq-eqb (s .settled) 0 z))
 aside-by s p n r d h (due k z f e) = ap (λ (x : Settled). x .slot .settled) e ∙ sym (cond-true (eqb (s .settled) 0) n (s .settled) (eq-eqb (s .settled) 0 z))
 
-module _ (p : RxPolicy) (credit : ℕ) (s : ChannelSlot) (q : List ℕ) (b : Book) (want : ℕ) (g : Good p credit s q b) where
+module _ (p : RxPolicy) (credit : Terms) (s : ChannelSlot) (q : List ℕ) (b : Book) (want : ℕ) (g : Good p credit s q b) where
   -- what the book sets aside is what the slot does
   book-aside : p .delayed ≡ true → b .closed ≡ false → newAside p want b ≡ cond (eqb (s .settled) 0) (min want (s .buffered)) (s .settled) - s .settled
   unfolding newAside bookSlot
@@ -164,6 +175,7 @@ module _ (p : RxPolicy) (credit : ℕ) (s : ChannelSlot) (q : List ℕ) (b : Boo
         kept = g .kept;
         nums = let m = g .nums in record { all = m .all; inside = m .inside; room = m .room; within = m .within; counted = m .counted; acks = omega arith };
         owed = λ d c. let o = g .owed d c in let z = h d c in record { same = omega arith; held = o .held; low = omega arith; high = omega arith };
+        even = λ t d c. let v = g .even t d c in omega arith;
       }
 
   settle-some : (k : ℕ) → s .settled ≡ 0 → (p .delayed ≡ true → k ≡ min (min want (s .buffered)) (s .unacked))
@@ -200,6 +212,7 @@ module _ (p : RxPolicy) (credit : ℕ) (s : ChannelSlot) (q : List ℕ) (b : Boo
             let x = book-aside d c in
             let w : cond (eqb (s .settled) 0) (min want (s .buffered)) (s .settled) ≡ min want (s .buffered) = cond-true (eqb (s .settled) 0) _ _ (eq-eqb (s .settled) 0 z) in
             record { same = omega arith; held = omega arith; low = omega arith; high = omega arith };
+        even = λ t d c. let o = g .owed d c in let e = f d in let y : carried p (Len k) ≡ k = carried-delayed p (Len k) d in let v = g .even t d c in omega arith;
       }
 
   settle-by : (r : Settled) → Settles s p (min want (s .buffered)) r → after-settling r
@@ -221,6 +234,29 @@ len-zero : (k : ℕ) → k ≡ 0 → ackLength (Len k) ≡ 0
 unfolding ackLength
 len-zero k h = h
 
+buffered-by : (s : ChannelSlot) (p : RxPolicy) (n : ℕ) (r : Settled) → Settles s p n r → r .slot .buffered ≡ s .buffered
+buffered-by s p n r (already z e) = ap (λ (x : Settled). x .slot .buffered) e
+buffered-by s p n r (not-due z f e) = ap (λ (x : Settled). x .slot .buffered) e
+buffered-by s p n r (due k z f e) = ap (λ (x : Settled). x .slot .buffered) e
+
+-- so a read takes no more than was set aside
+pub settled-takes : (p : RxPolicy) (credit : Terms) (s : ChannelSlot) (q : List ℕ) (b : Book) (room : ℕ) → Good p credit s q b → p .delayed ≡ true → b .closed ≡ false
+    → takeLen (settledOf s p room .slot) room ≤ settledOf s p room .slot .settled
+unfolding takeLen
+settled-takes p credit s q b room g d c =
+    let o = g .owed d c in
+    let t = settledOf s p room .slot in
+    let v = settles s p room (g .known) in
+    let e = aside-by s p (min room (s .buffered)) (settledOf s p room) d (omega arith) v in
+    let f = buffered-by s p (min room (s .buffered)) (settledOf s p room) v in
+    by-test (eqb (t .settled) 0)
+    (λ z. let z0 = eqb-true (t .settled) 0 z in
+    let w = cond-true (eqb (t .settled) 0) (t .buffered) (t .settled) z in
+    by-test (eqb (s .settled) 0)
+    (λ y. let u = cond-true (eqb (s .settled) 0) (min room (s .buffered)) (s .settled) y in omega arith)
+    (λ y. let u = cond-false (eqb (s .settled) 0) (min room (s .buffered)) (s .settled) y in absurd (eqb-false (s .settled) 0 y (sym u ∙ sym e ∙ z0))))
+    (λ z. let w = cond-false (eqb (t .settled) 0) (t .buffered) (t .settled) z in omega arith)
+
 -- with nothing buffered a settling acknowledges nothing in delayed mode
 carried-by : (s : ChannelSlot) (p : RxPolicy) (n : ℕ) (r : Settled) → n ≡ 0 → Settles s p n r → carried p (r .ack) ≡ 0
 carried-by s p n r z (already y e) = ap (λ (x : Settled). carried p (x .ack)) e ∙ carried-none p
@@ -233,7 +269,7 @@ pub settle-empty : (s : ChannelSlot) (p : RxPolicy) (want : ℕ) → s .«has_re
 settle-empty s p want k z = carried-by s p (min want (s .buffered)) (settledOf s p want) (omega arith) (settles s p want k)
 
 -- credit of 0 is none
-pub acked-drop : (p : RxPolicy) (credit : ℕ) (s : ChannelSlot) (q : List ℕ) (b : Book) (k : ℕ) → k ≡ 0 → Good p credit s q (ackedB k b) → Good p credit s q b
+pub acked-drop : (p : RxPolicy) (credit : Terms) (s : ChannelSlot) (q : List ℕ) (b : Book) (k : ℕ) → k ≡ 0 → Good p credit s q (ackedB k b) → Good p credit s q b
 acked-drop p credit s q b k z g =
     let m = g .nums in
     record {
@@ -249,15 +285,16 @@ acked-drop p credit s q b k z g =
       kept = g .kept;
       nums = record { all = m .all; inside = m .inside; room = m .room; within = m .within; counted = m .counted; acks = omega arith };
       owed = λ d c. let o = g .owed d c in record { same = o .same; held = o .held; low = omega arith; high = omega arith };
+      even = λ t d c. let v = g .even t d c in omega arith;
     }
 
 -- ---- the other moves
 
-module _ (p : RxPolicy) (credit : ℕ) (s : ChannelSlot) (q : List ℕ) (b : Book) (g : Good p credit s q b) where
+module _ (p : RxPolicy) (credit : Terms) (s : ChannelSlot) (q : List ℕ) (b : Book) (g : Good p credit s q b) where
   -- n bytes taken from the front of the run
-  pub took-good : (n : ℕ) → Good p credit (tookOf s n) (drop n q) (handedB (take n q) b)
+  pub took-good : (n : ℕ) → (credit .reads ≡ true → p .delayed ≡ true → b .closed ≡ false → n ≤ s .settled) → Good p credit (tookOf s n) (drop n q) (handedB (take n q) b)
   unfolding tookOf
-  took-good n =
+  took-good n fits =
       let m = g .nums in
       let r = g .run in
       let lt = length-take n q in
@@ -276,6 +313,7 @@ module _ (p : RxPolicy) (credit : ℕ) (s : ChannelSlot) (q : List ℕ) (b : Boo
         stream = append-assoc (b .handed) (take n q) (drop n q) ∙ ap (λ (x : List ℕ). b .handed ++ x) (take-append-drop n q) ∙ g .stream;
         nums = record { all = omega arith; inside = omega arith; room = omega arith; within = omega arith; counted = m .counted; acks = omega arith };
         owed = λ d c. let o = g .owed d c in record { same = omega arith; held = omega arith; low = o .low; high = o .high };
+        even = λ t d c. let v = g .even t d c in let u = fits t d c in omega arith;
       }
 
   -- nothing handed over
@@ -297,6 +335,7 @@ module _ (p : RxPolicy) (credit : ℕ) (s : ChannelSlot) (q : List ℕ) (b : Boo
         stream = ap (λ (x : List ℕ). x ++ q) e ∙ g .stream;
         nums = record { all = omega arith; inside = m .inside; room = m .room; within = m .within; counted = m .counted; acks = omega arith };
         owed = λ d c. let o = g .owed d c in record { same = omega arith; held = o .held; low = o .low; high = o .high };
+        even = λ t d c. let v = g .even t d c in omega arith;
       }
 
   -- no credit
@@ -316,6 +355,7 @@ module _ (p : RxPolicy) (credit : ℕ) (s : ChannelSlot) (q : List ℕ) (b : Boo
         kept = g .kept;
         nums = record { all = m .all; inside = m .inside; room = m .room; within = m .within; counted = m .counted; acks = omega arith };
         owed = λ d c. let o = g .owed d c in record { same = o .same; held = o .held; low = omega arith; high = omega arith };
+        even = λ t d c. let v = g .even t d c in omega arith;
       }
 
   -- a WRTE of n bytes was used
@@ -334,7 +374,8 @@ module _ (p : RxPolicy) (credit : ℕ) (s : ChannelSlot) (q : List ℕ) (b : Boo
         ends = g .ends;
         owed = g .owed;
         nums = record { all = m .all; inside = m .inside; room = m .room; within = m .within; counted = omega arith; acks = m .acks };
-        kept = λ d k. g .kept d (and-true (b .kept) (ltb (b .sent) (b .opening + before)) k .0);
+        kept = λ d k. g .kept d (and-true (b .kept) (withinRule before b) k .0);
+        even = g .even;
       }
 
   -- refused, but not by 11
@@ -353,6 +394,7 @@ module _ (p : RxPolicy) (credit : ℕ) (s : ChannelSlot) (q : List ℕ) (b : Boo
         owed = g .owed;
         nums = g .nums;
         kept = λ d k. ap (λ (x : Bool). x || false) (g .kept d k);
+        even = g .even;
       }
 
   -- refused by 11: the device broke its rule
@@ -373,10 +415,11 @@ module _ (p : RxPolicy) (credit : ℕ) (s : ChannelSlot) (q : List ℕ) (b : Boo
         owed = g .owed;
         nums = record { all = m .all; inside = m .inside; room = m .room; within = m .within; counted = omega arith; acks = m .acks };
         kept = λ d k.
-            let r : b .sent < b .opening + before = ltb-true (b .sent) (b .opening + before) (and-true (b .kept) (ltb (b .sent) (b .opening + before)) k .1) in
+            let r = rule-says before b (and-true (b .kept) (withinRule before b) k .1) in
             let o = g .opened d in
             let f = lim .fits in
             absurd (omega arith);
+        even = g .even;
       }
 
   -- closed by the device
@@ -396,12 +439,13 @@ module _ (p : RxPolicy) (credit : ℕ) (s : ChannelSlot) (q : List ℕ) (b : Boo
         kept = g .kept;
         ends = refl;
         owed = λ d c. let z : true ≡ false = c in absurd (true≢false z);
+        even = λ t d c. let z : true ≡ false = c in absurd (true≢false z);
       }
 
   -- the budget does not count
   pub sending-good : (a : Bool) (z : ℤ) → Good p credit (withSending s a z) q b
   sending-good a z =
-      record { filled = g .filled; known = g .known; there = g .there; loc = g .loc; rem = g .rem; opened = g .opened; run = g .run; stream = g .stream; nums = g .nums; ends = g .ends; owed = g .owed; kept = g .kept }
+      record { filled = g .filled; known = g .known; there = g .there; loc = g .loc; rem = g .rem; opened = g .opened; run = g .run; stream = g .stream; nums = g .nums; ends = g .ends; owed = g .owed; kept = g .kept; even = g .even }
 
   -- a WRTE put behind the run
   module _ (before : ℕ) (body : List ℕ) (small : p .«rx_cap» ≤ 16777216) (h : heldOf s + length body ≤ p .«rx_cap») where
@@ -423,11 +467,12 @@ module _ (p : RxPolicy) (credit : ℕ) (s : ChannelSlot) (q : List ℕ) (b : Boo
           run = omega arith;
           stream = sym (append-assoc (b .handed) q body) ∙ ap (λ (x : List ℕ). x ++ body) (g .stream);
           nums = record { all = omega arith; inside = omega arith; room = omega arith; within = m .within; counted = omega arith; acks = m .acks };
-          kept = λ d k. g .kept d (and-true (b .kept) (ltb (b .sent) (b .opening + before)) k .0);
+          kept = λ d k. g .kept d (and-true (b .kept) (withinRule before b) k .0);
           owed = λ d c.
               let o = g .owed d c in
               let e : u ≡ min (s .unacked + length body) (2 ^ 64 - 1) = f d in
               record { same = o .same; held = omega arith; low = omega arith; high = omega arith };
+          even = g .even;
         }
 
     -- as `apply_write` decides: acknowledged at once, or held
@@ -463,8 +508,9 @@ module _ (p : RxPolicy) (credit : ℕ) (s : ChannelSlot) (q : List ℕ) (b : Boo
           run = g .run;
           stream = ap (λ (x : List ℕ). b .handed ++ body ++ x) nil ∙ append-nil (b .handed ++ body) ∙ ap (λ (x : List ℕ). x ++ body) e;
           nums = record { all = omega arith; inside = m .inside; room = m .room; within = m .within; counted = omega arith; acks = omega arith };
-          kept = λ d x. g .kept d (and-true (b .kept) (ltb (b .sent) (b .opening + before)) x .0);
+          kept = λ d x. g .kept d (and-true (b .kept) (withinRule before b) x .0);
           owed = λ d c. let o = g .owed d c in let y = f d in let y0 = y .0 in let y1 = y .1 in record { same = omega arith; held = omega arith; low = omega arith; high = omega arith };
+          even = λ t d c. let v = g .even t d c in let w = f d in let w1 = w .1 in omega arith;
         }
 
     abbrev after-direct : Settled → Type 0
@@ -496,7 +542,7 @@ module _ (p : RxPolicy) (credit : ℕ) (s : ChannelSlot) (q : List ℕ) (b : Boo
 
 -- ---- a new channel
 
-new-numbers : (p : RxPolicy) (credit asked : ℕ) (s : ChannelSlot) (l r : ℕ) → (p .delayed ≡ true → asked ≡ credit) → s .filled ≡ true → s .«has_remote» ≡ true
+new-numbers : (p : RxPolicy) (credit : Terms) (asked : ℕ) (s : ChannelSlot) (l r : ℕ) → (p .delayed ≡ true → asked ≡ credit .credit) → s .filled ≡ true → s .«has_remote» ≡ true
     → l ≡ s .local .0 → r ≡ s .remote .0 → 0 ≡ s .buffered → 0 ≡ s .settled → 0 ≡ s .unacked → false ≡ isClosed (s .state) → Good p credit s [] (newBook l r asked)
 new-numbers p credit asked s l r h f k e1 e2 e3 e4 e5 e6 =
     record {
@@ -512,6 +558,7 @@ new-numbers p credit asked s l r h f k e1 e2 e3 e4 e5 e6 =
       nums = record { all = omega arith; inside = omega arith; room = omega arith; within = omega arith; counted = omega arith; acks = omega arith };
       owed = λ d c. record { same = e4; held = omega arith; low = omega arith; high = omega arith };
       kept = λ d x. refl;
+      even = λ t d c. omega arith;
     }
 
 -- what an OKAY leaves of a slot, if it leaves one
@@ -519,7 +566,7 @@ abbrev pub Leaves : (ChannelSlot → Type 0) → Readied → Type 0
 Leaves P (Slot t) = P t
 Leaves P Short = Unit {0}
 
-module _ (p : RxPolicy) (credit asked : ℕ) (l : LocalId) (r : RemoteId) (h : p .delayed ≡ true → asked ≡ credit) where
+module _ (p : RxPolicy) (credit : Terms) (asked : ℕ) (l : LocalId) (r : RemoteId) (h : p .delayed ≡ true → asked ≡ credit .credit) where
   abbrev fresh-good : ChannelSlot → Type 0
   fresh-good t = Good p credit t [] (newBook (l .0) (r .0) asked)
 
@@ -536,7 +583,7 @@ module _ (p : RxPolicy) (credit asked : ℕ) (l : LocalId) (r : RemoteId) (h : p
       (λ d. new-numbers p credit asked _ (l .0) (r .0) h refl refl refl refl refl refl refl refl)
 
 -- a later OKAY
-module _ (p : RxPolicy) (credit : ℕ) (s : ChannelSlot) (q : List ℕ) (b : Book) (g : Good p credit s q b) where
+module _ (p : RxPolicy) (credit : Terms) (s : ChannelSlot) (q : List ℕ) (b : Book) (g : Good p credit s q b) where
   ready-by : (c : Credit) → Leaves (λ (t : ChannelSlot). Good p credit t q b) (readyBy s c)
   unfolding readyBy
   ready-by (Of z) = sending-good p credit s q b g (s .«wrte_acked») _

@@ -12,6 +12,7 @@ use borrow.Author.Tests.{eqb-true, eqb-false, eq-eqb, ne-eqb, ltb-true, ltb-fals
 use Rattle.le.proofs.Parts.{by-test}
 use Rattle.config.specs.declared.negotiated.RxPolicy.{RxPolicy}
 use Rattle.config.specs.Negotiated.{creditOf}
+use Rattle.config.proofs.Laws.{and-true}
 use Rattle.slot.specs.declared.ChannelSlot.{ChannelSlot}
 use Rattle.slot.specs.Slot.{emptySlot}
 use Rattle.slot.proofs.Kept.{pick}
@@ -31,11 +32,12 @@ use Rattle.connection.specs.Frames.{Frame}
 use Rattle.history.specs.Run.{Call, openCall, dispatchCall, settleCall, takeCall, readCall, writeCall, closeCall, frontTaken, bytesIn, Sent, Seen}
 use Rattle.history.specs.Book.{headerAt, newBook, Book, noBook, Mark, noMark, Ledger, isOn, isEarly, isRefused, handedB, ackedB, settleB, readB, writeB, packetB, acksOf, lastOpen, entryOn, openedB, fillB, fillM, marks, entry}
 use Rattle.history.specs.Demand3.{runOf}
+use Rattle.history.specs.NoLeak.{NoTake}
 use Rattle.history.proofs.Acts.{acksIn, good-by}
 use Rattle.history.proofs.Asks.{Asks, dispatch-asks, settle-asks, take-asks, read-asks, write-asks, close-asks, front-asks, open-asks}
 use Rattle.history.proofs.Entries.{On, on, dispatch-good, settle-call, take-call, read-call, write-call, close-this, close-else, front-call}
 use Rattle.history.proofs.Marks.{tame-marks, dispatch-tame, settle-tame, take-tame, read-tame, write-tame, front-tame}
-use Rattle.history.proofs.Good.{Good, Limits, Leaves, new-good, acked-none, handed-none}
+use Rattle.history.proofs.Good.{Terms, Good, Limits, Leaves, new-good, acked-none, handed-none}
 use Rattle.history.proofs.Heard.{openIn}
 use Rattle.history.proofs.Packets.{isOpened, markOf, mark-at, reads-arg0}
 use Rattle.history.proofs.Places.{slotsBy, slot-set-same, slot-set-other, TableOk}
@@ -64,24 +66,24 @@ unfolding runOf part
 run-none rx cap i s e = ap (λ (n : ℕ). take n (drop (s .head) (shareOf rx cap i))) e
 
 -- what is kept of one place, between calls
-pub record Kept (p : RxPolicy) (credit i : ℕ) (on : Bool) (ss : List ChannelSlot) (rx : List ℕ) (x : Ledger) : Type 0 where
+pub record Kept (p : RxPolicy) (credit : Terms) (i : ℕ) (on : Bool) (ss : List ChannelSlot) (rx : List ℕ) (x : Ledger) : Type 0 where
   pub marked : x .dir ≡ map markOf ss
-  pub asks : on ≡ true → p .delayed ≡ true → x .asked ≡ credit
+  pub asks : on ≡ true → p .delayed ≡ true → x .asked ≡ credit .credit
   pub full : slotIn ss i .filled ≡ true → Good p credit (slotIn ss i) (runOf rx (p .«rx_cap») i (slotIn ss i)) (x .book)
   pub none : slotIn ss i .filled ≡ false → x .book .there ≡ false
 
 -- the same after an outcome
-abbrev pub KeptBy : RxPolicy → ℕ → ℕ → Connection → Outcome → Ledger → Type 0
+abbrev pub KeptBy : RxPolicy → Terms → ℕ → Connection → Outcome → Ledger → Type 0
 KeptBy p credit i c x y = Kept p credit i (changedAll c (x .changes) .header .waiting .on) (slotsBy (c .slots) (x .changes)) (x .rx) y
 
-module _ (p : RxPolicy) (credit i : ℕ) (c : Connection) (rx : List ℕ) (y : Ledger) (k : Kept p credit i (c .header .waiting .on) (c .slots) rx y) where
+module _ (p : RxPolicy) (credit : Terms) (i : ℕ) (c : Connection) (rx : List ℕ) (y : Ledger) (k : Kept p credit i (c .header .waiting .on) (c .slots) rx y) where
   abbrev ss : List ChannelSlot
   ss = c .slots
 
   -- a call that fills and empties no slot, and leaves no open waiting that it did not find
   pub plain-kept : (call : Call) (x : Outcome) (fs : List Sent) → marks call (x .answer) (map markOf ss) ≡ map markOf ss → map markOf (slotsBy ss (x .changes)) ≡ map markOf ss
       → ((b : Book) → openedB i (y .asked) call (x .answer) b ≡ b)
-      → (changedAll c (x .changes) .header .waiting .on ≡ true → p .delayed ≡ true → lastOpen fs (y .asked) ≡ credit)
+      → (changedAll c (x .changes) .header .waiting .on ≡ true → p .delayed ≡ true → lastOpen fs (y .asked) ≡ credit .credit)
       → ((b : Book) → Good p credit (slotIn ss i) (runOf rx (p .«rx_cap») i (slotIn ss i)) b → slotIn ss i .filled ≡ true → Fine p credit ss i x (entryOn p (map markOf ss) i call (seenOf x fs) b))
       → KeptBy p credit i c x (entry p i call (seenOf x fs) y)
   unfolding entry
@@ -150,16 +152,16 @@ module _ (p : RxPolicy) (credit i : ℕ) (c : Connection) (rx : List ℕ) (y : L
 
 -- ---- each call, once it is not refused by 8, 9 or 13
 
-module _ (l : Lent) (ok : TableOk (policy l) (l .state .header .negotiated .config .channels) (l .state .slots) (l .rx))
-    (lim : Limits (policy l) (creditOf (l .state .header .negotiated)) (l .state .header .negotiated .config .«max_payload»))
+module _ (reads : Bool) (l : Lent) (ok : TableOk (policy l) (l .state .header .negotiated .config .channels) (l .state .slots) (l .rx))
+    (lim : Limits (policy l) (record { credit = creditOf (l .state .header .negotiated); reads = reads }) (l .state .header .negotiated .config .«max_payload»))
     (apart : l .state .header .waiting .on ≡ true → slotIn (l .state .slots) (l .state .header .waiting .slot) .filled ≡ false)
     (placed : l .state .header .waiting .on ≡ true → l .state .header .waiting .slot < 64)
-    (i : ℕ) (y : Ledger) (k : Kept (policy l) (creditOf (l .state .header .negotiated)) i (l .state .header .waiting .on) (l .state .slots) (l .rx) y) where
+    (i : ℕ) (y : Ledger) (k : Kept (policy l) (record { credit = creditOf (l .state .header .negotiated); reads = reads }) i (l .state .header .waiting .on) (l .state .slots) (l .rx) y) where
   abbrev p : RxPolicy
   p = policy l
 
-  abbrev credit : ℕ
-  credit = creditOf (l .state .header .negotiated)
+  abbrev credit : Terms
+  credit = record { credit = creditOf (l .state .header .negotiated); reads = reads }
 
   abbrev ws : List ChannelSlot
   ws = l .state .slots
@@ -172,8 +174,8 @@ module _ (l : Lent) (ok : TableOk (policy l) (l .state .header .negotiated .conf
   abbrev pub Follows : Call → Outcome → Type 0
   Follows call x = (fs : List Sent) → Hears x fs → KeptBy p credit i (l .state) x (entry p i call (seenOf x fs) y)
 
-  asked : (x : Outcome) (fs : List Sent) → Hears x fs → Asks l (y .asked) credit (k .asks) x
-      → changedAll (l .state) (x .changes) .header .waiting .on ≡ true → p .delayed ≡ true → lastOpen fs (y .asked) ≡ credit
+  asked : (x : Outcome) (fs : List Sent) → Hears x fs → Asks l (y .asked) (credit .credit) (k .asks) x
+      → changedAll (l .state) (x .changes) .header .waiting .on ≡ true → p .delayed ≡ true → lastOpen fs (y .asked) ≡ credit .credit
   asked x fs hs a t d = hs .opens (y .asked) ∙ a t d
 
   pub early-follows : (call : Call) (r : Refusal) → isEarly (Refused r) ≡ true → Follows call (untouched l r)
@@ -184,7 +186,7 @@ module _ (l : Lent) (ok : TableOk (policy l) (l .state .header .negotiated .conf
   dispatch-follows out received fs hs =
       let x = dispatchStep l (bytesIn received) in
       plain-kept p credit i (l .state) (l .rx) y k (dispatchCall out received) x fs refl (tame-marks ws (x .changes) (dispatch-tame l ok (bytesIn received))) (λ b. refl)
-      (asked x fs hs (dispatch-asks l (y .asked) credit (k .asks) (bytesIn received)))
+      (asked x fs hs (dispatch-asks l (y .asked) (credit .credit) (k .asks) (bytesIn received)))
       (λ b g f. dispatch-good l credit ok lim i f b g (bytesIn received) fs (hs .acks (b .local)))
 
   pub settle-follows : (out : List ℕ) (ch : ChannelId) (want : ℕ) → Follows (settleCall out ch want) (settleStep l ch want)
@@ -192,23 +194,23 @@ module _ (l : Lent) (ok : TableOk (policy l) (l .state .header .negotiated .conf
   settle-follows out ch want fs hs =
       let x = settleStep l ch want in
       plain-kept p credit i (l .state) (l .rx) y k (settleCall out ch want) x fs refl (tame-marks ws (x .changes) (settle-tame l ok ch want)) (λ b. refl)
-      (asked x fs hs (settle-asks l (y .asked) credit (k .asks) ch want))
+      (asked x fs hs (settle-asks l (y .asked) (credit .credit) (k .asks) ch want))
       (λ b g f. settle-call l credit ok lim i f b g ch want fs (hs .acks (b .local)))
 
-  pub take-follows : (ch : ChannelId) (buf : List ℕ) → Follows (takeCall ch buf) (takeStep l ch (length buf))
+  pub take-follows : (ch : ChannelId) (buf : List ℕ) → (reads ≡ true → NoTake i (takeCall ch buf)) → Follows (takeCall ch buf) (takeStep l ch (length buf))
   unfolding marks openedB entryOn
-  take-follows ch buf fs hs =
+  take-follows ch buf only fs hs =
       let x = takeStep l ch (length buf) in
       plain-kept p credit i (l .state) (l .rx) y k (takeCall ch buf) x fs refl (tame-marks ws (x .changes) (take-tame l ok ch (length buf))) (λ b. refl)
-      (asked x fs hs (take-asks l (y .asked) credit (k .asks) ch (length buf)))
-      (λ b g f. take-call l credit ok lim i f b g (length buf) ch)
+      (asked x fs hs (take-asks l (y .asked) (credit .credit) (k .asks) ch (length buf)))
+      (λ b g f. take-call l credit ok lim i f b g (length buf) ch (λ o t. only t (eqb-true (ch .slot) i (and-true (eqb (ch .slot) i) (eqb (b .local) (ch .local .0)) o .0))))
 
   pub read-follows : (out : List ℕ) (ch : ChannelId) (buf received : List ℕ) → Follows (readCall out ch buf received) (readStep l ch (length buf) (bytesIn received))
   unfolding marks openedB entryOn
   read-follows out ch buf received fs hs =
       let x = readStep l ch (length buf) (bytesIn received) in
       plain-kept p credit i (l .state) (l .rx) y k (readCall out ch buf received) x fs refl (tame-marks ws (x .changes) (read-tame l ok ch (length buf) (bytesIn received))) (λ b. refl)
-      (asked x fs hs (read-asks l (y .asked) credit (k .asks) ch (length buf) (bytesIn received)))
+      (asked x fs hs (read-asks l (y .asked) (credit .credit) (k .asks) ch (length buf) (bytesIn received)))
       (λ b g f. read-call l credit ok lim i f b g (length buf) (bytesIn received) fs ch (hs .acks (b .local)))
 
   pub write-follows : (out : List ℕ) (ch : ChannelId) (bytes received : List ℕ) → Follows (writeCall out ch bytes received) (writeStep l ch (length out) (bytesIn bytes) (bytesIn received))
@@ -216,7 +218,7 @@ module _ (l : Lent) (ok : TableOk (policy l) (l .state .header .negotiated .conf
   write-follows out ch bytes received fs hs =
       let x = writeStep l ch (length out) (bytesIn bytes) (bytesIn received) in
       plain-kept p credit i (l .state) (l .rx) y k (writeCall out ch bytes received) x fs refl (tame-marks ws (x .changes) (write-tame l ok ch (length out) (bytesIn bytes) (bytesIn received))) (λ b. refl)
-      (asked x fs hs (write-asks l (y .asked) credit (k .asks) ch (length out) (bytesIn bytes) (bytesIn received)))
+      (asked x fs hs (write-asks l (y .asked) (credit .credit) (k .asks) ch (length out) (bytesIn bytes) (bytesIn received)))
       (λ b g f. write-call l credit ok lim i f b g ch (length out) (bytesIn bytes) (bytesIn received) fs (hs .acks (b .local)))
 
   pub front-follows : Follows frontTaken (frontStep l)
@@ -224,7 +226,7 @@ module _ (l : Lent) (ok : TableOk (policy l) (l .state .header .negotiated .conf
   front-follows fs hs =
       let x = frontStep l in
       plain-kept p credit i (l .state) (l .rx) y k frontTaken x fs refl (tame-marks ws (x .changes) (front-tame l ok)) (λ b. refl)
-      (asked x fs hs (front-asks l (y .asked) credit (k .asks)))
+      (asked x fs hs (front-asks l (y .asked) (credit .credit) (k .asks)))
       (λ b g f. front-call l credit ok lim i f b g)
 
   -- ---- close
@@ -255,7 +257,7 @@ module _ (l : Lent) (ok : TableOk (policy l) (l .state .header .negotiated .conf
       let entered : Book → Book = λ b. cond (isOn i b ch && not (isRefused (x .answer))) noBook b in
       record {
         marked = ap (λ (d : List Mark). cond (isRefused (x .answer)) d (set d (ch .slot) noMark)) (k .marked) ∙ sym (close-marks ch);
-        asks = asked x fs hs (close-asks l (y .asked) credit (k .asks) ch);
+        asks = asked x fs hs (close-asks l (y .asked) (credit .credit) (k .asks) ch);
         full = λ f.
             by-test (slotIn ws i .filled)
             (λ f0. let g = k .full f0 in
@@ -341,7 +343,7 @@ module _ (l : Lent) (ok : TableOk (policy l) (l .state .header .negotiated .conf
 
     -- by what the open did
     open-by : (x : Outcome) → Opens l (bytesIn received) x
-        → (changedAll (l .state) (x .changes) .header .waiting .on ≡ true → p .delayed ≡ true → lastOpen fs (y .asked) ≡ credit)
+        → (changedAll (l .state) (x .changes) .header .waiting .on ≡ true → p .delayed ≡ true → lastOpen fs (y .asked) ≡ credit .credit)
         → ((b : Book) → Good p credit (slotIn ws i) (runOf (l .rx) (p .«rx_cap») i (slotIn ws i)) b → slotIn ws i .filled ≡ true → Fine p credit ws i x (entryOn p (map markOf ws) i openE (seenOf x fs) b))
         → KeptBy p credit i (l .state) x (entry p i openE (seenOf x fs) y)
     unfolding entry marks openedB
@@ -388,4 +390,4 @@ module _ (l : Lent) (ok : TableOk (policy l) (l .state .header .negotiated .conf
     pub open-follows : Hears opening fs → KeptBy p credit i (l .state) opening (entry p i openE (seenOf opening fs) y)
     open-follows hs =
         open-by opening (opens l ok (bytesIn received) (length out) (bytesIn destination))
-        (asked opening fs hs (open-asks l (y .asked) credit (k .asks) (length out) (bytesIn destination) (bytesIn received) refl)) (open-book hs)
+        (asked opening fs hs (open-asks l (y .asked) (credit .credit) (k .asks) (length out) (bytesIn destination) (bytesIn received) refl)) (open-book hs)

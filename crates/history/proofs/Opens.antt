@@ -46,7 +46,7 @@ use Rattle.history.specs.Run.{Sent, Seen}
 use Rattle.history.specs.Book.{Book, Mark, hasRemote, overB, sentB, wrteB, acksB, acksOf, packetB, frameB, headerAt, isWrte, isClse, isRefused, endsOpen}
 use Rattle.history.specs.Demand3.{runOf}
 use Rattle.history.proofs.Acts.{acksIn, mineOf, acted-acks, good-by, frame-none, close-fault}
-use Rattle.history.proofs.Good.{Good, Limits, Leaves, sent-good, quiet-good, acked-none}
+use Rattle.history.proofs.Good.{Terms, Good, Limits, Leaves, sent-good, quiet-good, acked-none}
 use Rattle.history.proofs.Marks.{Tame, tame-ends, tame-act}
 use Rattle.history.proofs.Packets.{isOpened, Stops, Got, stopped, packet, got, markOf, reads-write, reads-close, reads-arg1, reads-payload, write-no-close, ready-no-write}
 use Rattle.history.proofs.Places.{slotsBy, slot-set-other, TableOk}
@@ -56,7 +56,7 @@ and-false : (x : Bool) → (x && false) ≡ false
 and-false true = refl
 and-false false = refl
 
-module _ (l : Lent) (credit : ℕ) (ok : TableOk (policy l) (l .state .header .negotiated .config .channels) (l .state .slots) (l .rx))
+module _ (l : Lent) (credit : Terms) (ok : TableOk (policy l) (l .state .header .negotiated .config .channels) (l .state .slots) (l .rx))
     (lim : Limits (policy l) credit (l .state .header .negotiated .config .«max_payload»)) (i : ℕ) (there : slotIn (l .state .slots) i .filled ≡ true)
     (b : Book) (g : Good (policy l) credit (slotIn (l .state .slots) i) (runOf (l .rx) (policy l .«rx_cap») i (slotIn (l .state .slots) i)) b)
     (received : List ℕ) (fs : List Sent) where

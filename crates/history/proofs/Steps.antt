@@ -43,7 +43,7 @@ use Rattle.history.specs.Run.{Sent, Seen}
 use Rattle.history.specs.Book.{Book, Mark, sentB, ackedB, handedB, settleB, isRefused, isEarly, isWrte, headerAt, payloadAt, damagedB, frameB, packetB, acksOf, acksB, closesB}
 use Rattle.history.specs.Demand3.{runOf}
 use Rattle.history.proofs.Acts.{acksIn, acks-append, mineOf, endsOf, acted-acks, acted-at, Tells, good-by, at-good}
-use Rattle.history.proofs.Good.{Good, Limits, Settles, already, not-due, due, settles, sent-good, acked-none}
+use Rattle.history.proofs.Good.{Terms, Good, Limits, Settles, already, not-due, due, settles, sent-good, acked-none}
 use Rattle.history.proofs.Packets.{Stops, markOf, reads-write, reads-arg1, reads-payload, body-small, closes-agree}
 use Rattle.history.proofs.Places.{slotsBy, slots-append, slot-set-same, slot-set-other, SameRun, TableOk}
 
@@ -141,7 +141,7 @@ table-set p n ss rx j t ok there a sound =
 
 -- ---- a packet, or none, to a call that is on no channel or on another
 
-module _ (p : RxPolicy) (credit most : ℕ) (lim : Limits p credit most) (s : ChannelSlot) (q : List ℕ) (b : Book) (g : Good p credit s q b)
+module _ (p : RxPolicy) (credit : Terms) (most : ℕ) (lim : Limits p credit most) (s : ChannelSlot) (q : List ℕ) (b : Book) (g : Good p credit s q b)
     (d : List Mark) (i : ℕ) (received : List ℕ) (mine : Message → Bool) where
   -- a frame refused by 4
   pub damaged-good : (before : ℕ) (m : Message) (bs : List ℕ) → Good p credit s q (damagedB before m bs b)
@@ -227,11 +227,11 @@ four-error (Fault UnexpectedCommand) = refl
 -- ---- the place of one channel in a call
 
 -- the slot at place i after an outcome, beside a book
-abbrev pub Fine : RxPolicy → ℕ → List ChannelSlot → ℕ → Outcome → Book → Type 0
+abbrev pub Fine : RxPolicy → Terms → List ChannelSlot → ℕ → Outcome → Book → Type 0
 Fine p credit ss i x b = Good p credit (slotIn (slotsBy ss (x .changes)) i) (runOf (x .rx) (p .«rx_cap») i (slotIn (slotsBy ss (x .changes)) i)) b
 
 -- what a call's end leaves of the slots: the header is no slot
-pub ends-fine : (p : RxPolicy) (credit : ℕ) (ss : List ChannelSlot) (i : ℕ) (w : Work) (a : Answer) (used : ℕ) (handed : List ℕ) (b : Book)
+pub ends-fine : (p : RxPolicy) (credit : Terms) (ss : List ChannelSlot) (i : ℕ) (w : Work) (a : Answer) (used : ℕ) (handed : List ℕ) (b : Book)
     → Good p credit (slotIn (slotsBy ss (w .changes)) i) (runOf (w .rx) (p .«rx_cap») i (slotIn (slotsBy ss (w .changes)) i)) b → Fine p credit ss i (ends w a used handed) b
 unfolding ends
 ends-fine p credit ss i w a used handed b g =
@@ -240,7 +240,7 @@ ends-fine p credit ss i w a used handed b g =
 
 -- a packet that is dispatched: the slot at place i, and its book
 module _ (h : Header) (ss : List ChannelSlot) (opens : List PendingOpen) (rx store : List ℕ) (ok : TableOk (policyOf (h .negotiated)) (h .negotiated .config .channels) ss rx)
-    (credit : ℕ) (lim : Limits (policyOf (h .negotiated)) credit (h .negotiated .config .«max_payload»)) (i : ℕ) (there : slotIn ss i .filled ≡ true)
+    (credit : Terms) (lim : Limits (policyOf (h .negotiated)) credit (h .negotiated .config .«max_payload»)) (i : ℕ) (there : slotIn ss i .filled ≡ true)
     (b : Book) (g : Good (policyOf (h .negotiated)) credit (slotIn ss i) (runOf rx (policyOf (h .negotiated) .«rx_cap») i (slotIn ss i)) b) where
   pub acted-good : (d : List Mark) → d ≡ map markOf ss → (received : List ℕ) (k : Packet) → Says received (h .negotiated .config .«max_payload») k → (before : ℕ) → before ≤ b .acked → (a : Answer)
       → Tells (mineOf ss i k) (actOn h ss opens rx store k (bodyOf received k) .fault) a
