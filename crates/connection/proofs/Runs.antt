@@ -123,6 +123,10 @@ delayedSteps =
     ∷ step takesFront 0 0 9 6 [] (98 ∷ 99 ∷ [])
     ∷ step (opens (98 ∷ []) []) 100 0 0 0 (OPEN 2 1 (98 ∷ [])) []
     ∷ step (opens [] (WRTE 8 2 (1 ∷ []))) 6 25 0 0 (CLSE 2 8 []) []
+    ∷ step (opens (98 ∷ []) []) 100 0 0 0 (OPEN 3 1 (98 ∷ [])) []
+    ∷ step (opens [] (OKAY 8 3 (5 ∷ 0 ∷ 0 ∷ 0 ∷ []))) 0 28 1 3 [] []
+    ∷ quiet (dispatches (WRTE 8 3 (21 ∷ 22 ∷ []))) 0 26
+    ∷ step (reads 1 3 9 []) 0 0 2 0 (OKAY 3 8 (2 ∷ 0 ∷ 0 ∷ 0 ∷ [])) (21 ∷ 22 ∷ [])
     ∷ []
 
 -- 1 channel, cap 4
@@ -154,6 +158,7 @@ classicSteps =
     ∷ step (reads 0 2 4 (CLSE 7 0 [])) 0 0 2 0 (OKAY 2 7 []) (2 ∷ 3 ∷ [])
     ∷ quiet (reads 0 2 4 (CLSE 7 2 [])) 10 24
     ∷ step (closes 0 2) 0 0 0 0 (CLSE 2 7 []) []
+    ∷ quiet (closes 0 2) 10 0
     ∷ []
 
 pub agrees : given (start delayed) delayedSteps ++ given (start classic) classicSteps ≡ map (λ (s : Step). s .said) (delayedSteps ++ classicSteps)
