@@ -648,13 +648,10 @@ impl ChannelSlot {
         if self.settled > cap {
             return false;
         }
-        if self.buffered - self.settled > cap {
+        if self.buffered > cap + self.settled {
             return false;
         }
-        if self.head > 2 * cap {
-            return false;
-        }
-        if self.buffered > 2 * cap - self.head {
+        if self.head > 2 * cap - self.buffered {
             return false;
         }
         true
