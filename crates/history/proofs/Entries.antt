@@ -1273,171 +1273,171 @@ module _ (l : Lent) (credit : Terms) (ok : TableOk (policy l) (l .state .header 
     -- ---- write, on another channel
 
     module _ (away : i ≡ ch .slot → ⊥) (in-table : isThere l ch ≡ true) (fill : slotIn ss (ch .slot) .filled ≡ true) (ne : slotIn ss (ch .slot) .local .0 ≡ b .local → ⊥) (o : isOn i b ch ≡ false) where
-      abbrev jj : ℕ
-      jj = ch .slot
+      abbrev j-else : ℕ
+      j-else = ch .slot
 
-      abbrev s9 : ChannelSlot
-      s9 = slotIn ss jj
+      abbrev s-else : ChannelSlot
+      s-else = slotIn ss j-else
 
-      abbrev w9 : Work
-      w9 = begun (dropped (l .state .header)) l
+      abbrev w-else : Work
+      w-else = begun (dropped (l .state .header)) l
 
       else-book : (a : Answer) (used : ℕ) (bs : List ℕ) → entered a used bs ≡ packetB dirW i received (endsOther dirW ch) (record { answer = a; used = used; sent = fs; got = bs }) b
       else-book a used bs = cond-false (isOn i b ch) _ _ o
 
       -- a slot stored at the other place
-      else-left : (t : ChannelSlot) (f : List Frame) (a : Answer) (used : ℕ) → Good p credit (slotIn ss i) (runOf (l .rx) (p .«rx_cap») i (slotIn ss i)) (entered a used []) → Left (then w9 (slotTo jj t ∷ []) f) a used
-      else-left t f a used x = good-other jj t (l .rx) _ away x
+      else-left : (t : ChannelSlot) (f : List Frame) (a : Answer) (used : ℕ) → Good p credit (slotIn ss i) (runOf (l .rx) (p .«rx_cap») i (slotIn ss i)) (entered a used []) → Left (then w-else (slotTo j-else t ∷ []) f) a used
+      else-left t f a used x = good-other j-else t (l .rx) _ away x
 
-      none9 : (a : Answer) → Good p credit (slotIn ss i) (runOf (l .rx) (p .«rx_cap») i (slotIn ss i)) (entered a 0 [])
-      none9 a = good-by p credit _ _ _ _ _ _ refl refl (entered-none a []) g
+      none-else : (a : Answer) → Good p credit (slotIn ss i) (runOf (l .rx) (p .«rx_cap») i (slotIn ss i)) (entered a 0 [])
+      none-else a = good-by p credit _ _ _ _ _ _ refl refl (entered-none a []) g
 
-      stop9 : (a : Answer) (used : ℕ) → Stops a used → write-fine (ends w9 a used [])
-      stop9 a used st =
-          write-ends w9 a used refl (good-by p credit _ _ _ _ _ _ refl refl (else-book a used []) (stop-good p credit _ lim _ _ b g dirW i received (endsOther dirW ch) a used fs [] st))
+      stop-else : (a : Answer) (used : ℕ) → Stops a used → write-fine (ends w-else a used [])
+      stop-else a used st =
+          write-ends w-else a used refl (good-by p credit _ _ _ _ _ _ refl refl (else-book a used []) (stop-good p credit _ lim _ _ b g dirW i received (endsOther dirW ch) a used fs [] st))
 
-      module _ (open9 : isClosed (s9 .state) ≡ false) (k : Packet) (sy : Says received (l .state .header .negotiated .config .«max_payload») k) where
-        abbrev lim9 : ℕ
-        lim9 = l .state .header .negotiated .config .«max_payload»
+      module _ (open-else : isClosed (s-else .state) ≡ false) (k : Packet) (sy : Says received (l .state .header .negotiated .config .«max_payload») k) where
+        abbrev lim-else : ℕ
+        lim-else = l .state .header .negotiated .config .«max_payload»
 
-        abbrev m9 : Message
-        m9 = headerAt received
+        abbrev m-else : Message
+        m-else = headerAt received
 
-        abbrev body9 : List ℕ
-        body9 = bodyOf received k
+        abbrev body-else : List ℕ
+        body-else = bodyOf received k
 
-        test9 : endsOther dirW ch m9 ≡ closedBy (idsIn s9) k
-        test9 =
-            reads-end received lim9 k sy (ch .local .0) _ (idsIn s9) (sym (there-local ch in-table))
-            (ap (λ (x : Mark). x .remote) (mark-at ss jj ∙ cond-true (slotIn ss jj .filled) _ _ fill))
+        test-else : endsOther dirW ch m-else ≡ closedBy (idsIn s-else) k
+        test-else =
+            reads-end received lim-else k sy (ch .local .0) _ (idsIn s-else) (sym (there-local ch in-table))
+            (ap (λ (x : Mark). x .remote) (mark-at ss j-else ∙ cond-true (slotIn ss j-else .filled) _ _ fill))
 
         -- it ended the other channel's write
-        end9 : closedBy (idsIn s9) k ≡ true → write-fine (ends (then w9 (slotTo jj (closedSlot s9) ∷ []) []) (Refused ChannelClosed) (frameLen k) [])
+        end-else : closedBy (idsIn s-else) k ≡ true → write-fine (ends (then w-else (slotTo j-else (closedSlot s-else) ∷ []) []) (Refused ChannelClosed) (frameLen k) [])
         unfolding packetB numberOf refusalNumber
-        end9 u =
-            write-ends (then w9 (slotTo jj (closedSlot s9) ∷ []) []) (Refused ChannelClosed) (frameLen k) refl
-            (else-left (closedSlot s9) [] (Refused ChannelClosed) (frameLen k)
+        end-else u =
+            write-ends (then w-else (slotTo j-else (closedSlot s-else) ∷ []) []) (Refused ChannelClosed) (frameLen k) refl
+            (else-left (closedSlot s-else) [] (Refused ChannelClosed) (frameLen k)
             (good-by p credit _ _ _ _ b _ refl refl
-            (else-book (Refused ChannelClosed) (frameLen k) [] ∙ cond-false (eqb (frameLen k) 0) _ _ (ne-eqb (frameLen k) 0 (λ x. omega arith)) ∙ cond-true (endsOther dirW ch m9) _ _ (test9 ∙ u)) g))
+            (else-book (Refused ChannelClosed) (frameLen k) [] ∙ cond-false (eqb (frameLen k) 0) _ _ (ne-eqb (frameLen k) 0 (λ x. omega arith)) ∙ cond-true (endsOther dirW ch m-else) _ _ (test-else ∙ u)) g))
 
         -- the other channel's OKAY
         module _ (rd : isReady (k .command) ≡ true) where
-          ready9 : (a : Answer) → eqb (numberOf a) 4 ≡ false → Good p credit (slotIn ss i) (runOf (l .rx) (p .«rx_cap») i (slotIn ss i)) (entered a (frameLen k) [])
+          ready-else : (a : Answer) → eqb (numberOf a) 4 ≡ false → Good p credit (slotIn ss i) (runOf (l .rx) (p .«rx_cap») i (slotIn ss i)) (entered a (frameLen k) [])
           unfolding closedBy
-          ready9 a four =
+          ready-else a four =
               let rw2 = ready-no-write (k .command) rd in
               good-by p credit _ _ _ _ _ _ refl refl (else-book a (frameLen k) [])
-              (packet-good p credit _ lim _ _ b g dirW i received (endsOther dirW ch) lim9 k a fs [] _ _ sy four (test9 ∙ cond-false (isClose (k .command)) _ false (rw2 .1))
+              (packet-good p credit _ lim _ _ b g dirW i received (endsOther dirW ch) lim-else k a fs [] _ _ sy four (test-else ∙ cond-false (isClose (k .command)) _ false (rw2 .1))
               (good-by p credit _ _ _ _ b _ refl refl
-              (frame-none dirW i (b .acked) m9 body9 a b
-              (ap (λ (x : Bool). x && eqb (m9 .arg1) (b .local)) (reads-write received lim9 k sy ∙ rw2 .0))
-              (ap (λ (x : Bool). x && cond (eqb (m9 .arg1) 0) (not (eqb (m9 .arg0) 0) && (eqb (first (hasRemote (m9 .arg0)) dirW) i)) (eqb (m9 .arg1) (b .local))) (reads-close received lim9 k sy ∙ rw2 .1))) g))
+              (frame-none dirW i (b .acked) m-else body-else a b
+              (ap (λ (x : Bool). x && eqb (m-else .arg1) (b .local)) (reads-write received lim-else k sy ∙ rw2 .0))
+              (ap (λ (x : Bool). x && cond (eqb (m-else .arg1) 0) (not (eqb (m-else .arg0) 0) && (eqb (first (hasRemote (m-else .arg0)) dirW) i)) (eqb (m-else .arg1) (b .local))) (reads-close received lim-else k sy ∙ rw2 .1))) g))
 
-          readied9 : (r : Readied) → write-fine (writeReadied l ch out bytes (frameLen k) w9 s9 r)
+          readied-else : (r : Readied) → write-fine (writeReadied l ch out bytes (frameLen k) w-else s-else r)
           unfolding writeReadied numberOf refusalNumber
-          readied9 (Slot t) =
-              turn-fine (frameLen k) w9 t refl
-              (λ n. else-left (spentOf t p n) (writeFrame (idsIn t) (take n bytes) ∷ []) (Written n) (frameLen k) (ready9 (Written n) refl))
-              (else-left t [] Waiting (frameLen k) (ready9 Waiting refl))
-              (λ c. else-left t [] (Refused ChannelClosed) (frameLen k) (ready9 (Refused ChannelClosed) refl))
-          readied9 Short = write-ends w9 (Refused ReadyShort) (frameLen k) refl (ready9 (Refused ReadyShort) refl)
+          readied-else (Slot t) =
+              turn-fine (frameLen k) w-else t refl
+              (λ n. else-left (spentOf t p n) (writeFrame (idsIn t) (take n bytes) ∷ []) (Written n) (frameLen k) (ready-else (Written n) refl))
+              (else-left t [] Waiting (frameLen k) (ready-else Waiting refl))
+              (λ c. else-left t [] (Refused ChannelClosed) (frameLen k) (ready-else (Refused ChannelClosed) refl))
+          readied-else Short = write-ends w-else (Refused ReadyShort) (frameLen k) refl (ready-else (Refused ReadyShort) refl)
 
         -- any other packet
-        module _ (u : closedBy (idsIn s9) k ≡ false) where
-          abbrev act9 : Acted
-          act9 = actOn (dropped (l .state .header)) ss (l .state .opens) (l .rx) (l .store) k body9
+        module _ (u : closedBy (idsIn s-else) k ≡ false) where
+          abbrev act-else : Acted
+          act-else = actOn (dropped (l .state .header)) ss (l .state .opens) (l .rx) (l .store) k body-else
 
-          abbrev ts9 : List ChannelSlot
-          ts9 = slotsBy ss (act9 .changes)
+          abbrev ts-else : List ChannelSlot
+          ts-else = slotsBy ss (act-else .changes)
 
-          at9 : At p s9 (runOf (l .rx) (p .«rx_cap») jj s9) body9 (mineOf ss jj k) (endsOf (l .state .header .negotiated .config .channels) ss jj k) (slotIn ts9 jj) (runOf (act9 .rx) (p .«rx_cap») jj (slotIn ts9 jj)) (act9 .fault)
-          at9 = acted-at (dropped (l .state .header)) ss (l .state .opens) (l .rx) (l .store) k body9 ok jj fill
+          at-else : At p s-else (runOf (l .rx) (p .«rx_cap») j-else s-else) body-else (mineOf ss j-else k) (endsOf (l .state .header .negotiated .config .channels) ss j-else k) (slotIn ts-else j-else) (runOf (act-else .rx) (p .«rx_cap») j-else (slotIn ts-else j-else)) (act-else .fault)
+          at-else = acted-at (dropped (l .state .header)) ss (l .state .opens) (l .rx) (l .store) k body-else ok j-else fill
 
-          quiet9 : acksIn p (b .local) (thenActed w9 act9 .frames) ≡ 0
-          quiet9 = acted-acks (dropped (l .state .header)) ss (l .state .opens) (l .rx) (l .store) k body9 (b .local)
+          quiet-else : acksIn p (b .local) (thenActed w-else act-else .frames) ≡ 0
+          quiet-else = acted-acks (dropped (l .state .header)) ss (l .state .opens) (l .rx) (l .store) k body-else (b .local)
 
-          good9 : (a : Answer) → eqb (numberOf a) 4 ≡ false → Tells (mineOf ss i k) (act9 .fault) a → Good p credit (slotIn ts9 i) (runOf (act9 .rx) (p .«rx_cap») i (slotIn ts9 i)) (entered a (frameLen k) [])
-          good9 a four tells =
+          good-else : (a : Answer) → eqb (numberOf a) 4 ≡ false → Tells (mineOf ss i k) (act-else .fault) a → Good p credit (slotIn ts-else i) (runOf (act-else .rx) (p .«rx_cap») i (slotIn ts-else i)) (entered a (frameLen k) [])
+          good-else a four tells =
               good-by p credit _ _ _ _ _ _ refl refl (else-book a (frameLen k) [])
-              (packet-good p credit _ lim _ _ b g dirW i received (endsOther dirW ch) lim9 k a fs [] _ _ sy four (test9 ∙ u)
+              (packet-good p credit _ lim _ _ b g dirW i received (endsOther dirW ch) lim-else k a fs [] _ _ sy four (test-else ∙ u)
               (acted-good (dropped (l .state .header)) ss (l .state .opens) (l .rx) (l .store) ok credit lim i there b g dirW refl received k sy (b .acked) (omega arith) a tells))
 
-          left9 : (t : ChannelSlot) (f : List Frame) (a : Answer) → Good p credit (slotIn ts9 i) (runOf (act9 .rx) (p .«rx_cap») i (slotIn ts9 i)) (entered a (frameLen k) []) → Left (then (thenActed w9 act9) (slotTo jj t ∷ []) f) a (frameLen k)
-          left9 t f a x =
-              let e : slotIn (slotsBy ss (act9 .changes ++ slotTo jj t ∷ [])) i ≡ slotIn ts9 i = ap (λ (y : List ChannelSlot). slotIn y i) (slots-append ss (act9 .changes) (slotTo jj t ∷ [])) ∙ slot-set-other ts9 jj i t away in
-              good-by p credit _ _ _ _ _ _ e (ap (runOf (act9 .rx) (p .«rx_cap») i) e) refl x
+          left-else : (t : ChannelSlot) (f : List Frame) (a : Answer) → Good p credit (slotIn ts-else i) (runOf (act-else .rx) (p .«rx_cap») i (slotIn ts-else i)) (entered a (frameLen k) []) → Left (then (thenActed w-else act-else) (slotTo j-else t ∷ []) f) a (frameLen k)
+          left-else t f a x =
+              let e : slotIn (slotsBy ss (act-else .changes ++ slotTo j-else t ∷ [])) i ≡ slotIn ts-else i = ap (λ (y : List ChannelSlot). slotIn y i) (slots-append ss (act-else .changes) (slotTo j-else t ∷ [])) ∙ slot-set-other ts-else j-else i t away in
+              good-by p credit _ _ _ _ _ _ e (ap (runOf (act-else .rx) (p .«rx_cap») i) e) refl x
 
-          no9 : (a : Answer) → act9 .fault ≡ No → isRefused a ≡ false → Tells (mineOf ss i k) (act9 .fault) a
-          no9 a e r = record { taken = λ own f. r; over = λ own f. absurd (fault-apart (sym e ∙ f)) }
+          no-else : (a : Answer) → act-else .fault ≡ No → isRefused a ≡ false → Tells (mineOf ss i k) (act-else .fault) a
+          no-else a e r = record { taken = λ own f. r; over = λ own f. absurd (fault-apart (sym e ∙ f)) }
 
-          closed9 : isClosed (slotIn ts9 jj .state) ≡ true → act9 .fault ≡ No → Tells (mineOf ss i k) (act9 .fault) (Refused ChannelClosed)
-          closed9 c e =
+          closed-else : isClosed (slotIn ts-else j-else .state) ≡ true → act-else .fault ≡ No → Tells (mineOf ss i k) (act-else .fault) (Refused ChannelClosed)
+          closed-else c e =
               record {
                 taken = λ own f.
                     let nc = write-no-close (k .command) (and-true (isWrite (k .command)) (eqb (k .arg1) (slotIn ss i .local .0)) own .0) in
-                    absurd (true≢false (sym c ∙ at-stays p _ _ _ _ _ _ _ _ at9 (ap (λ (x : Bool). x && cond (eqb (k .arg1) 0) (not (eqb (k .arg0) 0) && eqb (placeOf (Remote (record { 0 = k .arg0 })) (l .state .header .negotiated .config .channels) ss) jj) (eqb (k .arg1) (slotIn ss jj .local .0))) nc) open9));
+                    absurd (true≢false (sym c ∙ at-stays p _ _ _ _ _ _ _ _ at-else (ap (λ (x : Bool). x && cond (eqb (k .arg1) 0) (not (eqb (k .arg0) 0) && eqb (placeOf (Remote (record { 0 = k .arg0 })) (l .state .header .negotiated .config .channels) ss) j-else) (eqb (k .arg1) (slotIn ss j-else .local .0))) nc) open-else));
                 over = λ own f. absurd (fault-apart (sym e ∙ f));
               }
 
-          again9 : act9 .fault ≡ No → write-fine (sendAgain l ch out bytes (frameLen k) (thenActed w9 act9) (slotIn ts9 jj))
+          again-else : act-else .fault ≡ No → write-fine (sendAgain l ch out bytes (frameLen k) (thenActed w-else act-else) (slotIn ts-else j-else))
           unfolding numberOf refusalNumber
-          again9 e =
-              turn-fine (frameLen k) (thenActed w9 act9) (slotIn ts9 jj) quiet9
-              (λ n. left9 (spentOf (slotIn ts9 jj) p n) (writeFrame (idsIn (slotIn ts9 jj)) (take n bytes) ∷ []) (Written n) (good9 (Written n) refl (no9 (Written n) e refl)))
-              (left9 (slotIn ts9 jj) [] Waiting (good9 Waiting refl (no9 Waiting e refl)))
-              (λ c. left9 (slotIn ts9 jj) [] (Refused ChannelClosed) (good9 (Refused ChannelClosed) refl (closed9 c e)))
+          again-else e =
+              turn-fine (frameLen k) (thenActed w-else act-else) (slotIn ts-else j-else) quiet-else
+              (λ n. left-else (spentOf (slotIn ts-else j-else) p n) (writeFrame (idsIn (slotIn ts-else j-else)) (take n bytes) ∷ []) (Written n) (good-else (Written n) refl (no-else (Written n) e refl)))
+              (left-else (slotIn ts-else j-else) [] Waiting (good-else Waiting refl (no-else Waiting e refl)))
+              (λ c. left-else (slotIn ts-else j-else) [] (Refused ChannelClosed) (good-else (Refused ChannelClosed) refl (closed-else c e)))
 
-          acted9 : (f : Failed) → act9 .fault ≡ f → write-fine (writeActed l ch out bytes (frameLen k) w9 act9 f)
+          acted-else : (f : Failed) → act-else .fault ≡ f → write-fine (writeActed l ch out bytes (frameLen k) w-else act-else f)
           unfolding writeActed
-          acted9 (By f) e =
+          acted-else (By f) e =
               let a : Answer = Refused (faultRefusal f) in
-              let z : unlessFault (act9 .fault) Waiting ≡ a = unless-is (act9 .fault) f e in
-              write-ends (thenActed w9 act9) a (frameLen k) quiet9
-              (subst (λ (x : Answer). Left (thenActed w9 act9) x (frameLen k)) z (good9 (unlessFault (act9 .fault) Waiting) (not-four (act9 .fault) Waiting waiting-four) (tells-fault (mineOf ss i k) (act9 .fault) Waiting refl)))
-          acted9 No e =
-              let sl : slotIn (changedAll (l .state) (act9 .changes) .slots) jj ≡ slotIn ts9 jj = ap (λ (x : List ChannelSlot). slotIn x jj) (slots-by (l .state) (act9 .changes)) in
-              subst (λ (x : ChannelSlot). write-fine (sendAgain l ch out bytes (frameLen k) (thenActed w9 act9) x)) (sym sl) (again9 e)
+              let z : unlessFault (act-else .fault) Waiting ≡ a = unless-is (act-else .fault) f e in
+              write-ends (thenActed w-else act-else) a (frameLen k) quiet-else
+              (subst (λ (x : Answer). Left (thenActed w-else act-else) x (frameLen k)) z (good-else (unlessFault (act-else .fault) Waiting) (not-four (act-else .fault) Waiting waiting-four) (tells-fault (mineOf ss i k) (act-else .fault) Waiting refl)))
+          acted-else No e =
+              let sl : slotIn (changedAll (l .state) (act-else .changes) .slots) j-else ≡ slotIn ts-else j-else = ap (λ (x : List ChannelSlot). slotIn x j-else) (slots-by (l .state) (act-else .changes)) in
+              subst (λ (x : ChannelSlot). write-fine (sendAgain l ch out bytes (frameLen k) (thenActed w-else act-else) x)) (sym sl) (again-else e)
 
-        packet9 : write-fine (writeBy l ch out bytes w9 s9 received (PacketIs k))
+        packet-else : write-fine (writeBy l ch out bytes w-else s-else received (PacketIs k))
         unfolding writeBy writeAct
-        packet9 =
-            pick write-fine (isReady (k .command) && eqb (k .arg1) (s9 .local .0))
-            (λ t. readied9 (and-true (isReady (k .command)) (eqb (k .arg1) (s9 .local .0)) t .0) (readyOf s9 body9 p))
-            (λ t. by-test (closedBy (idsIn s9) k)
-            (λ u. subst write-fine (sym (cond-true (closedBy (idsIn s9) k) _ _ u)) (end9 u))
-            (λ u. subst write-fine (sym (cond-false (closedBy (idsIn s9) k) _ _ u)) (acted9 u (actOn (dropped (l .state .header)) ss (l .state .opens) (l .rx) (l .store) k body9 .fault) refl)))
+        packet-else =
+            pick write-fine (isReady (k .command) && eqb (k .arg1) (s-else .local .0))
+            (λ t. readied-else (and-true (isReady (k .command)) (eqb (k .arg1) (s-else .local .0)) t .0) (readyOf s-else body-else p))
+            (λ t. by-test (closedBy (idsIn s-else) k)
+            (λ u. subst write-fine (sym (cond-true (closedBy (idsIn s-else) k) _ _ u)) (end-else u))
+            (λ u. subst write-fine (sym (cond-false (closedBy (idsIn s-else) k) _ _ u)) (acted-else u (actOn (dropped (l .state .header)) ss (l .state .opens) (l .rx) (l .store) k body-else .fault) refl)))
 
-      received9 : isClosed (s9 .state) ≡ false → (r : Received) → Got received (l .state .header .negotiated .config .«max_payload») r → write-fine (writeBy l ch out bytes w9 s9 received r)
+      received-else : isClosed (s-else .state) ≡ false → (r : Received) → Got received (l .state .header .negotiated .config .«max_payload») r → write-fine (writeBy l ch out bytes w-else s-else received r)
       unfolding writeBy
-      received9 op r (stopped a used st) = stop9 a used st
-      received9 op r (packet k sy) = packet9 op k sy
+      received-else op r (stopped a used st) = stop-else a used st
+      received-else op r (packet k sy) = packet-else op k sy
 
-      first9 : isClosed (s9 .state) ≡ false → (x : Budget) → write-fine (writeFirst l ch out bytes received w9 s9 x)
+      first-else : isClosed (s-else .state) ≡ false → (x : Budget) → write-fine (writeFirst l ch out bytes received w-else s-else x)
       unfolding writeFirst
-      first9 op (Bytes most) =
-          sent-fine 0 w9 s9 refl (sendLen l bytes most)
-          (else-left (spentOf s9 p (sendLen l bytes most)) (writeFrame (idsIn s9) (take (sendLen l bytes most) bytes) ∷ []) (Written (sendLen l bytes most)) 0 (none9 (Written (sendLen l bytes most))))
-      first9 op NoBudget = subst write-fine (sym (cond-true (s9 .«has_remote») _ _ (ok .known jj fill))) (received9 op (receivedOf l received) (got l received))
+      first-else op (Bytes most) =
+          sent-fine 0 w-else s-else refl (sendLen l bytes most)
+          (else-left (spentOf s-else p (sendLen l bytes most)) (writeFrame (idsIn s-else) (take (sendLen l bytes most) bytes) ∷ []) (Written (sendLen l bytes most)) 0 (none-else (Written (sendLen l bytes most))))
+      first-else op NoBudget = subst write-fine (sym (cond-true (s-else .«has_remote») _ _ (ok .known j-else fill))) (received-else op (receivedOf l received) (got l received))
 
-      write-else : write-fine (writeOn l ch out bytes received w9 s9)
+      write-else : write-fine (writeOn l ch out bytes received w-else s-else)
       unfolding writeOn
       write-else =
-          by-test (isClosed (s9 .state))
-          (λ c. subst write-fine (sym (cond-true (isClosed (s9 .state)) _ _ c)) (write-ends w9 (Refused ChannelClosed) 0 refl (none9 (Refused ChannelClosed))))
-          (λ c. subst write-fine (sym (cond-false (isClosed (s9 .state)) _ _ c)) (first9 c (budgetOf s9 p)))
+          by-test (isClosed (s-else .state))
+          (λ c. subst write-fine (sym (cond-true (isClosed (s-else .state)) _ _ c)) (write-ends w-else (Refused ChannelClosed) 0 refl (none-else (Refused ChannelClosed))))
+          (λ c. subst write-fine (sym (cond-false (isClosed (s-else .state)) _ _ c)) (first-else c (budgetOf s-else p)))
 
-    plain9 : (a : Answer) → write-fine (ends (begun (dropped (l .state .header)) l) a 0 [])
-    plain9 a = write-ends (begun (dropped (l .state .header)) l) a 0 refl (good-by p credit _ _ _ _ _ _ refl refl (entered-none a []) g)
+    plain-else : (a : Answer) → write-fine (ends (begun (dropped (l .state .header)) l) a 0 [])
+    plain-else a = write-ends (begun (dropped (l .state .header)) l) a 0 refl (good-by p credit _ _ _ _ _ _ refl refl (entered-none a []) g)
 
     write-by : On ch → write-fine (writeStep l ch out bytes received)
     unfolding writeStep slotFor
     write-by (this d t o) =
-        pick write-fine (eqb (length bytes) 0) (λ z. plain9 (Written 0))
+        pick write-fine (eqb (length bytes) 0) (λ z. plain-else (Written 0))
         (λ z. subst write-fine (sym (cond-true (isThere l ch) _ _ t)) (subst (λ (x : ℕ). write-fine (writeOn l ch out bytes received (begun (dropped (l .state .header)) l) (slotIn ss x))) (sym d) (write-this d o)))
     write-by (another d t f ne o) =
-        pick write-fine (eqb (length bytes) 0) (λ z. plain9 (Written 0)) (λ z. subst write-fine (sym (cond-true (isThere l ch) _ _ t)) (write-else d t f ne o))
+        pick write-fine (eqb (length bytes) 0) (λ z. plain-else (Written 0)) (λ z. subst write-fine (sym (cond-true (isThere l ch) _ _ t)) (write-else d t f ne o))
     write-by (none t o) =
-        pick write-fine (eqb (length bytes) 0) (λ z. plain9 (Written 0)) (λ z. subst write-fine (sym (cond-false (isThere l ch) _ _ t)) (plain9 (Refused ChannelClosed)))
+        pick write-fine (eqb (length bytes) 0) (λ z. plain-else (Written 0)) (λ z. subst write-fine (sym (cond-false (isThere l ch) _ _ t)) (plain-else (Refused ChannelClosed)))
 
     pub write-call : write-fine (writeStep l ch out bytes received)
     write-call = write-by (on ch)
