@@ -1,4 +1,5 @@
 pub mod Book
 pub mod Demand3
 pub mod Never13
+pub mod Queue
 pub mod Run
