@@ -2,7 +2,7 @@
 use mathlib.Core.Path.{_≡_, refl, sym, ap, subst, _∙_}
 use mathlib.Core.Bool.{Bool, true, false, cond, _&&_, _||_}
 use mathlib.Core.List.{List, [], _∷_, _++_}
-use Prim.Native.Nat.{ℕ, suc, _+_, _-_, _*_, _≤_}
+use Prim.Native.Nat.{ℕ, zero, suc, _+_, _-_, _*_, _≤_}
 use native.Mathlib.Omega.{arith}
 use lib.Dec.{ltb, leb, eqb}
 use lib.ListN.{length, take, drop, getD, set, length-take}
@@ -11,6 +11,7 @@ use Rattle.le.specs.Le.{Bytes, part, put}
 use Rattle.le.proofs.Parts.{by-test, length-part}
 use Rattle.config.specs.declared.ConnectionConfig.{ConnectionConfig}
 use Rattle.config.specs.declared.negotiated.Negotiated.{Negotiated}
+use Rattle.config.specs.declared.negotiated.RxPolicy.{RxPolicy}
 use Rattle.config.specs.Config.{withinLimits, storesFit}
 use Rattle.config.specs.Negotiated.{negotiatedOf, policyOf}
 use Rattle.config.proofs.Laws.{and-true}
@@ -19,9 +20,13 @@ use Rattle.incoming.specs.declared.Front.{Front}
 use Rattle.incoming.specs.declared.Front.the-variants.{Open as FrontOpen, Nothing as NoFront}
 use Rattle.incoming.specs.Incoming.{Incoming, waitsAs, waits, withdrawn, withQueued, noOpen, PushOutcome, nextShare, pushed, withdrawal, popped}
 use Rattle.incoming.proofs.WaitLaws.{push-waits, withdrawal-waits, popped-waits}
+use Rattle.protocol.specs.declared.command.Command.{Command}
+use Rattle.protocol.specs.declared.command.Command.the-variants.{Sync, Connect, Open, Ready, Close, Write, Auth, StartTls}
 use Rattle.protocol.specs.declared.packet.Packet.{Packet}
 use Rattle.protocol.specs.Packet.{maxPayload}
 use Rattle.slot.specs.declared.ChannelSlot.{ChannelSlot}
+use Rattle.slot.specs.declared.AckDecision.{AckDecision}
+use Rattle.slot.specs.declared.AckDecision.the-variants.{Now, Hold, Overflow, Early}
 use Rattle.slot.specs.declared.Budget.{Budget}
 use Rattle.slot.specs.declared.Budget.the-variants.{Bytes as Most, Nothing as NoBudget}
 use Rattle.slot.specs.declared.Failed.{Failed}
@@ -31,13 +36,14 @@ use Rattle.slot.specs.declared.Readied.the-variants.{Slot, Short}
 use Rattle.slot.specs.declared.Taken.{Taken}
 use Rattle.slot.specs.declared.Taken.the-variants.{Data, Nothing as NothingTaken, Closed as ClosedTaken}
 use Rattle.slot.specs.Ids.{isClose, closedBy}
-use Rattle.slot.specs.Slot.{isClosed, settledOf, spentOf, budgetOf}
+use Rattle.slot.specs.Slot.{emptySlot, isClosed, isFailed, settledOf, spentOf, budgetOf}
+use Rattle.slot.specs.declared.ids.LocalId.{LocalId}
 use Rattle.slot.specs.declared.ids.RemoteId.{RemoteId}
 use Rattle.slot.proofs.Kept.{pick}
 use Rattle.slot.proofs.Laws.{cond-true, cond-false}
 use Rattle.state.specs.declared.Header.{Header}
 use Rattle.state.specs.declared.PendingOpen.{PendingOpen}
-use Rattle.state.specs.Change.{slotTo, headerTo, openTo, changedAll}
+use Rattle.state.specs.Change.{Step, slotTo, headerTo, openTo, changedAll}
 use Rattle.state.specs.State.{Connection, stateOf, withSlot}
 use Rattle.state.specs.Valid.{openFine, opensFine, isWhole}
 use Rattle.state.proofs.RowLaws.{walk-here, never}
@@ -49,7 +55,9 @@ use Rattle.table.specs.declared.Allocated.the-variants.{Channel, NoFree}
 use Rattle.table.specs.declared.ChannelId.{ChannelId}
 use Rattle.table.specs.declared.DispatchOutcome.{DispatchOutcome}
 use Rattle.table.specs.declared.DispatchOutcome.the-variants.{AckWrite, CreditGranted, SlotClosed, DataBuffered, IncomingOpen, CancelPendingOpen, StrayReady, ChannelFault, Unmatched}
-use Rattle.table.specs.Dispatch.{Dispatched}
+use Rattle.table.specs.declared.Want.the-variants.{Local, Remote}
+use Rattle.table.specs.Table.{first, wantedBy, placeOf}
+use Rattle.table.specs.Dispatch.{slotIn, remotePlace, closedAt, closeOf as tableClose, granted, readyAt, strayOf, grantOf, Dispatched, wroteBy, wroteAt, writeOf as tableWrite, routeOf, dispatchOf as tableDispatch}
 use Rattle.table.proofs.KeepLaws.{dispatch-keeps}
 use Rattle.connection.specs.declared.Answer.{Answer}
 use Rattle.connection.specs.declared.Answer.the-variants.{Done, Waiting, Nothing, Opened, Settled, Read, Written, Front as FrontIs, Refused}
@@ -60,8 +68,9 @@ use Rattle.connection.specs.Frames.{Frame, framesBytes}
 use Rattle.connection.specs.declared.Refusal.the-variants.{StoreShort, OutShort, ChannelClosed, BrokenState}
 use Rattle.connection.specs.Calls.{Lent, Outcome, Work, begun, then, thenActed, ends, dropped, untouched, checked, checkedOut, policy, idsIn, isThere, slotFor, ackFrames, unlessFault, receivedOf, bodyOf, frameLen, isWrite, isReady, dispatchBy, dispatchStep, settledAs, settleStep, takenBy, takeStep, reread, readSettled, readActed, isDirect, readDirect, readBy, readTaken, readFirst, readStep, sendLen, sendSome, sendBy, sendAgain, writeReadied, writeActed, writeAct, writeBy, writeFirst, writeOn, writeStep, closeStep, frontBy, frontStep, openOn, stillWaits, openReadied, openActed, openBy, openStep, fresh, openOf, dispatchOf, settleOf, takeOf, readOf, writeOf, closeOf, frontCall}
 use Rattle.connection.specs.Act.{Acted, pushedBy, actedBy, tableOf, actOn}
-use Rattle.history.specs.Queue.{QueueMove, stays, pushes, pops, moved, moveBy, usedMove, queueOf, packetMove, Hands, takesNone, openTakes, readSlot, readTakes, writeTakes, moveOf, queueIn, Queues, QueueIsRusts}
+use Rattle.history.specs.Queue.{QueueMove, stays, pushes, withdraws, pops, moved, commandMove, usedMove, queueOf, packetMove, Hands, takesNone, openTakes, readTakes, writeTakes, moveOf, queueIn, Queues, QueueIsRusts}
 use Rattle.history.specs.Run.{bytesIn, Call, openCall, dispatchCall, settleCall, takeCall, readCall, writeCall, closeCall, frontTaken, World, lent, outcome, after, afterAll, made}
+use Rattle.history.proofs.Steps.{Alike, settled-alike}
 use Rattle.history.proofs.WholeAct.{PacketFits}
 use Rattle.history.proofs.WholeWork.{negotiated, At, at-frames, at-slot, there-live, there-at, Long, long, drop-whole}
 use Rattle.history.proofs.Received.{bytes-in, ReceivedFits, received-fits}
@@ -72,8 +81,105 @@ unfolding waits
 length-waits payload store [] = refl
 length-waits payload store (q ∷ qs) = ap suc (length-waits payload store qs)
 
-pub length-queue : (payload : ℕ) (store : List ℕ) (n : ℕ) (qs : List PendingOpen) → n ≤ length qs → length (waits payload store (take n qs)) ≡ n
+length-queue : (payload : ℕ) (store : List ℕ) (n : ℕ) (qs : List PendingOpen) → n ≤ length qs → length (waits payload store (take n qs)) ≡ n
 length-queue payload store n qs h = length-waits payload store (take n qs) ∙ simp length-take (omega arith)
+
+-- ---- what the table answers, and what a packet does
+
+-- an answer of the table's, as a move
+unfoldable moveBy : List ℕ → DispatchOutcome → QueueMove
+moveBy payload (AckWrite i ids len) = stays
+moveBy payload (CreditGranted i) = stays
+moveBy payload (SlotClosed i) = stays
+moveBy payload (DataBuffered i) = stays
+moveBy payload (IncomingOpen remote credit) = pushes (record { remote = remote; credit = credit; destination = payload })
+moveBy payload (CancelPendingOpen remote) = withdraws remote
+moveBy payload (StrayReady ids) = stays
+moveBy payload (ChannelFault i ids opening f) = stays
+moveBy payload Unmatched = stays
+
+module _ (p : RxPolicy) (n : ℕ) (ss : List ChannelSlot) (payload rx : List ℕ) where
+  abbrev stepStays : Step DispatchOutcome → Type 0
+  stepStays x = moveBy payload (x .result) ≡ stays
+
+  abbrev wroteStays : Dispatched → Type 0
+  wroteStays x = stepStays (x .step)
+
+  close-answer : (remote : RemoteId) (local : LocalId)
+      → moveBy payload (tableClose n ss remote local .result) ≡ cond (eqb (local .0) 0) (cond (ltb (remotePlace n ss remote) n) stays (withdraws remote)) stays
+  unfolding tableClose closedAt moveBy
+  close-answer remote local =
+      by-test (eqb (local .0) 0)
+      (λ t. by-test (ltb (remotePlace n ss remote) n) (λ u. rw (t, u)) (λ u. rw (t, u)))
+      (λ t. by-test (ltb (placeOf (Local local) n ss) n) (λ u. rw (t, u)) (λ u. rw (t, u)))
+
+  granted-stays : (i : ℕ) (s : ChannelSlot) (remote : RemoteId) (r : Readied) → stepStays (granted i s remote r)
+  unfolding granted moveBy
+  granted-stays i s remote (Slot t) = refl
+  granted-stays i s remote Short = refl
+
+  ready-stays : (remote : RemoteId) (local : LocalId) → stepStays (grantOf p n ss remote local payload)
+  unfolding grantOf readyAt strayOf moveBy
+  ready-stays remote local =
+      let f = placeOf (Local local) n ss in
+      pick stepStays (ltb f n) (λ t. pick stepStays (isFailed (slotIn ss f .failed)) (λ u. refl) (λ u. granted-stays f (slotIn ss f) remote _))
+      (λ t. pick (λ (o : DispatchOutcome). moveBy payload o ≡ stays) (eqb (remote .0) 0) (λ u. refl)
+      (λ u. pick (λ (o : DispatchOutcome). moveBy payload o ≡ stays) (eqb (local .0) 0) (λ v. refl) (λ v. refl)))
+
+  wrote-stays : (i : ℕ) (s t : ChannelSlot) (remote : RemoteId) (d : AckDecision) → wroteStays (wroteBy p i s remote payload rx t d)
+  unfolding wroteBy moveBy
+  wrote-stays i s t remote (Now len) = refl
+  wrote-stays i s t remote Hold = refl
+  wrote-stays i s t remote Overflow = refl
+  wrote-stays i s t remote Early = refl
+
+  write-stays : (remote : RemoteId) (local : LocalId) → wroteStays (tableWrite p n ss remote local payload rx)
+  unfolding tableWrite wroteAt moveBy
+  write-stays remote local =
+      let f = placeOf (Local local) n ss in
+      pick wroteStays (ltb f n) (λ t. pick wroteStays (isFailed (slotIn ss f .failed)) (λ u. refl) (λ u. wrote-stays f (slotIn ss f) _ remote _)) (λ t. refl)
+
+  route-answer : (c : Command) (a b : ℕ) → moveBy payload (routeOf p n ss c a b payload rx .step .result) ≡ commandMove n ss c a b payload
+  unfolding routeOf commandMove moveBy
+  route-answer Connect a b = refl
+  route-answer Auth a b = refl
+  route-answer StartTls a b = refl
+  route-answer Open a b = refl
+  route-answer Close a b = close-answer (record { 0 = a }) (record { 0 = b })
+  route-answer Write a b = write-stays (record { 0 = a }) (record { 0 = b })
+  route-answer Ready a b = ready-stays (record { 0 = a }) (record { 0 = b })
+  route-answer Sync a b = refl
+
+table-answer : (h : Header) (ss : List ChannelSlot) (rx : List ℕ) (k : Packet) (payload : List ℕ)
+    → moveBy payload (tableOf h ss rx k payload .step .result) ≡ commandMove (h .negotiated .config .channels) ss (k .command) (k .arg0) (k .arg1) payload
+unfolding tableOf tableDispatch
+table-answer h ss rx k payload = route-answer (policyOf (h .negotiated)) (h .negotiated .config .channels) ss payload rx (k .command) (k .arg0) (k .arg1)
+
+-- a slot stored that is found as the one before it
+first-set : {A : Type 0} (p : A → Bool) (n : ℕ) (ss : List A) (i : ℕ) (t d : A) → p t ≡ p (getD ss i d) → first p (take n (set ss i t)) ≡ first p (take n ss)
+unfolding first
+first-set p zero ss i t d e = refl
+first-set p (suc n) [] i t d e = refl
+first-set p (suc n) (x ∷ xs) zero t d e = rw e
+first-set p (suc n) (x ∷ xs) (suc i) t d e = rw (first-set p n xs i t d e)
+
+-- settling a channel changes no packet's move
+command-set : (n : ℕ) (ss : List ChannelSlot) (i : ℕ) (t : ChannelSlot) → Alike (slotIn ss i) t → (c : Command) (a b : ℕ) (payload : List ℕ)
+    → commandMove n (set ss i t) c a b payload ≡ commandMove n ss c a b payload
+unfolding commandMove remotePlace placeOf wantedBy slotIn
+command-set n ss i t k Sync a b payload = refl
+command-set n ss i t k Connect a b payload = refl
+command-set n ss i t k Open a b payload = refl
+command-set n ss i t k Ready a b payload = refl
+command-set n ss i t k Close a b payload =
+    let s = getD ss i emptySlot in
+    let f : wantedBy (Remote (record { 0 = a })) t ≡ wantedBy (Remote (record { 0 = a })) s
+    = ap (λ (x : Bool). x && t .«has_remote» && eqb (t .remote .0) a) (k .filled) ∙ ap (λ (x : Bool). s .filled && x && eqb (t .remote .0) a) (k .known)
+    ∙ ap (λ (x : RemoteId). s .filled && s .«has_remote» && eqb (x .0) a) (k .remote) in
+    ap (λ (x : ℕ). cond (eqb b 0) (cond (ltb (cond (eqb a 0) n x) n) stays (withdraws (record { 0 = a }))) stays) (first-set (wantedBy (Remote (record { 0 = a }))) n ss i t emptySlot f)
+command-set n ss i t k Write a b payload = refl
+command-set n ss i t k Auth a b payload = refl
+command-set n ss i t k StartTls a b payload = refl
 
 -- ---- what acting on a packet does to those that wait
 
@@ -87,7 +193,7 @@ module _ (h : Header) (c : Connection) (rx store : List ℕ) (g : Whole (h .nego
   abbrev waiting : List Incoming
   waiting = waits payload-max store (take (h .queued) (c .opens))
 
-  abbrev pub ActMoves : QueueMove → Acted → Type 0
+  abbrev ActMoves : QueueMove → Acted → Type 0
   ActMoves m a = waits payload-max (a .store) (take (a .header .queued) (changedAll c (a .changes) .opens)) ≡ moved most m waiting
 
   waiting-length : length waiting ≡ h .queued
@@ -145,7 +251,7 @@ module _ (h : Header) (c : Connection) (rx store : List ℕ) (g : Whole (h .nego
     acted-by-moves payload k long Unmatched = still
 
   -- the queue moves by what the table answers
-  pub act-moves : most * (2 * policyOf (h .negotiated) .«rx_cap») ≤ length rx → most * payload-max ≤ length store
+  act-moves : most * (2 * policyOf (h .negotiated) .«rx_cap») ≤ length rx → most * payload-max ≤ length store
       → (p : Packet) (payload : List ℕ) → PacketFits (h .negotiated) p payload
       → ActMoves (moveBy payload (tableOf h (c .slots) rx p payload .step .result)) (actOn h (c .slots) (c .opens) rx store p payload)
   unfolding actOn tableOf
@@ -163,21 +269,21 @@ module _ (l : Lent) where
   count = negotiated l .config .channels
 
   -- those that wait, once the header is stored
-  abbrev pub queueW : Work → List Incoming
+  abbrev queueW : Work → List Incoming
   queueW w = waits cap (w .store) (take (w .header .queued) (changedAll (l .state) (w .changes) .opens))
 
-  abbrev pub queueO : Outcome → List Incoming
+  abbrev queueO : Outcome → List Incoming
   queueO o = waits cap (o .store) (take (changedAll (l .state) (o .changes) .header .queued) (changedAll (l .state) (o .changes) .opens))
 
   -- an outcome that moves the queue by m, where it uses received bytes
-  abbrev pub Moves : QueueMove → Outcome → Type 0
+  abbrev Moves : QueueMove → Outcome → Type 0
   Moves m o = queueO o ≡ moved count (usedMove (o .used) m) (queueOf l)
 
   -- nothing is done to the queue
-  abbrev pub Still : Work → Type 0
+  abbrev Still : Work → Type 0
   Still w = queueW w ≡ queueOf l
 
-  pub ends-queue : (w : Work) (a : Answer) (used : ℕ) (handed : List ℕ) → queueO (ends w a used handed) ≡ queueW w
+  ends-queue : (w : Work) (a : Answer) (used : ℕ) (handed : List ℕ) → queueO (ends w a used handed) ≡ queueW w
   unfolding ends
   ends-queue w a used handed =
       ap (λ (x : Connection). waits cap (w .store) (take (x .header .queued) (x .opens))) (changes-append (l .state) (w .changes) (headerTo (w .header) ∷ []))
@@ -191,45 +297,45 @@ module _ (l : Lent) where
   used-frame m p = cond-false (eqb (frameLen p) 0) stays m (ne-eqb (frameLen p) 0 (λ e. omega arith))
 
   -- what a call has done so far moves the queue by m, where it uses received bytes
-  abbrev pub Left : QueueMove → ℕ → Work → Type 0
+  abbrev Left : QueueMove → ℕ → Work → Type 0
   Left m used w = queueW w ≡ moved count (usedMove used m) (queueOf l)
 
-  pub ends-left : (m : QueueMove) (w : Work) (a : Answer) (used : ℕ) (handed : List ℕ) → Left m used w → Moves m (ends w a used handed)
+  ends-left : (m : QueueMove) (w : Work) (a : Answer) (used : ℕ) (handed : List ℕ) → Left m used w → Moves m (ends w a used handed)
   unfolding ends
   ends-left m w a used handed k = ends-queue w a used handed ∙ k
 
   -- it used nothing
-  pub left-none : (m : QueueMove) (w : Work) → Still w → Left m 0 w
+  left-none : (m : QueueMove) (w : Work) → Still w → Left m 0 w
   unfolding usedMove moved
   left-none m w k = k
 
   -- it took what it used for itself
-  pub left-own : (m : QueueMove) (used : ℕ) (w : Work) → Still w → m ≡ stays → Left m used w
+  left-own : (m : QueueMove) (used : ℕ) (w : Work) → Still w → m ≡ stays → Left m used w
   unfolding moved
   left-own m used w k e = k ∙ ap (λ (x : QueueMove). moved count x (queueOf l)) (sym (used-stays used) ∙ ap (usedMove used) (sym e))
 
   -- it dispatched a packet
-  pub left-moved : (m : QueueMove) (p : Packet) (w : Work) → queueW w ≡ moved count m (queueOf l) → Left m (frameLen p) w
+  left-moved : (m : QueueMove) (p : Packet) (w : Work) → queueW w ≡ moved count m (queueOf l) → Left m (frameLen p) w
   left-moved m p w k = k ∙ ap (λ (x : QueueMove). moved count x (queueOf l)) (sym (used-frame m p))
 
   -- frames, a slot
-  pub queue-frames : (w : Work) → queueW (then w [] []) ≡ queueW w
+  queue-frames : (w : Work) → queueW (then w [] []) ≡ queueW w
   queue-frames w = ap (λ (x : Connection). waits cap (w .store) (take (w .header .queued) (x .opens))) (changes-append (l .state) (w .changes) [])
 
-  pub queue-slot : (w : Work) (i : ℕ) (t : ChannelSlot) → queueW (then w (slotTo i t ∷ []) []) ≡ queueW w
+  queue-slot : (w : Work) (i : ℕ) (t : ChannelSlot) → queueW (then w (slotTo i t ∷ []) []) ≡ queueW w
   queue-slot w i t = ap (λ (x : Connection). waits cap (w .store) (take (w .header .queued) (x .opens))) (changes-append (l .state) (w .changes) (slotTo i t ∷ []))
 
   -- a packet acted on
-  pub queue-act : (w : Work) (a : Acted) (q : List Incoming)
+  queue-act : (w : Work) (a : Acted) (q : List Incoming)
       → waits cap (a .store) (take (a .header .queued) (changedAll (changedAll (l .state) (w .changes)) (a .changes) .opens)) ≡ q → queueW (thenActed w a) ≡ q
   queue-act w a q e = ap (λ (x : Connection). waits cap (a .store) (take (a .header .queued) (x .opens))) (changes-append (l .state) (w .changes) (a .changes)) ∙ e
 
   -- a header that keeps their count
-  pub begun-still : (h : Header) → h .queued ≡ l .state .header .queued → Still (begun h l)
+  begun-still : (h : Header) → h .queued ≡ l .state .header .queued → Still (begun h l)
   unfolding queueOf
   begun-still h e = ap (λ (x : ℕ). waits cap (l .store) (take x (l .state .opens))) e
 
-  pub untouched-still : (m : QueueMove) (r : Refusal) → Moves m (untouched l r)
+  untouched-still : (m : QueueMove) (r : Refusal) → Moves m (untouched l r)
   unfolding usedMove moved queueOf
   untouched-still m r = refl
 
@@ -253,7 +359,7 @@ module _ (l : Lent) (g : Whole (negotiated l) (l .state .header) (l .state .slot
 
   -- ---- settle, take and close leave the queue
 
-  pub settle-moves : (m : QueueMove) (ch : ChannelId) (want : ℕ) → Moves l m (settleStep l ch want)
+  settle-moves : (m : QueueMove) (ch : ChannelId) (want : ℕ) → Moves l m (settleStep l ch want)
   unfolding settleStep settledAs
   settle-moves m ch want = pick (Moves l m) (isThere l ch) (λ t. ends-left l m _ _ 0 [] (left-none l m b0 still0)) (λ t. gone-moves m)
 
@@ -263,33 +369,34 @@ module _ (l : Lent) (g : Whole (negotiated l) (l .state .header) (l .state .slot
   taken-moves m ch s NothingTaken = ends-left l m b0 _ 0 [] (left-none l m b0 still0)
   taken-moves m ch s (ClosedTaken e) = ends-left l m b0 _ 0 [] (left-none l m b0 still0)
 
-  pub take-moves : (m : QueueMove) (ch : ChannelId) (room : ℕ) → Moves l m (takeStep l ch room)
+  take-moves : (m : QueueMove) (ch : ChannelId) (room : ℕ) → Moves l m (takeStep l ch room)
   unfolding takeStep
   take-moves m ch room = pick (Moves l m) (isThere l ch) (λ t. taken-moves m ch (slotFor l ch) _) (λ t. gone-moves m)
 
-  pub close-moves : (m : QueueMove) (ch : ChannelId) → Moves l m (closeStep l ch)
+  close-moves : (m : QueueMove) (ch : ChannelId) → Moves l m (closeStep l ch)
   unfolding closeStep
   close-moves m ch = pick (Moves l m) (isThere l ch && slotFor l ch .«has_remote») (λ t. ends-left l m _ _ 0 [] (left-none l m b0 still0)) (λ t. gone-moves m)
 
   -- ---- calls that look at a packet
 
   module _ (long : Long (negotiated l) (length (l .rx)) (length (l .store))) (received : List ℕ) where
+    abbrev lentMove : (Packet → Bool) → Received → QueueMove
+    lentMove takes r = packetMove l takes received r
+
     -- what is received, by what the call takes for itself
-    module _ (ss : List ChannelSlot) (takes : Packet → Bool) where
-      stop-stays : (a : Answer) (used : ℕ) → packetMove l ss takes received (Stop a used) ≡ stays
+    module _ (takes : Packet → Bool) where
+      stop-stays : (a : Answer) (used : ℕ) → lentMove takes (Stop a used) ≡ stays
       unfolding packetMove
       stop-stays a used = refl
 
-      own-stays : (p : Packet) → takes p ≡ true → packetMove l ss takes received (PacketIs p) ≡ stays
+      own-stays : (p : Packet) → takes p ≡ true → lentMove takes (PacketIs p) ≡ stays
       unfolding packetMove
       own-stays p e = cond-true (takes p) _ _ e
 
-      other-moves : (p : Packet) → takes p ≡ false → packetMove l ss takes received (PacketIs p) ≡ moveBy (bodyOf received p) (tableOf (l .state .header) ss (l .rx) p (bodyOf received p) .step .result)
+      other-moves : (p : Packet) → takes p ≡ false → lentMove takes (PacketIs p)
+          ≡ commandMove (negotiated l .config .channels) (l .state .slots) (p .command) (p .arg0) (p .arg1) (bodyOf received p)
       unfolding packetMove
       other-moves p e = cond-false (takes p) _ _ e
-
-    abbrev lentMove : (Packet → Bool) → Received → QueueMove
-    lentMove takes r = packetMove l (l .state .slots) takes received r
 
     -- acting on it, with the state as it was lent, the open that waits dropped or not
     gd : Whole (negotiated l) (dropped (l .state .header)) (l .state .slots) (l .state .opens)
@@ -307,7 +414,7 @@ module _ (l : Lent) (g : Whole (negotiated l) (l .state .header) (l .state .slot
     acted-dropped takes p k e =
         queue-act l b0 (actD p) _
         (act-moves (dropped (l .state .header)) (l .state) (l .rx) (l .store) gd (long .rx-long) (long .store-long) p (bodyOf received p) k
-        ∙ ap (λ (m : QueueMove). moved (negotiated l .config .channels) m (queueOf l)) (sym (other-moves (l .state .slots) takes p e)))
+        ∙ ap (λ (m : QueueMove). moved (negotiated l .config .channels) m (queueOf l)) (table-answer (dropped (l .state .header)) (l .state .slots) (l .rx) p (bodyOf received p) ∙ sym (other-moves takes p e)))
 
     acted-lent : (takes : Packet → Bool) (p : Packet) → PacketFits (negotiated l) p (bodyOf received p) → takes p ≡ false
         → queueW l (thenActed (begun (l .state .header) l) (actH p)) ≡ moved (negotiated l .config .channels) (lentMove takes (PacketIs p)) (queueOf l)
@@ -315,16 +422,16 @@ module _ (l : Lent) (g : Whole (negotiated l) (l .state .header) (l .state .slot
     acted-lent takes p k e =
         queue-act l (begun (l .state .header) l) (actH p) _
         (act-moves (l .state .header) (l .state) (l .rx) (l .store) g (long .rx-long) (long .store-long) p (bodyOf received p) k
-        ∙ ap (λ (m : QueueMove). moved (negotiated l .config .channels) m (queueOf l)) (sym (other-moves (l .state .slots) takes p e)))
+        ∙ ap (λ (m : QueueMove). moved (negotiated l .config .channels) m (queueOf l)) (table-answer (l .state .header) (l .state .slots) (l .rx) p (bodyOf received p) ∙ sym (other-moves takes p e)))
 
     -- ---- dispatch
 
     dispatch-by : (r : Received) → ReceivedFits (negotiated l) received r → Moves l (lentMove takesNone r) (dispatchBy l (dropped (l .state .header)) received r)
     unfolding dispatchBy takesNone
-    dispatch-by (Stop a used) k = ends-left l _ b0 a used [] (left-own l _ used b0 still0 (stop-stays (l .state .slots) takesNone a used))
+    dispatch-by (Stop a used) k = ends-left l _ b0 a used [] (left-own l _ used b0 still0 (stop-stays takesNone a used))
     dispatch-by (PacketIs p) k = ends-left l _ _ _ (frameLen p) [] (left-moved l _ p (thenActed b0 (actD p)) (acted-dropped takesNone p k refl))
 
-    pub dispatch-moves : Bytes received → Moves l (lentMove takesNone (receivedOf l received)) (dispatchStep l received)
+    dispatch-moves : Bytes received → Moves l (lentMove takesNone (receivedOf l received)) (dispatchStep l received)
     unfolding dispatchStep
     dispatch-moves y = dispatch-by (receivedOf l received) (received-fits l received y)
 
@@ -343,35 +450,44 @@ module _ (l : Lent) (g : Whole (negotiated l) (l .state .header) (l .state .slot
         read-acted used w a k = reread-moves used (a .fault) _ _ (queue-frames l (thenActed w a) ∙ k) _
 
       -- what a read has done before it looks at a packet: an OKAY may be written
-      module _ (fs : List Frame) (start : At l (ch .slot) (then b0 [] fs)) (s : ChannelSlot) (v : Live (negotiated l) (ch .slot) s) where
+      module _ (fs : List Frame) (start : At l (ch .slot) (then b0 [] fs)) (s : ChannelSlot) (v : Live (negotiated l) (ch .slot) s) (like : Alike (slotFor l ch) s) where
         abbrev w1 : Work
         w1 = then b0 [] fs
 
         abbrev reads : Packet → Bool
         reads p = isDirect s room p || closedBy (idsIn s) p
 
+        -- the settled slot has the channel's numbers
+        reads-same : (p : Packet) → readTakes l ch room p ≡ reads p
+        unfolding readTakes isDirect
+        reads-same p =
+            ap (λ (x : LocalId). (isWrite (p .command) && eqb (p .arg1) (x .0) && leb (p .«data_length») room) || closedBy (record { local = x; remote = slotFor l ch .remote }) p) (sym (like .local))
+            ∙ ap (λ (x : RemoteId). isDirect s room p || closedBy (record { local = s .local; remote = x }) p) (sym (like .remote))
+
         abbrev read-move : Received → QueueMove
-        read-move r = packetMove l (set (l .state .slots) (ch .slot) s) reads received r
+        read-move r = lentMove (readTakes l ch room) r
 
         abbrev actS : Packet → Acted
         actS p = actOn (dropped (l .state .header)) (set (l .state .slots) (ch .slot) s) (l .state .opens) (l .rx) (l .store) p (bodyOf received p)
 
         acted-stored : (p : Packet) → PacketFits (negotiated l) p (bodyOf received p) → reads p ≡ false
             → queueW l (thenActed (then w1 (slotTo (ch .slot) s ∷ []) []) (actS p)) ≡ moved (negotiated l .config .channels) (read-move (PacketIs p)) (queueOf l)
-        unfolding tableOf queueOf
+        unfolding tableOf queueOf slotFor
         acted-stored p k e =
             queue-act l (then w1 (slotTo (ch .slot) s ∷ []) []) (actS p) _
             (act-moves (dropped (l .state .header)) (withSlot (l .state) (ch .slot) s) (l .rx) (l .store) (at-slot l (ch .slot) _ start s [] v .work .facts) (long .rx-long) (long .store-long) p (bodyOf received p) k
-            ∙ ap (λ (m : QueueMove). moved (negotiated l .config .channels) m (queueOf l)) (sym (other-moves (set (l .state .slots) (ch .slot) s) reads p e)))
+            ∙ ap (λ (m : QueueMove). moved (negotiated l .config .channels) m (queueOf l)) (table-answer (dropped (l .state .header)) (set (l .state .slots) (ch .slot) s) (l .rx) p (bodyOf received p)
+            ∙ command-set (negotiated l .config .channels) (l .state .slots) (ch .slot) s like (p .command) (p .arg0) (p .arg1) (bodyOf received p)
+            ∙ sym (other-moves (readTakes l ch room) p (reads-same p ∙ e))))
 
         read-by : (r : Received) → ReceivedFits (negotiated l) received r → Moves l (read-move r) (readBy l ch room w1 s received r)
         unfolding readBy readDirect
-        read-by (Stop a used) k = ends-left l _ _ a used [] (left-own l _ used b0 still0 (stop-stays _ reads a used))
+        read-by (Stop a used) k = ends-left l _ _ a used [] (left-own l _ used b0 still0 (stop-stays (readTakes l ch room) a used))
         read-by (PacketIs p) k =
             pick (Moves l (read-move (PacketIs p))) (isDirect s room p)
-            (λ t. ends-left l _ _ _ (frameLen p) _ (left-own l _ (frameLen p) b0 still0 (own-stays _ reads p (or-left _ _ t))))
+            (λ t. ends-left l _ _ _ (frameLen p) _ (left-own l _ (frameLen p) b0 still0 (own-stays (readTakes l ch room) p (reads-same p ∙ or-left _ _ t))))
             (λ t. pick (Moves l (read-move (PacketIs p))) (closedBy (idsIn s) p)
-            (λ u. ends-left l _ _ _ (frameLen p) [] (left-own l _ (frameLen p) b0 still0 (own-stays _ reads p (or-right (isDirect s room p) _ t ∙ u))))
+            (λ u. ends-left l _ _ _ (frameLen p) [] (left-own l _ (frameLen p) b0 still0 (own-stays (readTakes l ch room) p (reads-same p ∙ or-right (isDirect s room p) _ t ∙ u))))
             (λ u. read-acted _ (frameLen p) _ (actS p)
             (left-moved l _ p (thenActed (then w1 (slotTo (ch .slot) s ∷ []) []) (actS p)) (acted-stored p k (or-right (isDirect s room p) _ t ∙ u)))))
 
@@ -383,15 +499,14 @@ module _ (l : Lent) (g : Whole (negotiated l) (l .state .header) (l .state .slot
             (λ t. ends-left l _ _ _ 0 [] (left-none l _ b0 still0))
         read-taken y (ClosedTaken e) = ends-left l _ _ _ 0 [] (left-none l _ b0 still0)
 
-      abbrev read-packet : QueueMove
-      read-packet = packetMove l (set (l .state .slots) (ch .slot) (readSlot l ch room)) (readTakes l ch room) received (receivedOf l received)
-
-      pub read-moves : Bytes received → Moves l read-packet (readStep l ch room received)
-      unfolding readStep readFirst readSlot readTakes
+      read-moves : Bytes received → Moves l (lentMove (readTakes l ch room) (receivedOf l received)) (readStep l ch room received)
+      unfolding readStep readFirst
       read-moves y =
-          pick (Moves l read-packet) (isThere l ch)
+          pick (Moves l (lentMove (readTakes l ch room) (receivedOf l received))) (isThere l ch)
           (λ t. let r = settledOf (slotFor l ch) (policy l) room in
-          read-taken (ackFrames (r .slot) (r .ack)) (at-frames l (ch .slot) _ (there-at l g ch t) _) (r .slot) (settled-live (negotiated l) (ch .slot) (slotFor l ch) (there-live l g ch t) room) y _)
+          let v = there-live l g ch t in
+          read-taken (ackFrames (r .slot) (r .ack)) (at-frames l (ch .slot) _ (there-at l g ch t) _) (r .slot) (settled-live (negotiated l) (ch .slot) (slotFor l ch) v room)
+          (settled-alike (slotFor l ch) (policy l) room (v .remote)) y _)
           (λ t. gone-moves _)
 
     -- ---- write
@@ -429,13 +544,13 @@ module _ (l : Lent) (g : Whole (negotiated l) (l .state .header) (l .state .slot
 
       write-by : (r : Received) → ReceivedFits (negotiated l) received r → Moves l (write-move r) (writeBy l ch out bytes b0 (slotFor l ch) received r)
       unfolding writeBy writeAct writeTakes
-      write-by (Stop a used) k = ends-left l _ b0 a used [] (left-own l _ used b0 still0 (stop-stays _ (writeTakes l ch) a used))
+      write-by (Stop a used) k = ends-left l _ b0 a used [] (left-own l _ used b0 still0 (stop-stays (writeTakes l ch) a used))
       write-by (PacketIs p) k =
           let mine = isReady (p .command) && eqb (p .arg1) (slotFor l ch .local .0) in
           pick (Moves l (write-move (PacketIs p))) mine
-          (λ t. write-readied _ (frameLen p) b0 (slotFor l ch) (left-own l _ (frameLen p) b0 still0 (own-stays _ (writeTakes l ch) p (or-left _ _ t))) _)
+          (λ t. write-readied _ (frameLen p) b0 (slotFor l ch) (left-own l _ (frameLen p) b0 still0 (own-stays (writeTakes l ch) p (or-left _ _ t))) _)
           (λ t. pick (Moves l (write-move (PacketIs p))) (closedBy (idsIn (slotFor l ch)) p)
-          (λ u. ends-left l _ _ _ (frameLen p) [] (left-own l _ (frameLen p) b0 still0 (own-stays _ (writeTakes l ch) p (or-right mine _ t ∙ u))))
+          (λ u. ends-left l _ _ _ (frameLen p) [] (left-own l _ (frameLen p) b0 still0 (own-stays (writeTakes l ch) p (or-right mine _ t ∙ u))))
           (λ u. write-acted _ (frameLen p) b0 (actD p) (left-moved l _ p (thenActed b0 (actD p)) (acted-dropped (writeTakes l ch) p k (or-right mine _ t ∙ u))) _))
 
       write-first : Bytes received → (b : Budget) → Moves l (write-move (receivedOf l received)) (writeFirst l ch out bytes received b0 (slotFor l ch) b)
@@ -444,7 +559,7 @@ module _ (l : Lent) (g : Whole (negotiated l) (l .state .header) (l .state .slot
       write-first y NoBudget =
           pick (Moves l (write-move (receivedOf l received))) (slotFor l ch .«has_remote») (λ t. write-by (receivedOf l received) (received-fits l received y)) (λ t. gone-moves _)
 
-      pub write-moves : Bytes received → Moves l (write-move (receivedOf l received)) (writeStep l ch out bytes received)
+      write-moves : Bytes received → Moves l (write-move (receivedOf l received)) (writeStep l ch out bytes received)
       unfolding writeStep writeOn
       write-moves y =
           let P = Moves l (write-move (receivedOf l received)) in
@@ -487,7 +602,7 @@ module _ (l : Lent) (g : Whole (negotiated l) (l .state .header) (l .state .slot
     open-by : (r : Received) → ReceivedFits (negotiated l) received r → Moves l (open-move r) (openBy l waitingId received r)
     unfolding openBy openTakes
     open-by (Stop a used) k =
-        ends-left l _ _ a used [] (left-own l _ used (begun (stillWaits a (l .state .header)) l) (begun-still l (stillWaits a (l .state .header)) (still-queued a (l .state .header))) (stop-stays _ (openTakes l) a used))
+        ends-left l _ _ a used [] (left-own l _ used (begun (stillWaits a (l .state .header)) l) (begun-still l (stillWaits a (l .state .header)) (still-queued a (l .state .header))) (stop-stays (openTakes l) a used))
     open-by (PacketIs p) k =
         let P = Moves l (open-move (PacketIs p)) in
         let mine = eqb (p .arg1) (l .state .header .waiting .local .0) in
@@ -495,11 +610,11 @@ module _ (l : Lent) (g : Whole (negotiated l) (l .state .header) (l .state .slot
         let w = isWrite (p .command) && mine in
         let c = isClose (p .command) && mine in
         pick P r
-        (λ t. open-readied _ waitingId (p .arg0) (frameLen p) _ (left-own l _ (frameLen p) b0 still0 (own-stays _ (openTakes l) p (or-left r (w || c) t))))
+        (λ t. open-readied _ waitingId (p .arg0) (frameLen p) _ (left-own l _ (frameLen p) b0 still0 (own-stays (openTakes l) p (or-left r (w || c) t))))
         (λ t. pick P w
-        (λ u. ends-left l _ _ _ (frameLen p) [] (left-own l _ (frameLen p) b0 still0 (own-stays _ (openTakes l) p (or-right r (w || c) t ∙ or-left w c u))))
+        (λ u. ends-left l _ _ _ (frameLen p) [] (left-own l _ (frameLen p) b0 still0 (own-stays (openTakes l) p (or-right r (w || c) t ∙ or-left w c u))))
         (λ u. pick P c
-        (λ v. ends-left l _ _ _ (frameLen p) [] (left-own l _ (frameLen p) b0 still0 (own-stays _ (openTakes l) p (or-right r (w || c) t ∙ or-right w c u ∙ v))))
+        (λ v. ends-left l _ _ _ (frameLen p) [] (left-own l _ (frameLen p) b0 still0 (own-stays (openTakes l) p (or-right r (w || c) t ∙ or-right w c u ∙ v))))
         (λ v. open-acted _ (frameLen p) (actH p)
         (left-moved l _ p (thenActed (begun (l .state .header) l) (actH p)) (acted-lent (openTakes l) p k (or-right r (w || c) t ∙ or-right w c u ∙ v))))))
 
@@ -510,7 +625,7 @@ module _ (l : Lent) (g : Whole (negotiated l) (l .state .header) (l .state .slot
         pick (Moves l m) (ltb maxPayload (length destination)) (λ t. ends-left l m _ _ 0 [] (left-none l m b0 still0))
         (λ t. pick (Moves l m) (ltb out (24 + length destination)) (λ u. untouched-still l m OutShort) (λ u. ends-left l m _ _ 0 [] (left-none l m b0 still0)))
 
-    pub open-moves : (out : ℕ) (destination : List ℕ) → Bytes received → Moves l (open-move (receivedOf l received)) (openStep l out destination received)
+    open-moves : (out : ℕ) (destination : List ℕ) → Bytes received → Moves l (open-move (receivedOf l received)) (openStep l out destination received)
     unfolding openStep
     open-moves out destination y =
         pick (Moves l (open-move (receivedOf l received))) (l .state .header .waiting .on) (λ t. open-by (receivedOf l received) (received-fits l received y))
@@ -556,7 +671,7 @@ module _ (l : Lent) (g : Whole (negotiated l) (l .state .header) (l .state .slot
       let z = empty-queue (nothing-waits e) in
       ends-queue l (begun hd l) Nothing 0 [] ∙ begun-still l hd refl ∙ z ∙ sym (ap (drop 1) z)
 
-  pub front-moves : queueO l (frontStep l) ≡ drop 1 (queueOf l)
+  front-moves : queueO l (frontStep l) ≡ drop 1 (queueOf l)
   unfolding frontStep
   front-moves = front-by (popped hd (l .state .opens) .result) refl
 
@@ -595,7 +710,7 @@ module _ (l : Lent) (g : Whole (negotiated l) (l .state .header) (l .state .slot
         })
     hands-by NoFront e x xs w = let z : [] ≡ x ∷ xs = sym (empty-queue (nothing-waits e)) ∙ w in let v : true ≡ false = cc in never (sym v)
 
-    pub front-hands : (x : Incoming) (xs : List Incoming) → queueOf l ≡ x ∷ xs → Hands x (frontStep l .store) (frontStep l .answer)
+    front-hands : (x : Incoming) (xs : List Incoming) → queueOf l ≡ x ∷ xs → Hands x (frontStep l .store) (frontStep l .answer)
     unfolding frontStep
     front-hands x xs w = hands-by (popped hd (l .state .opens) .result) refl x xs w
 
@@ -604,7 +719,7 @@ module _ (l : Lent) (g : Whole (negotiated l) (l .state .header) (l .state .slot
   none-by (FrontOpen q less) e w = let z = sym (front-queue q less e) ∙ w in let v : true ≡ false = cc in never (sym v)
   none-by NoFront e w = refl
 
-  pub front-none : queueOf l ≡ [] → frontStep l .answer ≡ Nothing
+  front-none : queueOf l ≡ [] → frontStep l .answer ≡ Nothing
   unfolding frontStep
   front-none w = none-by (popped hd (l .state .opens) .result) refl w
 
@@ -693,7 +808,7 @@ module _ (n : Negotiated) (r : List ℕ) (rx store : ℕ) (fit : storesFit (n .c
       subst (λ (o : Outcome). Hands x (o .store) (o .answer)) (sym (front-is w is-here fit-here whole-here))
       (front-hands (lent w) whole-here (long (negotiated (lent w)) (length (w .rx)) (length (w .store)) fit-here .store-long) x xs e)
 
-  pub queues : Queues (n .config .channels) w
+  queues : Queues (n .config .channels) w
   queues =
       record {
         moves = λ x. queue-after x ∙ call-moves w is-here fit-here whole-here x ∙ ap (λ (m : Negotiated). moved (m .config .channels) (moveOf w x) (queueIn w)) same;
