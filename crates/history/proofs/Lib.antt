@@ -9,6 +9,7 @@ pub mod Never13
 pub mod Opens
 pub mod Packets
 pub mod Places
+pub mod Queue
 pub mod Received
 pub mod Sending
 pub mod Steps

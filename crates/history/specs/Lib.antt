@@ -2,4 +2,5 @@ pub mod Book
 pub mod Demand3
 pub mod Never13
 pub mod NoLeak
+pub mod Queue
 pub mod Run
