@@ -42,7 +42,7 @@ pub data QueueMove : Type 0 where
   withdraws : RemoteId → QueueMove
   pops : QueueMove
 
--- IncomingQueue: `push_back` while fewer wait than there are channels, `withdraw`, `pop_front`
+-- `push_back`, which `act_on` does while fewer wait than there are channels; `withdraw`; `pop_front`
 unfoldable pub moved : ℕ → QueueMove → List Incoming → List Incoming
 moved channels stays q = q
 moved channels (pushes x) q = cond (ltb (length q) channels) (q ++ x ∷ []) q
