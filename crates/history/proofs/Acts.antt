@@ -400,7 +400,7 @@ wrote-state s p k =
     pick P (isOpening (s .state)) (λ o. refl)
     (λ o. pick P (ltb (p .«rx_cap») (heldOf s + k)) (λ h. refl) (λ h. pick P (acksNow s p (heldOf s + k)) (λ a. refl) (λ a. refl)))
 
-abbrev faulty : Failed → Bool
+abbrev pub faulty : Failed → Bool
 faulty No = false
 faulty (By f) = true
 

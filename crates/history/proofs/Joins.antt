@@ -41,12 +41,8 @@ use Rattle.history.proofs.Good.{Terms, Good, Limits, Leaves, new-good, 
 use Rattle.history.proofs.Heard.{openIn}
 use Rattle.history.proofs.Packets.{isOpened, markOf, mark-at, reads-arg0}
 use Rattle.history.proofs.Places.{slotsBy, slot-set-same, slot-set-other, TableOk}
-use Rattle.history.proofs.Opens.{open-call, Opens, fills, leaves, opens}
+use Rattle.history.proofs.Opens.{and-false, open-call, Opens, fills, leaves, opens}
 use Rattle.history.proofs.Steps.{seenOf, Fine}
-
-and-false : (x : Bool) → (x && false) ≡ false
-and-false true = refl
-and-false false = refl
 
 map-set : {A B : Type 0} (f : A → B) (l : List A) (i : ℕ) (a : A) → map f (set l i a) ≡ set (map f l) i (f a)
 map-set f [] i a = refl

@@ -52,7 +52,7 @@ use Rattle.history.proofs.Packets.{isOpened, Stops, Got, stopped, packe
 use Rattle.history.proofs.Places.{slotsBy, slot-set-other, TableOk}
 use Rattle.history.proofs.Steps.{seenOf, stop-good, packet-good, acted-good, not-four, tells-fault, waiting-four, Fine, ends-fine}
 
-and-false : (x : Bool) → (x && false) ≡ false
+pub and-false : (x : Bool) → (x && false) ≡ false
 and-false true = refl
 and-false false = refl
 

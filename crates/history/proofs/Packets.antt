@@ -37,7 +37,7 @@ use Rattle.connection.specs.declared.Refusal.the-variants.{InvalidCommand, Inva
 use Rattle.connection.specs.Answer.{refusalNumber, numberOf}
 use Rattle.connection.specs.Calls.{Lent, receivedBy, receivedOf, isWrite, isReady, bodyOf, frameLen}
 use Rattle.history.specs.Book.{Book, Mark, noMark, hasRemote, isWrte, isClse, isEarly, headerAt, payloadAt, closesB, ownEnd}
-use Rattle.history.proofs.Places.{TableOk, first-le, place-found, place-le}
+use Rattle.history.proofs.Places.{TableOk, first-le, found-there, place-le}
 use Rattle.history.proofs.Acts.{endsOf}
 
 and-cond : (x y : Bool) → (x && y) ≡ cond x y false
@@ -218,7 +218,7 @@ module _ (p : RxPolicy) (n : ℕ) (ss : List ChannelSlot) (rx : List ℕ) (ok : 
         let y = ok .most in
         let b = ok .below i there in
         let l = length-map ss markOf in
-        let w : wantedBy (Remote (record { 0 = r })) (slotIn ss i) ≡ true = ap (λ (x : ℕ). wantedBy (Remote (record { 0 = r })) (slotIn ss x)) (sym e) ∙ place-found p n ss rx ok (Remote (record { 0 = r })) (omega arith) in
+        let w : wantedBy (Remote (record { 0 = r })) (slotIn ss i) ≡ true = ap (λ (x : ℕ). wantedBy (Remote (record { 0 = r })) (slotIn ss x)) (sym e) ∙ found-there p n ss rx ok (Remote (record { 0 = r })) (omega arith) in
         let le : F ≤ i = first-le (hasRemote r) (map markOf ss) i noMark (omega arith) (wanted-mark i there ∙ w) in
         let m = first-found (hasRemote r) (map markOf ss) noMark (omega arith) in
         let t = marked-there F m in
@@ -234,7 +234,7 @@ module _ (p : RxPolicy) (n : ℕ) (ss : List ChannelSlot) (rx : List ℕ) (ok : 
         let m = first-found (hasRemote r) (map markOf ss) noMark (omega arith) in
         let w : wantedBy (Remote (record { 0 = r })) (slotIn ss i) ≡ true = sym (wanted-mark i there) ∙ ap (λ (x : ℕ). hasRemote r (getD (map markOf ss) x noMark)) (sym e) ∙ m in
         let le = place-le p n ss rx ok (Remote (record { 0 = r })) i b w in
-        let v = place-found p n ss rx ok (Remote (record { 0 = r })) (omega arith) in
+        let v = found-there p n ss rx ok (Remote (record { 0 = r })) (omega arith) in
         let t = wanted-filled f v in
         let ge : F ≤ f = first-le (hasRemote r) (map markOf ss) f noMark (let h = ok .below f t in omega arith) (wanted-mark f t ∙ v) in
         omega arith

@@ -41,7 +41,8 @@ use Rattle.table.specs.declared.Want.{Want}
 use Rattle.table.specs.declared.Want.the-variants.{Local, Remote}
 use Rattle.table.specs.Table.{first, wantedBy, placeOf}
 use Rattle.table.specs.Dispatch.{left, stored, slotIn, faulted, remotePlace, closedAt, closeOf, readiedOf, granted, readyAt, strayOf, grantOf, Dispatched, with, shareOf, bufferedIn, wroteBy, wroteAt, writeOf, routeOf}
-use Rattle.table.proofs.DispatchLaws.{first-found, fits, share-in, buffered-own, buffered-other}
+use Rattle.table.proofs.KeepLaws.{place-found}
+use Rattle.table.proofs.DispatchLaws.{fits, share-in, buffered-own, buffered-other}
 use Rattle.connection.specs.Calls.{isWrite}
 use Rattle.history.specs.Demand3.{runOf}
 use Rattle.history.proofs.Good.{Leaves}
@@ -110,14 +111,11 @@ first-le q (x ∷ l) (suc i) d h e =
 
 module _ (p : RxPolicy) (n : ℕ) (ss : List ChannelSlot) (rx : List ℕ) (ok : TableOk p n ss rx) where
   -- what a walk below n finds
-  pub place-found : (w : Want) → placeOf w n ss < n → wantedBy w (slotIn ss (placeOf w n ss)) ≡ true
-  unfolding placeOf slotIn
-  place-found w h =
+  pub found-there : (w : Want) → placeOf w n ss < n → wantedBy w (slotIn ss (placeOf w n ss)) ≡ true
+  found-there w h =
       let z = ok .size in
       let y = ok .most in
-      let m : length (take n ss) ≡ n = length-take-le n ss (omega arith) in
-      let f = first-found (wantedBy w) (take n ss) emptySlot (subst (λ (x : ℕ). first (wantedBy w) (take n ss) < x) (sym m) h) in
-      ap (wantedBy w) (sym (getD-take n ss (first (wantedBy w) (take n ss)) emptySlot h)) ∙ f
+      place-found w n ss (omega arith) h
 
   pub place-le : (w : Want) (i : ℕ) → i < n → wantedBy w (slotIn ss i) ≡ true → placeOf w n ss ≤ i
   unfolding placeOf slotIn
@@ -129,13 +127,13 @@ module _ (p : RxPolicy) (n : ℕ) (ss : List ChannelSlot) (rx : List ℕ) (ok : 
 
   pub found-filled : (l : LocalId) → placeOf (Local l) n ss < n → slotIn ss (placeOf (Local l) n ss) .filled ≡ true
   unfolding wantedBy
-  found-filled l h = and-true _ _ (place-found (Local l) h) .0
+  found-filled l h = and-true _ _ (found-there (Local l) h) .0
 
   pub found-local : (l : LocalId) → placeOf (Local l) n ss < n → slotIn ss (placeOf (Local l) n ss) .local .0 ≡ l .0
   unfolding wantedBy
   found-local l h =
       let s = slotIn ss (placeOf (Local l) n ss) in
-      eqb-true (s .local .0) (l .0) (and-true (s .filled) (eqb (s .local .0) (l .0)) (place-found (Local l) h) .1)
+      eqb-true (s .local .0) (l .0) (and-true (s .filled) (eqb (s .local .0) (l .0)) (found-there (Local l) h) .1)
 
   -- a channel is found by its local number
   pub own-place : (i : ℕ) (l : LocalId) → slotIn ss i .filled ≡ true → slotIn ss i .local .0 ≡ l .0 → placeOf (Local l) n ss ≡ i

@@ -37,6 +37,7 @@ use Rattle.history.proofs.WholeAct.{PacketFits}
 
 -- ---- bytes
 
+-- numbers as bytes are bytes
 pub bytes-in : (l : List ℕ) → Bytes (bytesIn l)
 unfolding bytesIn
 bytes-in [] k = omega arith

@@ -42,7 +42,7 @@ use Rattle.connection.specs.Frames.{Frame}
 use Rattle.history.specs.Run.{Sent, Seen}
 use Rattle.history.specs.Book.{Book, Mark, sentB, ackedB, handedB, settleB, isRefused, isEarly, isWrte, headerAt, payloadAt, damagedB, frameB, packetB, acksOf, acksB, closesB}
 use Rattle.history.specs.Demand3.{runOf}
-use Rattle.history.proofs.Acts.{acksIn, acks-append, mineOf, endsOf, acted-acks, acted-at, Tells, good-by, at-good}
+use Rattle.history.proofs.Acts.{acksIn, acks-append, mineOf, endsOf, acted-acks, acted-at, Tells, good-by, at-good, faulty}
 use Rattle.history.proofs.Good.{Terms, Good, Limits, Settles, already, not-due, due, settles, sent-good, acked-none}
 use Rattle.history.proofs.Packets.{Stops, markOf, reads-write, reads-arg1, reads-payload, body-small, closes-agree}
 use Rattle.history.proofs.Places.{slotsBy, slots-append, slot-set-same, slot-set-other, SameRun, TableOk}
@@ -187,12 +187,8 @@ pub over-told : (fault : Failed) (a : Answer) → fault ≡ By RxOverflow → (i
 unfolding unlessFault faultRefusal numberOf refusalNumber
 over-told fault a e = (ap (λ (x : Failed). isRefused (unlessFault x a)) e, ap (λ (x : Failed). eqb (numberOf (unlessFault x a)) 11) e)
 
-abbrev isFault : Failed → Bool
-isFault No = false
-isFault (By f) = true
-
 pub fault-apart : No ≡ By RxOverflow → ⊥
-fault-apart e = true≢false (sym (ap isFault e))
+fault-apart e = true≢false (sym (ap faulty e))
 
 pub unless-is : (fault : Failed) (f : ChannelFault) → fault ≡ By f → unlessFault fault Waiting ≡ Refused (faultRefusal f)
 unfolding unlessFault

@@ -64,6 +64,7 @@ use Rattle.history.proofs.Acts.{acksIn}
 use Rattle.history.proofs.Heard.{FrameFits, Writes, heard-acks, openIn, heard-open, heardOf, heard-call}
 use Rattle.history.proofs.Packets.{Got, stopped, packet, got, reads-arg0, reads-arg1, body-length}
 use Rattle.history.proofs.Places.{slots-by, slot-set-same, slot-set-other}
+use Rattle.history.proofs.Received.{bytes-in}
 use Rattle.history.proofs.Sending.{IdsFit, Few, bytes-append, bytes-one, few-none, few-join, few-close, few-ack, Rests, quiet, same, clear, Own, Readied-ids, ready-ids, some, Acts, acts, settled-ids, settled-small, silent-clear, silent-again, Taking, took, nothing, shut, taking, no-data, delivered-ids, delivered-small}
 
 -- ---- what is asked of a state
@@ -569,13 +570,6 @@ module _ (l : Lent) (able : Able l) (out room : ℕ) where
           (λ t. idle h₀ _ 0)
 
 -- ---- each call
-
--- numbers as bytes are bytes
-pub bytes-in : (l : List ℕ) → Bytes (bytesIn l)
-unfolding bytesIn
-bytes-in [] k = omega arith
-bytes-in (x ∷ l) zero = omega arith
-bytes-in (x ∷ l) (suc k) = bytes-in l k
 
 -- the buffers that a call is lent
 abbrev pub outOf : Call → List ℕ
