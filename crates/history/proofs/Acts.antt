@@ -2,11 +2,11 @@
 use mathlib.Core.Path.{_≡_, refl, sym, ap, subst, _∙_}
 use mathlib.Core.Bool.{Bool, true, false, not, cond, _&&_, _||_, true≢false}
 use mathlib.Core.List.{List, [], _∷_, _++_}
-use Prim.Native.Nat.{ℕ, zero, suc, _+_, _-_, _*_, _≤_, _<_, min}
+use Prim.Native.Nat.{ℕ, _+_, _-_, _*_, _≤_, _<_}
 use native.Mathlib.Omega.{arith}
 use lib.Dec.{eqb, ltb, leb}
 use lib.ListN.{length}
-use borrow.Author.Tests.{eqb-true, eqb-false, eq-eqb, ne-eqb, ltb-true}
+use borrow.Author.Tests.{eq-eqb, ne-eqb, ltb-true}
 use Rattle.table.proofs.DispatchLaws.{share-in, length-buffered}
 use Rattle.le.proofs.Parts.{by-test}
 use Rattle.config.specs.declared.negotiated.RxPolicy.{RxPolicy}
@@ -22,8 +22,7 @@ use Rattle.slot.specs.declared.ids.LocalId.{LocalId}
 use Rattle.slot.specs.declared.ids.RemoteId.{RemoteId}
 use Rattle.slot.specs.declared.AckDecision.{AckDecision}
 use Rattle.slot.specs.declared.AckDecision.the-variants.{Now, Hold, Overflow, Early}
-use Rattle.slot.specs.declared.ChannelFault.{ChannelFault as Fault}
-use Rattle.slot.specs.declared.ChannelFault.the-variants.{RxOverflow, ShortReadyPayload, UnexpectedCommand}
+use Rattle.slot.specs.declared.ChannelFault.the-variants.{RxOverflow}
 use Rattle.slot.specs.declared.ChannelSlot.{ChannelSlot}
 use Rattle.slot.specs.declared.Credit.{Credit}
 use Rattle.slot.specs.declared.Credit.the-variants.{Of, Short as CreditShort}
@@ -36,6 +35,7 @@ use Rattle.slot.specs.declared.Readied.the-variants.{Slot, Short}
 use Rattle.slot.specs.declared.Wrote.{Wrote}
 use Rattle.slot.specs.Ids.{isClose}
 use Rattle.slot.specs.Slot.{isOpening, isClosed, bufferedWith, isFailed, acksNow, wroteOf, creditOf, readyBy, readyOf, closedSlot, heldOf, SlotOk}
+use Rattle.slot.proofs.Stays.{Stays, stays-same, ReadiedStays, ready-stays, wrote-stays, closed-stays}
 use Rattle.slot.proofs.Kept.{pick, wrote-sound, Readied-sound, ready-sound, closed-sound}
 use Rattle.slot.proofs.Laws.{cond-true, cond-false}
 use Rattle.state.specs.declared.Header.{Header}
@@ -49,12 +49,12 @@ use Rattle.table.specs.Dispatch.{remotePlace, readiedOf, slotIn, Dispatched, wr
 use Rattle.connection.specs.declared.Answer.{Answer}
 use Rattle.connection.specs.Act.{Acted, pushedBy, actedBy, tableOf, actOn}
 use Rattle.connection.specs.Answer.{ackLength, numberOf}
-use Rattle.connection.specs.Calls.{ackFrames, idsIn, isWrite}
+use Rattle.connection.specs.Calls.{ackFrames, isWrite}
 use Rattle.connection.specs.Frames.{Frame, okayFrame, closeFrame, openFrame, writeFrame}
-use Rattle.history.specs.Book.{Book, Mark, sentB, acceptedB, closedB, overB, isRefused, isWrte, closesB, wrteB, frameB}
+use Rattle.history.specs.Book.{Book, Mark, sentB, closedB, overB, isRefused, isWrte, closesB, wrteB, frameB}
 use Rattle.history.specs.Demand3.{runOf}
-use Rattle.history.proofs.Good.{Terms, Good, Limits, Leaves, carried, carried-none, sent-good, quiet-good, refuse-good, accept-good, shut-good, ready-good}
-use Rattle.history.proofs.Places.{SameRun, ready-run, found-filled, room-for, Decides, buffers, overflows, isTaken, decides, slotsBy, slots-append, TableOk, faultOf, At, apart, wrote, over, credited, shut, AtPlace, closes, at-route}
+use Rattle.history.proofs.Good.{Terms, Good, Limits, Leaves, carried, carried-none, refuse-good, accept-good, shut-good, ready-good}
+use Rattle.history.proofs.Places.{SameRun, ready-run, found-filled, room-for, Decides, buffers, overflows, isTaken, decides, slotsBy, slots-append, TableOk, faultOf, At, apart, wrote, over, credited, shut, at-route}
 
 -- ---- the credit of frames
 
@@ -347,13 +347,6 @@ module _ (p : RxPolicy) (s : ChannelSlot) (q payload : List ℕ) (sound : SlotOk
   at-sound mine ends t r fault (credited e1 e2 e3 e4) = subst (Readied-sound (p .«rx_cap»)) e3 (ready-sound s payload p (p .«rx_cap») sound)
   at-sound mine ends t r fault (shut e1 e2 e3 e4) = subst (λ (x : ChannelSlot). SlotOk x (p .«rx_cap»)) (sym e3) (closed-sound s (p .«rx_cap») sound)
 
--- its numbers as a channel
-pub record Named (s t : ChannelSlot) : Type 0 where
-  pub filled : t .filled ≡ s .filled
-  pub local : t .local ≡ s .local
-  pub remote : t .remote ≡ s .remote
-  pub known : t .«has_remote» ≡ s .«has_remote»
-
 ready-live-by : (s : ChannelSlot) (c : Credit) → isClosed (s .state) ≡ false → Leaves (λ (x : ChannelSlot). isClosed (x .state) ≡ false) (readyBy s c)
 unfolding readyBy
 ready-live-by s (Of z) h = h
@@ -363,34 +356,13 @@ ready-live : (s : ChannelSlot) (payload : List ℕ) (p : RxPolicy) → isClosed 
 unfolding readyOf
 ready-live s payload p h = pick (Leaves (λ (x : ChannelSlot). isClosed (x .state) ≡ false)) (p .delayed) (λ d. ready-live-by s (creditOf payload) h) (λ d. h)
 
-pub wrote-named : (s : ChannelSlot) (p : RxPolicy) (k : ℕ) → Named s (wroteOf s p k .slot)
-unfolding wroteOf bufferedWith
-wrote-named s p k =
-    let P : Wrote → Type 0 = λ w. Named s (w .slot) in
-    let same-one : Named s s = record { filled = refl; local = refl; remote = refl; known = refl } in
-    pick P (isOpening (s .state)) (λ o. same-one)
-    (λ o. pick P (ltb (p .«rx_cap») (heldOf s + k)) (λ h. same-one)
-    (λ h. pick P (acksNow s p (heldOf s + k)) (λ a. record { filled = refl; local = refl; remote = refl; known = refl }) (λ a. record { filled = refl; local = refl; remote = refl; known = refl })))
-
-ready-named-by : (s : ChannelSlot) (c : Credit) → Leaves (Named s) (readyBy s c)
-unfolding readyBy
-ready-named-by s (Of z) = record { filled = refl; local = refl; remote = refl; known = refl }
-ready-named-by s CreditShort = tt
-
-pub ready-named : (s : ChannelSlot) (payload : List ℕ) (p : RxPolicy) → Leaves (Named s) (readyOf s payload p)
-unfolding readyOf
-ready-named s payload p = pick (Leaves (Named s)) (p .delayed) (λ d. ready-named-by s (creditOf payload)) (λ d. record { filled = refl; local = refl; remote = refl; known = refl })
-
-pub closed-named : (s : ChannelSlot) → Named s (closedSlot s)
-unfolding closedSlot
-closed-named s = record { filled = refl; local = refl; remote = refl; known = refl }
-
-pub at-named : (p : RxPolicy) (s : ChannelSlot) (q payload : List ℕ) (mine ends : Bool) (t : ChannelSlot) (r : List ℕ) (fault : Failed) → At p s q payload mine ends t r fault → Named s t
-at-named p s q payload mine ends t r fault (apart e1 e2 e3 e4) = subst (Named s) (sym e3) (record { filled = refl; local = refl; remote = refl; known = refl })
-at-named p s q payload mine ends t r fault (wrote e1 h e3 e4 e5) = subst (Named s) (sym e3) (wrote-named s p (length payload))
-at-named p s q payload mine ends t r fault (over e1 h e3 e4 e5) = subst (Named s) (sym e3) (record { filled = refl; local = refl; remote = refl; known = refl })
-at-named p s q payload mine ends t r fault (credited e1 e2 e3 e4) = subst (Leaves (Named s)) e3 (ready-named s payload p)
-at-named p s q payload mine ends t r fault (shut e1 e2 e3 e4) = subst (Named s) (sym e3) (closed-named s)
+-- its numbers as a channel stay
+pub at-named : (p : RxPolicy) (s : ChannelSlot) (q payload : List ℕ) (mine ends : Bool) (t : ChannelSlot) (r : List ℕ) (fault : Failed) → At p s q payload mine ends t r fault → Stays s t
+at-named p s q payload mine ends t r fault (apart e1 e2 e3 e4) = subst (Stays s) (sym e3) (stays-same s)
+at-named p s q payload mine ends t r fault (wrote e1 h e3 e4 e5) = subst (Stays s) (sym e3) (wrote-stays s p (length payload))
+at-named p s q payload mine ends t r fault (over e1 h e3 e4 e5) = subst (Stays s) (sym e3) (stays-same s)
+at-named p s q payload mine ends t r fault (credited e1 e2 e3 e4) = subst (ReadiedStays s) e3 (ready-stays s payload p)
+at-named p s q payload mine ends t r fault (shut e1 e2 e3 e4) = subst (Stays s) (sym e3) (closed-stays s)
 
 -- a WRTE of its own that fits is not refused, and does not close it
 wrote-state : (s : ChannelSlot) (p : RxPolicy) (k : ℕ) → wroteOf s p k .slot .state ≡ s .state

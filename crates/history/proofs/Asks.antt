@@ -1,12 +1,11 @@
 -- An open waits after a call only where an open call left it so, and then the last OPEN written carried our credit. Assumes
 -- nothing.
-use mathlib.Core.Path.{_≡_, refl, sym, ap, subst, _∙_}
-use mathlib.Core.Bool.{Bool, true, false, cond, _&&_, true≢false}
+use mathlib.Core.Path.{_≡_, refl, sym, ap, _∙_}
+use mathlib.Core.Bool.{Bool, true, false, _&&_, true≢false}
 use mathlib.Core.List.{List, [], _∷_, _++_}
 use Prim.Native.Nat.{ℕ, _+_}
 use lib.Dec.{eqb, ltb, leb}
 use lib.ListN.{length, set, take}
-use Rattle.le.proofs.Parts.{by-test}
 use Rattle.config.specs.declared.negotiated.RxPolicy.{RxPolicy}
 use Rattle.config.specs.Negotiated.{creditOf}
 use Rattle.incoming.specs.declared.Front.{Front}
@@ -28,9 +27,8 @@ use Rattle.slot.specs.declared.Settled.{Settled}
 use Rattle.slot.specs.declared.Taken.{Taken}
 use Rattle.slot.specs.declared.Taken.the-variants.{Data, Nothing as NothingTaken, Closed as ClosedTaken}
 use Rattle.slot.specs.Ids.{isClose, closedBy}
-use Rattle.slot.specs.Slot.{isClosed, settledOf, takenOf, deliveredOf, budgetOf, spentOf, readyOf, openedOf, openingSlot}
+use Rattle.slot.specs.Slot.{isClosed, takenOf, budgetOf, spentOf, readyOf}
 use Rattle.slot.proofs.Kept.{pick}
-use Rattle.slot.proofs.Laws.{cond-true, cond-false}
 use Rattle.state.specs.declared.Header.{Header}
 use Rattle.state.specs.declared.PendingOpen.{PendingOpen}
 use Rattle.state.specs.Change.{Step, Change, slotTo, changedAll}
@@ -40,7 +38,7 @@ use Rattle.table.specs.declared.ChannelId.{ChannelId}
 use Rattle.table.specs.declared.DispatchOutcome.{DispatchOutcome}
 use Rattle.table.specs.declared.DispatchOutcome.the-variants.{AckWrite, CreditGranted, SlotClosed, DataBuffered, IncomingOpen, CancelPendingOpen, StrayReady, ChannelFault, Unmatched}
 use Rattle.table.specs.Table.{allocated, numbered}
-use Rattle.table.specs.Dispatch.{Dispatched, slotIn}
+use Rattle.table.specs.Dispatch.{Dispatched}
 use Rattle.connection.specs.declared.Answer.{Answer}
 use Rattle.connection.specs.declared.Answer.the-variants.{Done, Waiting, Nothing, Opened, Settled as SettledIs, Read, Written, Front as FrontIs, Refused}
 use Rattle.connection.specs.declared.Received.{Received}
@@ -48,8 +46,8 @@ use Rattle.connection.specs.declared.Received.the-variants.{Packet as PacketIs,
 use Rattle.connection.specs.declared.Refusal.{Refusal}
 use Rattle.connection.specs.declared.Refusal.the-variants.{OutShort, NoFreeChannels, PayloadTooLarge}
 use Rattle.connection.specs.Act.{Acted, pushedBy, actedBy, tableOf, actOn}
-use Rattle.connection.specs.Calls.{Lent, Outcome, Work, begun, then, thenActed, withHeader, ends, untouched, dropped, waitingFor, policy, bodyOf, frameLen, idsIn, isThere, slotFor, receivedOf, unlessFault, stillWaits, isWrite, isReady, dispatchBy, dispatchStep, settledAs, settleStep, takenBy, takeStep, reread, readSettled, readActed, isDirect, readDirect, readBy, readTaken, readFirst, readStep, sendSome, sendBy, sendAgain, writeReadied, writeActed, writeAct, writeBy, writeFirst, writeOn, writeStep, closeStep, frontBy, frontStep, openOn, openReadied, openActed, openBy, openStep}
-use Rattle.connection.specs.Frames.{Frame, okayFrame, closeFrame, openFrame, writeFrame, framesBytes}
+use Rattle.connection.specs.Calls.{Lent, Outcome, Work, begun, then, thenActed, withHeader, ends, untouched, dropped, policy, bodyOf, frameLen, idsIn, isThere, slotFor, receivedOf, unlessFault, stillWaits, isWrite, isReady, dispatchBy, dispatchStep, settledAs, settleStep, takenBy, takeStep, reread, readSettled, readActed, isDirect, readDirect, readBy, readTaken, readFirst, readStep, sendSome, sendBy, sendAgain, writeReadied, writeActed, writeAct, writeBy, writeFirst, writeOn, writeStep, closeStep, frontBy, frontStep, openOn, openReadied, openActed, openBy, openStep}
+use Rattle.connection.specs.Frames.{writeFrame, framesBytes}
 use Rattle.history.proofs.Heard.{openIn}
 use Rattle.history.proofs.Steps.{ends-header}
 

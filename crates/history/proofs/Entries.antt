@@ -2,7 +2,7 @@
 use mathlib.Core.Path.{_≡_, refl, sym, ap, ap₂, subst, _∙_}
 use mathlib.Core.Bool.{Bool, true, false, not, cond, _&&_, _||_, true≢false}
 use mathlib.Core.List.{List, [], _∷_, _++_, map, append-nil}
-use Prim.Native.Nat.{ℕ, zero, suc, _+_, _-_, _*_, _≤_, _<_, min}
+use Prim.Native.Nat.{ℕ, _+_, _-_, _*_, _≤_, _<_}
 use native.Mathlib.Omega.{arith}
 use lib.Dec.{eqb, ltb, leb}
 use lib.ListN.{length, take, drop, set}
@@ -22,8 +22,7 @@ use Rattle.slot.specs.declared.Failed.{Failed}
 use Rattle.slot.specs.declared.Failed.the-variants.{No, By}
 use Rattle.slot.specs.declared.Settled.{Settled}
 use Rattle.slot.specs.declared.ChannelError.{ChannelError}
-use Rattle.slot.specs.declared.ChannelError.the-variants.{Closed as ErrorClosed, Fault}
-use Rattle.slot.specs.declared.ChannelFault.the-variants.{RxOverflow, ShortReadyPayload, UnexpectedCommand}
+use Rattle.slot.specs.declared.ChannelFault.the-variants.{ShortReadyPayload}
 use Rattle.slot.specs.declared.Budget.{Budget}
 use Rattle.slot.specs.declared.Budget.the-variants.{Bytes, Nothing as NoBudget}
 use Rattle.slot.specs.declared.Readied.{Readied}
@@ -32,12 +31,13 @@ use Rattle.slot.specs.declared.Taken.{Taken}
 use Rattle.slot.specs.declared.Taken.the-variants.{Data, Nothing as NothingTaken, Closed as ClosedTaken}
 use Rattle.slot.specs.declared.ids.ChannelIds.{ChannelIds}
 use Rattle.slot.specs.declared.ids.LocalId.{LocalId}
-use Rattle.slot.specs.Ids.{isClose, namedBy, closedBy}
+use Rattle.slot.specs.Ids.{isClose, closedBy}
 use Rattle.slot.specs.Slot.{budgetOf, spentOf, readyOf, closedSlot, deliveredOf, emptySlot, settledOf, tookOf, takenOf, takeLen, hasData, isClosed, errorOf, heldOf, SlotOk}
+use Rattle.slot.proofs.Stays.{Stays}
 use Rattle.slot.proofs.Kept.{pick, settled-sound}
 use Rattle.slot.proofs.Laws.{cond-true, cond-false, take-held}
 use Rattle.state.specs.declared.Header.{Header}
-use Rattle.state.specs.Change.{changedAll, Step, Change, slotTo, headerTo}
+use Rattle.state.specs.Change.{changedAll, Step, Change, slotTo}
 use Rattle.incoming.specs.declared.Front.{Front}
 use Rattle.incoming.specs.declared.Front.the-variants.{Open as FrontOpen, Nothing as NoFront}
 use Rattle.incoming.specs.Incoming.{popped}
@@ -47,19 +47,19 @@ use Rattle.connection.specs.declared.Answer.{Answer}
 use Rattle.connection.specs.declared.Answer.the-variants.{Done, Waiting, Nothing, Settled as SettledIs, Read, Written, Front as FrontIs, Refused}
 use Rattle.connection.specs.declared.Refusal.the-variants.{ChannelClosed, OutShort, ShortReadyPayload as ReadyShort}
 use Rattle.connection.specs.declared.Received.{Received}
-use Rattle.connection.specs.declared.Received.the-variants.{Packet as PacketIs, Stop}
+use Rattle.connection.specs.declared.Received.the-variants.{Packet as PacketIs}
 use Rattle.connection.specs.Act.{Acted, actOn}
 use Rattle.connection.specs.Answer.{refusalNumber, numberOf}
 use Rattle.table.specs.declared.ChannelId.{ChannelId}
 use Rattle.table.specs.declared.Want.the-variants.{Remote}
 use Rattle.table.specs.Table.{first, wantedBy, placeOf}
 use Rattle.connection.specs.Calls.{untouched, sendLen, sendSome, sendBy, sendAgain, writeReadied, writeActed, writeAct, writeBy, writeFirst, writeOn, writeStep, isReady, isWrite, faultRefusal, readDirect, readActed, readSettled, reread, isDirect, readBy, readTaken, readFirst, readStep, idsIn, closeStep, frontBy, frontStep, errorRefusal, frontOf, takenBy, takeStep, ackFrames, settledAs, settleStep, isThere, slotFor, Lent, Outcome, Work, begun, then, thenActed, ends, dropped, policy, bodyOf, frameLen, receivedOf, unlessFault, dispatchBy, dispatchStep}
-use Rattle.history.specs.Run.{Sent, Seen}
+use Rattle.history.specs.Run.{Sent}
 use Rattle.history.specs.Book.{writeB, isClse, hasRemote, endsOther, noMark, ownEnd, acceptedB, sentB, closedB, damagedB, isWrte, payloadAt, Mark, readB, readUsedB, isRefused, handedB, isEarly, settleB, isOn, Book, ackedB, acksOf, acksB, packetB, frameB, headerAt, never}
 use Rattle.history.specs.Demand3.{runOf}
-use Rattle.history.proofs.Acts.{frame-none, at-keeps, at-stays, Named, at-named, at-sound, at-fits, at-live, acted-length, acks-own, acks-other, acksIn, acks-append, mineOf, endsOf, acted-acks, acted-at, Tells, good-by, at-good}
+use Rattle.history.proofs.Acts.{frame-none, at-keeps, at-stays, at-named, at-sound, at-fits, at-live, acted-length, acks-own, acks-other, acksIn, acks-append, mineOf, endsOf, acted-acks, acted-at, Tells, good-by}
 use Rattle.history.proofs.Good.{Terms, settled-takes, ready-good, spent-good, Leaves, deliver-good, shut-good, settle-empty, acked-drop, took-good, handed-none, Good, Limits, acked-none, carried, settle-good}
-use Rattle.history.proofs.Packets.{Stops, Got, stopped, packet, got, markOf, reads-write, reads-close, reads-arg0, reads-arg1, reads-payload, ready-no-write, write-no-close, reads-end, mark-at, body-length, body-small, closes-agree}
+use Rattle.history.proofs.Packets.{Stops, Got, stopped, packet, got, markOf, reads-write, reads-close, reads-arg1, reads-payload, ready-no-write, write-no-close, reads-end, mark-at, body-length, body-small}
 use Rattle.history.proofs.Places.{closed-run, ready-run, At, slots-by, slots-append, slots-length, slotsBy, slot-set-same, slot-set-other, SameRun, TableOk}
 use Rattle.history.proofs.Steps.{fault-apart, unless-is, waiting-four, spent-run, late-error, late-unless, four-error, over-told, table-set, delivered-same, damaged-good, nil-of, Alike, settled-alike, settled-run, acted-good, seenOf, stop-good, packet-good, not-four, tells-fault, Fine, ends-fine}
 
@@ -609,7 +609,7 @@ module _ (l : Lent) (credit : Terms) (ok : TableOk (policy l) (l .state .header 
               (ap (λ (x : ℕ). part (shareOf (act .rx) (p .«rx_cap») i) x (r3 .slot .buffered)) (w .head) ∙ ap (part (shareOf (act .rx) (p .«rx_cap») i) (slotIn ts i .head)) (w .more)) refl
               (settle-good p credit (slotIn ts i) _ _ room gg)
 
-          named2 : Named (slotIn ss1 i) (slotIn ts i)
+          named2 : Stays (slotIn ss1 i) (slotIn ts i)
           named2 = at-named p _ _ _ _ _ _ _ _ at2
 
           known2 : slotIn ts i .«has_remote» ≡ true

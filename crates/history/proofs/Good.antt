@@ -3,12 +3,12 @@
 use mathlib.Core.Path.{_≡_, refl, sym, ap, subst, _∙_}
 use mathlib.Core.Bool.{Bool, true, false, not, cond, _&&_, _||_, true≢false}
 use mathlib.Core.List.{List, [], _∷_, _++_, append-assoc, append-nil}
-use Prim.Native.Nat.{ℕ, zero, suc, _+_, _-_, _*_, _^_, _≤_, _<_, min}
+use Prim.Native.Nat.{ℕ, suc, _+_, _-_, _*_, _^_, _≤_, _<_, min}
 use native.Mathlib.Omega.{arith}
 use lib.Dec.{eqb, ltb, leb}
 use lib.IntN.{ℤ}
 use lib.ListN.{length, take, drop, length-append, length-take, length-drop, take-append-drop}
-use borrow.Author.Tests.{eqb-true, eqb-false, eq-eqb, ne-eqb, ltb-true, ltb-false, le-ltb, leb-true, leb-false}
+use borrow.Author.Tests.{eqb-true, eqb-false, eq-eqb, ltb-true, le-ltb}
 use Rattle.le.proofs.Parts.{by-test}
 use Rattle.config.specs.declared.negotiated.RxPolicy.{RxPolicy}
 use Rattle.config.proofs.Laws.{and-true}
@@ -20,16 +20,15 @@ use Rattle.slot.specs.declared.Credit.the-variants.{Of, Short as CreditShort}
 use Rattle.slot.specs.declared.Readied.{Readied}
 use Rattle.slot.specs.declared.Readied.the-variants.{Slot, Short}
 use Rattle.slot.specs.declared.ChannelSlot.{ChannelSlot}
-use Rattle.slot.specs.declared.ChannelState.the-variants.{Closed}
 use Rattle.slot.specs.declared.PendingAck.{PendingAck}
 use Rattle.slot.specs.declared.PendingAck.the-variants.{Len, Nothing}
 use Rattle.slot.specs.declared.Settled.{Settled}
-use Rattle.slot.specs.Slot.{takeLen, openingSlot, openedBy, openedOf, creditOf, readyBy, readyOf, spentOf, isOpening, acksNow, wroteOf, emptySlot, withRemote, withState, withNumbers, withSending, acked, isClosed, heldOf, bufferedWith, someLen, deliveredOf, ackLenOf, settledBy, settledSome, settledOf, tookOf, closedSlot}
+use Rattle.slot.specs.Slot.{takeLen, openingSlot, openedBy, openedOf, creditOf, readyBy, readyOf, spentOf, isOpening, acksNow, wroteOf, withNumbers, withSending, acked, isClosed, heldOf, bufferedWith, someLen, deliveredOf, ackLenOf, settledBy, settledSome, settledOf, tookOf, closedSlot}
 use Rattle.slot.specs.declared.Wrote.{Wrote}
 use Rattle.slot.proofs.Kept.{pick}
 use Rattle.slot.proofs.Laws.{cond-true, cond-false}
 use Rattle.connection.specs.Answer.{ackLength}
-use Rattle.history.specs.Book.{Book, withinRule, newBook, sentB, acceptedB, handedB, ackedB, asideB, closedB, overB, bookSlot, newAside, settleB}
+use Rattle.history.specs.Book.{Book, withinRule, newBook, sentB, acceptedB, handedB, ackedB, closedB, overB, bookSlot, newAside, settleB}
 
 -- the numbers of a channel, whatever its mode
 pub record Nums (cap buffered settled accepted handed acked sent : ℕ) : Type 0 where

@@ -7,8 +7,8 @@ use native.Mathlib.Omega.{arith}
 use lib.Dec.{eqb, ltb}
 use lib.ListN.{length, getD, set, take, drop}
 use Rattle.le.specs.Le.{part}
-use lib.Seq.{getD-set-same, getD-set-other, set-out}
-use borrow.Author.Tests.{eqb-true, eqb-false, eq-eqb, ne-eqb, ltb-true, ltb-false}
+use lib.Seq.{set-out}
+use borrow.Author.Tests.{eqb-true, eqb-false, ltb-true, ltb-false}
 use Rattle.le.proofs.Parts.{by-test}
 use Rattle.config.specs.declared.negotiated.RxPolicy.{RxPolicy}
 use Rattle.config.specs.Negotiated.{creditOf}
@@ -18,24 +18,21 @@ use Rattle.slot.specs.Slot.{emptySlot}
 use Rattle.slot.proofs.Kept.{pick}
 use Rattle.slot.proofs.Laws.{cond-true, cond-false}
 use Rattle.state.specs.declared.Header.{Header}
-use Rattle.state.specs.Change.{Change, slotTo, headerTo, changed, changedAll}
+use Rattle.state.specs.Change.{Change, changedAll}
 use Rattle.state.specs.State.{Connection}
 use Rattle.table.specs.declared.ChannelId.{ChannelId}
 use Rattle.table.specs.Dispatch.{slotIn, shareOf}
 use Rattle.connection.specs.declared.Answer.{Answer}
 use Rattle.connection.specs.declared.Answer.the-variants.{Done, Waiting, Nothing, Opened, Settled as SettledIs, Read, Written, Front as FrontIs, Refused}
 use Rattle.connection.specs.declared.Refusal.{Refusal}
-use Rattle.connection.specs.declared.Refusal.the-variants.{StoreShort, OutShort, BrokenState}
-use Rattle.connection.specs.Answer.{refusalNumber, numberOf}
-use Rattle.connection.specs.Calls.{Lent, Outcome, Work, ends, untouched, policy, bodyOf, isThere, slotFor, dispatchStep, settleStep, takeStep, readStep, writeStep, closeStep, frontStep, openStep}
-use Rattle.connection.specs.Frames.{Frame}
-use Rattle.history.specs.Run.{Call, openCall, dispatchCall, settleCall, takeCall, readCall, writeCall, closeCall, frontTaken, bytesIn, Sent, Seen}
-use Rattle.history.specs.Book.{headerAt, newBook, Book, noBook, Mark, noMark, Ledger, isOn, isEarly, isRefused, handedB, ackedB, settleB, readB, writeB, packetB, acksOf, lastOpen, entryOn, openedB, fillB, fillM, marks, entry}
+use Rattle.connection.specs.Calls.{Lent, Outcome, ends, untouched, policy, bodyOf, isThere, slotFor, dispatchStep, settleStep, takeStep, readStep, writeStep, closeStep, frontStep, openStep}
+use Rattle.history.specs.Run.{Call, openCall, dispatchCall, settleCall, takeCall, readCall, writeCall, closeCall, frontTaken, bytesIn, Sent}
+use Rattle.history.specs.Book.{headerAt, newBook, Book, noBook, Mark, noMark, Ledger, isOn, isEarly, isRefused, settleB, readB, writeB, packetB, acksOf, lastOpen, entryOn, openedB, fillB, fillM, marks, entry}
 use Rattle.history.specs.Demand3.{runOf}
 use Rattle.history.specs.NoLeak.{NoTake}
 use Rattle.history.proofs.Acts.{acksIn, good-by}
 use Rattle.history.proofs.Asks.{Asks, dispatch-asks, settle-asks, take-asks, read-asks, write-asks, close-asks, front-asks, open-asks}
-use Rattle.history.proofs.Entries.{On, on, dispatch-good, settle-call, take-call, read-call, write-call, close-this, close-else, front-call}
+use Rattle.history.proofs.Entries.{on, dispatch-good, settle-call, take-call, read-call, write-call, close-this, close-else, front-call}
 use Rattle.history.proofs.Marks.{tame-marks, dispatch-tame, settle-tame, take-tame, read-tame, write-tame, front-tame}
 use Rattle.history.proofs.Good.{Terms, Good, Limits, Leaves, new-good, acked-none, handed-none}
 use Rattle.history.proofs.Heard.{openIn}

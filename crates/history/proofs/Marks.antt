@@ -1,15 +1,13 @@
 -- Which places hold a channel, with what remote number, changes only where an open fills a slot or a close empties it.
 -- Assumes nothing.
 use mathlib.Core.Path.{_≡_, refl, sym, ap, ap₂, subst, _∙_}
-use mathlib.Core.Bool.{Bool, true, false, not, cond, _&&_, true≢false}
+use mathlib.Core.Bool.{Bool, true, cond, _&&_}
 use mathlib.Core.List.{List, [], _∷_, _++_, map, append-nil}
-use Prim.Native.Nat.{ℕ, _+_, _*_, _≤_, _<_, min}
-use native.Mathlib.Omega.{arith}
-use lib.Dec.{eqb, ltb, leb}
+use Prim.Native.Nat.{ℕ, _+_, _*_, _≤_, _<_}
+use lib.Dec.{eqb, ltb}
 use lib.ListN.{length, take, set}
 use lib.Seq.{map-set-same}
-use borrow.Author.Tests.{eqb-true, eqb-false, ltb-true}
-use Rattle.le.proofs.Parts.{by-test}
+use borrow.Author.Tests.{ltb-true}
 use Rattle.config.specs.declared.negotiated.RxPolicy.{RxPolicy}
 use Rattle.config.specs.Negotiated.{policyOf}
 use Rattle.config.proofs.Laws.{and-true}
@@ -35,17 +33,18 @@ use Rattle.slot.specs.declared.Readied.the-variants.{Slot, Short}
 use Rattle.slot.specs.declared.Settled.{Settled}
 use Rattle.slot.specs.declared.Taken.{Taken}
 use Rattle.slot.specs.declared.Taken.the-variants.{Data, Nothing as NothingTaken, Closed as ClosedTaken}
-use Rattle.slot.specs.Ids.{closedBy, isClose}
-use Rattle.slot.specs.Slot.{emptySlot, isOpening, isFailed, isClosed, hasData, settledOf, takenOf, tookOf, takeLen, errorOf, deliveredOf, closedSlot, spentOf, budgetOf, readyOf, openedOf, openingSlot, wroteOf}
+use Rattle.slot.specs.Ids.{closedBy}
+use Rattle.slot.specs.Slot.{emptySlot, isOpening, isFailed, isClosed, hasData, settledOf, takenOf, tookOf, takeLen, deliveredOf, closedSlot, spentOf, budgetOf, readyOf, wroteOf}
+use Rattle.slot.proofs.Stays.{Stays, ReadiedStays, ready-stays, wrote-stays, closed-stays, settled-stays, took-stays, delivered-stays, spent-stays}
 use Rattle.slot.proofs.Kept.{pick, settled-sound}
-use Rattle.slot.proofs.Laws.{cond-true, cond-false}
+use Rattle.slot.proofs.Laws.{cond-false}
 use Rattle.state.specs.declared.Header.{Header}
 use Rattle.state.specs.declared.PendingOpen.{PendingOpen}
 use Rattle.state.specs.Change.{Step, Change, slotTo, headerTo, openTo, opensTo, changedAll}
 use Rattle.table.specs.declared.ChannelId.{ChannelId}
 use Rattle.table.specs.declared.DispatchOutcome.{DispatchOutcome}
 use Rattle.table.specs.declared.DispatchOutcome.the-variants.{AckWrite, CreditGranted, SlotClosed, DataBuffered, IncomingOpen, CancelPendingOpen, StrayReady, ChannelFault, Unmatched}
-use Rattle.table.specs.declared.Want.the-variants.{Local, Remote}
+use Rattle.table.specs.declared.Want.the-variants.{Local}
 use Rattle.table.specs.Table.{wantedBy, placeOf}
 use Rattle.table.specs.Dispatch.{slotIn, remotePlace, closedAt, closeOf, readiedOf, granted, readyAt, grantOf, Dispatched, wroteBy, wroteAt, writeOf, routeOf, dispatchOf}
 use Rattle.connection.specs.declared.Answer.{Answer}
@@ -53,14 +52,13 @@ use Rattle.connection.specs.declared.Answer.the-variants.{Written}
 use Rattle.connection.specs.declared.Received.{Received}
 use Rattle.connection.specs.declared.Received.the-variants.{Packet as PacketIs, Stop}
 use Rattle.connection.specs.Act.{Acted, pushedBy, actedBy, tableOf, actOn}
-use Rattle.connection.specs.Calls.{Lent, Outcome, Work, begun, then, thenActed, ends, dropped, untouched, policy, bodyOf, frameLen, isThere, slotFor, ackFrames, receivedOf, unlessFault, dispatchBy, dispatchStep, settledAs, settleStep, takenBy, takeStep, reread, readSettled, readActed, isDirect, readDirect, readBy, readTaken, readFirst, readStep, sendSome, sendBy, sendAgain, writeReadied, writeActed, writeAct, writeBy, writeFirst, writeOn, writeStep, frontBy, frontStep, idsIn, isReady}
+use Rattle.connection.specs.Calls.{Lent, Outcome, Work, begun, then, thenActed, ends, dropped, policy, bodyOf, frameLen, isThere, slotFor, ackFrames, receivedOf, dispatchBy, dispatchStep, settledAs, settleStep, takenBy, takeStep, reread, readSettled, readActed, isDirect, readDirect, readBy, readTaken, readFirst, readStep, sendSome, sendBy, sendAgain, writeReadied, writeActed, writeAct, writeBy, writeFirst, writeOn, writeStep, frontBy, frontStep, idsIn, isReady}
 use Rattle.connection.specs.Frames.{Frame, writeFrame, framesBytes}
-use Rattle.history.specs.Book.{Mark, noMark}
-use Rattle.history.proofs.Acts.{acted-at, at-named, NoSlot, pushed-slots, withdrawn-slots, Named, ready-named, wrote-named, closed-named}
-use Rattle.history.proofs.Good.{Leaves}
+use Rattle.history.specs.Book.{noMark}
+use Rattle.history.proofs.Acts.{NoSlot, pushed-slots, withdrawn-slots}
 use Rattle.history.proofs.Packets.{markOf}
-use Rattle.history.proofs.Places.{slotsBy, slots-by, slots-append, slots-length, slot-set-same, slot-set-other, TableOk, found-filled}
-use Rattle.history.proofs.Steps.{settled-alike, delivered-same, table-set}
+use Rattle.history.proofs.Places.{slotsBy, slots-by, TableOk, found-filled}
+use Rattle.history.proofs.Steps.{settled-alike, table-set}
 
 -- changes of slots that keep their marks
 abbrev pub Tame : List ChannelSlot → List Change → Type 0
@@ -95,14 +93,9 @@ tame-ends ss w a used handed t = tame-append ss (w .changes) (headerTo (w .heade
 pub tame-then : (ss : List ChannelSlot) (w : Work) (i : ℕ) (t : ChannelSlot) (fs : List Frame) → Tame ss (w .changes) → markOf t ≡ markOf (slotIn (slotsBy ss (w .changes)) i) → Tame ss (then w (slotTo i t ∷ []) fs .changes)
 tame-then ss w i t fs x e = tame-append ss (w .changes) (slotTo i t ∷ []) x (e, tt)
 
-mark-same : (s t : ChannelSlot) → t .filled ≡ s .filled → t .remote ≡ s .remote → markOf t ≡ markOf s
-mark-same s t e f = ap₂ (λ (x : Bool) (y : ℕ). cond x (record { there = true; remote = y }) noMark) e (ap (λ z. z .0) f)
-
-named-mark : (s t : ChannelSlot) → Named s t → markOf t ≡ markOf s
-named-mark s t n = mark-same s t (n .filled) (n .remote)
-
-settled-mark : (s : ChannelSlot) (p : RxPolicy) (want : ℕ) → s .«has_remote» ≡ true → markOf (settledOf s p want .slot) ≡ markOf s
-settled-mark s p want k = let a = settled-alike s p want k in mark-same s (settledOf s p want .slot) (a .filled) (a .remote)
+-- what a slot function leaves has its mark
+stays-mark : (s t : ChannelSlot) → Stays s t → markOf t ≡ markOf s
+stays-mark s t k = ap₂ (λ (x : Bool) (y : ℕ). cond x (record { there = true; remote = y }) noMark) (k .filled) (ap (λ z. z .0) (k .remote))
 
 -- ---- dispatching
 
@@ -119,16 +112,16 @@ module _ (p : RxPolicy) (n : ℕ) (ss : List ChannelSlot) (rx : List ℕ) (ok : 
 
   tame-closed : (f : ℕ) (other : DispatchOutcome) → tame-step (closedAt f n ss other)
   unfolding closedAt
-  tame-closed f other = pick tame-step (ltb f n) (λ t. (named-mark (slotIn ss f) (closedSlot (slotIn ss f)) (closed-named (slotIn ss f)), tt)) (λ t. tt)
+  tame-closed f other = pick tame-step (ltb f n) (λ t. (stays-mark (slotIn ss f) (closedSlot (slotIn ss f)) (closed-stays (slotIn ss f)), tt)) (λ t. tt)
 
   tame-close : (remote : RemoteId) (local : LocalId) → tame-step (closeOf n ss remote local)
   unfolding closeOf
   tame-close remote local =
       pick tame-step (eqb (local .0) 0) (λ t. tame-closed (remotePlace n ss remote) (CancelPendingOpen remote)) (λ t. tame-closed (placeOf (Local local) n ss) Unmatched)
 
-  tame-granted : (f : ℕ) (remote : RemoteId) (r : Readied) → Leaves (Named (slotIn ss f)) r → tame-step (granted f (slotIn ss f) remote r)
+  tame-granted : (f : ℕ) (remote : RemoteId) (r : Readied) → ReadiedStays (slotIn ss f) r → tame-step (granted f (slotIn ss f) remote r)
   unfolding granted
-  tame-granted f remote (Slot t) x = (named-mark (slotIn ss f) t x, tt)
+  tame-granted f remote (Slot t) x = (stays-mark (slotIn ss f) t x, tt)
   tame-granted f remote Short x = tt
 
   tame-ready : (remote : RemoteId) (local : LocalId) → tame-step (grantOf p n ss remote local payload)
@@ -139,13 +132,13 @@ module _ (p : RxPolicy) (n : ℕ) (ss : List ChannelSlot) (rx : List ℕ) (ok : 
       (λ t. let fill = found-filled p n ss rx ok local (ltb-true f n t) in
       pick tame-step (isFailed (slotIn ss f .failed)) (λ u. tt)
       (λ u. subst (λ (r : Readied). tame-step (granted f (slotIn ss f) remote r)) (sym (cond-false (isOpening (slotIn ss f .state)) _ _ (ok .opened f fill)))
-      (tame-granted f remote (readyOf (slotIn ss f) payload p) (ready-named (slotIn ss f) payload p))))
+      (tame-granted f remote (readyOf (slotIn ss f) payload p) (ready-stays (slotIn ss f) payload p))))
       (λ t. tt)
 
   tame-wrote : (f : ℕ) (remote : RemoteId) (d : AckDecision) → Tame ss (wroteBy p f (slotIn ss f) remote payload rx (wroteOf (slotIn ss f) p (length payload) .slot) d .step .changes)
   unfolding wroteBy
-  tame-wrote f remote (Now len) = (named-mark (slotIn ss f) (wroteOf (slotIn ss f) p (length payload) .slot) (wrote-named (slotIn ss f) p (length payload)), tt)
-  tame-wrote f remote Hold = (named-mark (slotIn ss f) (wroteOf (slotIn ss f) p (length payload) .slot) (wrote-named (slotIn ss f) p (length payload)), tt)
+  tame-wrote f remote (Now len) = (stays-mark (slotIn ss f) (wroteOf (slotIn ss f) p (length payload) .slot) (wrote-stays (slotIn ss f) p (length payload)), tt)
+  tame-wrote f remote Hold = (stays-mark (slotIn ss f) (wroteOf (slotIn ss f) p (length payload) .slot) (wrote-stays (slotIn ss f) p (length payload)), tt)
   tame-wrote f remote Overflow = tt
   tame-wrote f remote Early = tt
 
@@ -193,10 +186,6 @@ tame-act h ss opens rx store k payload ok =
     tame-acted ss h opens payload store (tableOf h ss rx k payload)
     (tame-route (policyOf (h .negotiated)) (h .negotiated .config .channels) ss rx ok payload (k .command) (k .arg0) (k .arg1)) (tableOf h ss rx k payload .step .result)
 
-took-mark : (s : ChannelSlot) (n : ℕ) → markOf (tookOf s n) ≡ markOf s
-unfolding tookOf
-took-mark s n = refl
-
 -- what is taken keeps the mark
 abbrev tame-taken : ChannelSlot → Taken → Type 0
 tame-taken s (Data t n) = markOf t ≡ markOf s
@@ -206,17 +195,7 @@ tame-taken s (ClosedTaken e) = Unit {0}
 taken-tame : (s : ChannelSlot) (room : ℕ) → tame-taken s (takenOf s room)
 unfolding takenOf
 taken-tame s room =
-    pick (tame-taken s) (hasData s) (λ d. took-mark s (takeLen s room)) (λ d. pick (tame-taken s) (isClosed (s .state)) (λ c. tt) (λ c. tt))
-
-spent-mark : (s : ChannelSlot) (p : RxPolicy) (n : ℕ) → markOf (spentOf s p n) ≡ markOf s
-unfolding spentOf
-spent-mark s p n = pick (λ (t : ChannelSlot). markOf t ≡ markOf s) (p .delayed) (λ d. refl) (λ d. refl)
-
-delivered-mark : (s : ChannelSlot) (p : RxPolicy) (n : ℕ) → markOf (deliveredOf s p n .slot) ≡ markOf s
-unfolding deliveredOf
-delivered-mark s p n =
-    let P : Settled → Type 0 = λ r. markOf (r .slot) ≡ markOf s in
-    pick P (p .delayed) (λ d. refl) (λ d. pick P (leb (p .watermark) (s .buffered)) (λ t. refl) (λ t. pick P (s .«has_remote») (λ k. refl) (λ k. refl)))
+    pick (tame-taken s) (hasData s) (λ d. stays-mark s _ (took-stays s (takeLen s room))) (λ d. pick (tame-taken s) (isClosed (s .state)) (λ c. tt) (λ c. tt))
 
 -- ---- the calls
 
@@ -259,7 +238,7 @@ module _ (l : Lent) (ok : TableOk (policy l) (l .state .header .negotiated .conf
       pick tame (isThere l ch)
       (λ t. let r = settledOf (slotIn ss (ch .slot)) p want in
       tame-ends ss (then (begun h0 l) (slotTo (ch .slot) (r .slot) ∷ []) (ackFrames (r .slot) (r .ack))) _ 0 []
-      (settled-mark (slotIn ss (ch .slot)) p want (ok .known (ch .slot) (there-filled ch t)), tt))
+      (stays-mark (slotIn ss (ch .slot)) _ (settled-stays (slotIn ss (ch .slot)) p want), tt))
       (λ t. tame-plain h0 _ 0 [])
 
   pub take-tame : (ch : ChannelId) (room : ℕ) → tame (takeStep l ch room)
@@ -268,7 +247,7 @@ module _ (l : Lent) (ok : TableOk (policy l) (l .state .header .negotiated .conf
       let s = slotIn ss (ch .slot) in
       let P : Taken → Type 0 = λ y. tame (takenBy l ch s (begun h0 l) y) in
       pick tame (isThere l ch)
-      (λ t. pick P (hasData s) (λ d. tame-ends ss (then (begun h0 l) (slotTo (ch .slot) (tookOf s (takeLen s room)) ∷ []) []) _ 0 _ (took-mark s (takeLen s room), tt))
+      (λ t. pick P (hasData s) (λ d. tame-ends ss (then (begun h0 l) (slotTo (ch .slot) (tookOf s (takeLen s room)) ∷ []) []) _ 0 _ (stays-mark s _ (took-stays s (takeLen s room)), tt))
       (λ d. pick P (isClosed (s .state)) (λ c. tame-plain h0 _ 0 []) (λ c. tame-plain h0 _ 0 [])))
       (λ t. tame-plain h0 _ 0 [])
 
@@ -293,7 +272,7 @@ module _ (l : Lent) (ok : TableOk (policy l) (l .state .header .negotiated .conf
     s1 = settledOf (slotIn ss j) p room .slot
 
     mark1 : markOf s1 ≡ markOf (slotIn ss j)
-    mark1 = settled-mark (slotIn ss j) p room (ok .known j fill)
+    mark1 = stays-mark (slotIn ss j) _ (settled-stays (slotIn ss j) p room)
 
     abbrev w1 : Work
     w1 = then (begun h0 l) [] (ackFrames s1 (settledOf (slotIn ss j) p room .ack))
@@ -318,15 +297,6 @@ module _ (l : Lent) (ok : TableOk (policy l) (l .state .header .negotiated .conf
       tame2 : Tame ss (w2 .changes)
       tame2 = (mark1, tame-act h0 ss1 (l .state .opens) (l .rx) (l .store) k (bodyOf received k) ok1)
 
-      there2 : slotIn (slotsBy ss1 (act .changes)) j .«has_remote» ≡ true
-      there2 =
-          let z = ok .size in
-          let y = ok .most in
-          let h = ok .below j fill in
-          let u : slotIn ss1 j ≡ s1 = slot-set-same ss j s1 (omega arith) in
-          let f1 : slotIn ss1 j .filled ≡ true = ap (λ (x : ChannelSlot). x .filled) u ∙ settled-alike (slotIn ss j) p room (ok .known j fill) .filled ∙ fill in
-          at-named p _ _ _ _ _ _ _ _ (acted-at h0 ss1 (l .state .opens) (l .rx) (l .store) k (bodyOf received k) ok1 j f1) .known ∙ ok1 .known j f1
-
       abbrev s2 : ChannelSlot
       s2 = slotIn (slotsBy ss1 (act .changes)) j
 
@@ -334,7 +304,7 @@ module _ (l : Lent) (ok : TableOk (policy l) (l .state .header .negotiated .conf
       r3 = settledOf s2 p room
 
       mark3 : markOf (r3 .slot) ≡ markOf (slotIn (slotsBy ss1 (act .changes ++ [])) j)
-      mark3 = settled-mark s2 p room there2 ∙ ap (λ (x : List Change). markOf (slotIn (slotsBy ss1 x) j)) (sym (append-nil (act .changes)))
+      mark3 = stays-mark s2 _ (settled-stays s2 p room) ∙ ap (λ (x : List Change). markOf (slotIn (slotsBy ss1 x) j)) (sym (append-nil (act .changes)))
 
       abbrev w3 : Work
       w3 = then w2 [] (ackFrames (r3 .slot) (r3 .ack))
@@ -361,9 +331,9 @@ module _ (l : Lent) (ok : TableOk (policy l) (l .state .header .negotiated .conf
       unfolding readBy readDirect
       packet-tame =
           pick tame (isDirect s1 room k)
-          (λ t. read-end-tame (deliveredOf s1 p (k .«data_length») .slot) _ _ (frameLen k) _ (delivered-mark s1 p (k .«data_length») ∙ mark1))
+          (λ t. read-end-tame (deliveredOf s1 p (k .«data_length») .slot) _ _ (frameLen k) _ (stays-mark s1 _ (delivered-stays s1 p (k .«data_length»)) ∙ mark1))
           (λ t. pick tame (closedBy (idsIn s1) k)
-          (λ u. read-end-tame (closedSlot s1) [] _ (frameLen k) [] (named-mark s1 (closedSlot s1) (closed-named s1) ∙ mark1))
+          (λ u. read-end-tame (closedSlot s1) [] _ (frameLen k) [] (stays-mark s1 (closedSlot s1) (closed-stays s1) ∙ mark1))
           (λ u. acted-tame (frameLen k)))
 
     received-tame : (r : Received) → tame (readBy l ch room w1 s1 received r)
@@ -395,7 +365,7 @@ module _ (l : Lent) (ok : TableOk (policy l) (l .state .header .negotiated .conf
     some-tame used w s n t e =
         pick tame (ltb out (length (framesBytes (w .header .negotiated) (w .frames)) + 24 + n)) (λ u. tt)
         (λ u. tame-ends ss (then w (slotTo jw (spentOf s p n) ∷ []) (writeFrame (idsIn s) (take n bytes) ∷ [])) (Written n) used []
-        (tame-then ss w jw (spentOf s p n) (writeFrame (idsIn s) (take n bytes) ∷ []) t (spent-mark s p n ∙ e)))
+        (tame-then ss w jw (spentOf s p n) (writeFrame (idsIn s) (take n bytes) ∷ []) t (stays-mark s _ (spent-stays s p n) ∙ e)))
 
     by-tame : (used : ℕ) (w : Work) (s : ChannelSlot) (x : Budget) → Tame ss (w .changes) → markOf s ≡ markOf (slotIn (slotsBy ss (w .changes)) jw) → tame (sendBy l ch out bytes used w s x)
     unfolding sendBy
@@ -413,9 +383,9 @@ module _ (l : Lent) (ok : TableOk (policy l) (l .state .header .negotiated .conf
     abbrev s0 : ChannelSlot
     s0 = slotIn ss jw
 
-    readied-tame : (used : ℕ) (r : Readied) → Leaves (Named s0) r → tame (writeReadied l ch out bytes used w0 s0 r)
+    readied-tame : (used : ℕ) (r : Readied) → ReadiedStays s0 r → tame (writeReadied l ch out bytes used w0 s0 r)
     unfolding writeReadied
-    readied-tame used (Slot t) x = again-tame used w0 t tt (named-mark s0 t x)
+    readied-tame used (Slot t) x = again-tame used w0 t tt (stays-mark s0 t x)
     readied-tame used Short x = tame-plain h0 _ used []
 
     fault-tame : (used : ℕ) (k : Packet) (f : Failed) → tame (writeActed l ch out bytes used w0 (actOn h0 ss (l .state .opens) (l .rx) (l .store) k (bodyOf received k)) f)
@@ -429,9 +399,9 @@ module _ (l : Lent) (ok : TableOk (policy l) (l .state .header .negotiated .conf
     unfolding writeBy writeAct
     write-received-tame (Stop a used) = tame-plain h0 a used []
     write-received-tame (PacketIs k) =
-        pick tame (isReady (k .command) && eqb (k .arg1) (s0 .local .0)) (λ t. readied-tame (frameLen k) (readyOf s0 (bodyOf received k) p) (ready-named s0 (bodyOf received k) p))
+        pick tame (isReady (k .command) && eqb (k .arg1) (s0 .local .0)) (λ t. readied-tame (frameLen k) (readyOf s0 (bodyOf received k) p) (ready-stays s0 (bodyOf received k) p))
         (λ t. pick tame (closedBy (idsIn s0) k)
-        (λ u. tame-ends ss (then w0 (slotTo jw (closedSlot s0) ∷ []) []) _ (frameLen k) [] (named-mark s0 (closedSlot s0) (closed-named s0), tt))
+        (λ u. tame-ends ss (then w0 (slotTo jw (closedSlot s0) ∷ []) []) _ (frameLen k) [] (stays-mark s0 (closedSlot s0) (closed-stays s0), tt))
         (λ u. fault-tame (frameLen k) k (actOn h0 ss (l .state .opens) (l .rx) (l .store) k (bodyOf received k) .fault)))
 
     first-tame : (x : Budget) → tame (writeFirst l ch out bytes received w0 s0 x)

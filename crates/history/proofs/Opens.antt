@@ -1,12 +1,12 @@
 -- An open beside the books: of a channel that is in the table, and of the one that it fills. Assumes nothing.
-use mathlib.Core.Path.{_≡_, refl, sym, ap, ap₂, subst, _∙_}
-use mathlib.Core.Bool.{Bool, true, false, not, cond, _&&_, true≢false}
+use mathlib.Core.Path.{_≡_, refl, sym, ap, subst, _∙_}
+use mathlib.Core.Bool.{Bool, true, false, not, cond, _&&_}
 use mathlib.Core.List.{List, [], _∷_, _++_, map}
 use Prim.Native.Nat.{ℕ, _+_, _*_, _≤_, _<_}
 use native.Mathlib.Omega.{arith}
 use lib.Dec.{eqb, ltb}
 use lib.ListN.{length, set}
-use borrow.Author.Tests.{eqb-true, eqb-false, ne-eqb}
+use borrow.Author.Tests.{ne-eqb}
 use Rattle.le.proofs.Parts.{by-test}
 use Rattle.config.specs.declared.negotiated.RxPolicy.{RxPolicy}
 use Rattle.config.specs.Negotiated.{creditOf}
@@ -36,19 +36,19 @@ use Rattle.table.specs.Dispatch.{slotIn}
 use Rattle.connection.specs.declared.Answer.{Answer}
 use Rattle.connection.specs.declared.Answer.the-variants.{Waiting, Opened, Refused}
 use Rattle.connection.specs.declared.Received.{Received}
-use Rattle.connection.specs.declared.Received.the-variants.{Packet as PacketIs, Stop}
+use Rattle.connection.specs.declared.Received.the-variants.{Packet as PacketIs}
 use Rattle.connection.specs.declared.Refusal.the-variants.{PayloadTooLarge, ShortReadyPayload, UnexpectedCommand, OutShort, ChannelClosed, NoFreeChannels}
 use Rattle.connection.specs.Act.{Acted, actOn}
 use Rattle.connection.specs.Answer.{refusalNumber, numberOf}
 use Rattle.connection.specs.Calls.{Lent, Outcome, Work, begun, then, thenActed, withHeader, ends, untouched, dropped, waitingFor, policy, bodyOf, frameLen, receivedOf, unlessFault, stillWaits, isWrite, isReady, openOn, openReadied, openActed, openBy, openStep}
-use Rattle.connection.specs.Frames.{Frame, closeFrame, openFrame}
-use Rattle.history.specs.Run.{Sent, Seen}
-use Rattle.history.specs.Book.{Book, Mark, hasRemote, overB, sentB, wrteB, acksB, acksOf, packetB, frameB, headerAt, isWrte, isClse, isRefused, endsOpen}
+use Rattle.connection.specs.Frames.{closeFrame, openFrame}
+use Rattle.history.specs.Run.{Sent}
+use Rattle.history.specs.Book.{Book, Mark, hasRemote, acksB, acksOf, packetB, frameB, headerAt, isWrte, isClse, isRefused, endsOpen}
 use Rattle.history.specs.Demand3.{runOf}
 use Rattle.history.proofs.Acts.{acksIn, mineOf, acted-acks, good-by, frame-none, close-fault}
-use Rattle.history.proofs.Good.{Terms, Good, Limits, Leaves, sent-good, quiet-good, acked-none}
+use Rattle.history.proofs.Good.{Terms, Good, Limits, sent-good, quiet-good, acked-none}
 use Rattle.history.proofs.Marks.{Tame, tame-ends, tame-act}
-use Rattle.history.proofs.Packets.{isOpened, Stops, Got, stopped, packet, got, markOf, reads-write, reads-close, reads-arg1, reads-payload, write-no-close, ready-no-write}
+use Rattle.history.proofs.Packets.{isOpened, Got, stopped, packet, got, markOf, reads-write, reads-close, write-no-close, ready-no-write}
 use Rattle.history.proofs.Places.{slotsBy, slot-set-other, TableOk}
 use Rattle.history.proofs.Steps.{seenOf, stop-good, packet-good, acted-good, not-four, tells-fault, waiting-four, Fine, ends-fine}
 

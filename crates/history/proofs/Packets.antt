@@ -1,10 +1,10 @@
 -- What received bytes give a call, and what the book reads of them. Assumes nothing.
-use mathlib.Core.Path.{_≡_, refl, sym, ap, subst, _∙_}
+use mathlib.Core.Path.{_≡_, refl, sym, ap, _∙_}
 use mathlib.Core.Bool.{Bool, true, false, not, cond, _&&_, _||_, true≢false}
 use mathlib.Core.List.{List, [], _∷_, _++_, map}
-use Prim.Native.Nat.{ℕ, zero, suc, _+_, _-_, _*_, _≤_, _<_, min}
+use Prim.Native.Nat.{ℕ, _+_, _-_, _*_, _≤_, _<_}
 use native.Mathlib.Omega.{arith}
-use lib.Dec.{eqb, ltb, leb}
+use lib.Dec.{eqb}
 use lib.ListN.{length, getD, length-map, List·getD-map}
 use borrow.Author.Tests.{eqb-true, eqb-false, eq-eqb, ne-eqb}
 use Rattle.le.specs.Le.{part, numOf}
@@ -18,7 +18,7 @@ use Rattle.protocol.specs.declared.packet.Decoded.the-variants.{Waiting as Fram
 use Rattle.protocol.specs.declared.packet.Packet.{Packet}
 use Rattle.protocol.specs.Command.{lettersOf, wordOf}
 use Rattle.protocol.specs.Message.{messageOf}
-use Rattle.protocol.specs.Packet.{maxPayload, payloadOf, packetOf, decodeOf}
+use Rattle.protocol.specs.Packet.{payloadOf, packetOf, decodeOf}
 use Rattle.protocol.proofs.RoundTrip.{Says, says}
 use Rattle.slot.specs.declared.ChannelSlot.{ChannelSlot}
 use Rattle.slot.specs.declared.ids.ChannelIds.{ChannelIds}

@@ -2,12 +2,12 @@
 use mathlib.Core.Path.{_≡_, refl, sym, ap, subst, _∙_}
 use mathlib.Core.Bool.{Bool, true, false, not, cond, _&&_, true≢false}
 use mathlib.Core.List.{List, [], _∷_, _++_}
-use Prim.Native.Nat.{ℕ, zero, suc, _+_, _-_, _*_, _≤_, _<_, min}
+use Prim.Native.Nat.{ℕ, zero, suc, _+_, _-_, _*_, _≤_, _<_}
 use native.Mathlib.Omega.{arith}
-use lib.Dec.{eqb, ltb, leb}
+use lib.Dec.{eqb, ltb}
 use lib.ListN.{length, take, getD, set, length-set}
 use lib.Seq.{getD-take, getD-set-same, getD-set-other, length-take-le}
-use borrow.Author.Tests.{eqb-true, eqb-false, eq-eqb, ne-eqb, ltb-true, ltb-false, lt-ltb, le-ltb}
+use borrow.Author.Tests.{eqb-true, eqb-false, eq-eqb, ltb-true, ltb-false, lt-ltb, le-ltb}
 use Rattle.le.specs.Le.{part}
 use Rattle.le.proofs.Parts.{by-test, length-part}
 use Rattle.config.specs.declared.negotiated.RxPolicy.{RxPolicy}
@@ -20,7 +20,7 @@ use Rattle.slot.specs.declared.ids.LocalId.{LocalId}
 use Rattle.slot.specs.declared.ids.RemoteId.{RemoteId}
 use Rattle.slot.specs.declared.AckDecision.{AckDecision}
 use Rattle.slot.specs.declared.AckDecision.the-variants.{Now, Hold, Overflow, Early}
-use Rattle.slot.specs.declared.ChannelFault.the-variants.{RxOverflow, ShortReadyPayload, UnexpectedCommand}
+use Rattle.slot.specs.declared.ChannelFault.the-variants.{RxOverflow, ShortReadyPayload}
 use Rattle.slot.specs.declared.ChannelSlot.{ChannelSlot}
 use Rattle.slot.specs.declared.Credit.{Credit}
 use Rattle.slot.specs.declared.Credit.the-variants.{Of, Short as CreditShort}
@@ -42,7 +42,7 @@ use Rattle.table.specs.declared.Want.the-variants.{Local, Remote}
 use Rattle.table.specs.Table.{first, wantedBy, placeOf}
 use Rattle.table.specs.Dispatch.{left, stored, slotIn, faulted, remotePlace, closedAt, closeOf, readiedOf, granted, readyAt, strayOf, grantOf, Dispatched, with, shareOf, bufferedIn, wroteBy, wroteAt, writeOf, routeOf}
 use Rattle.table.proofs.KeepLaws.{place-found}
-use Rattle.table.proofs.DispatchLaws.{fits, share-in, buffered-own, buffered-other}
+use Rattle.table.proofs.DispatchLaws.{share-in, buffered-own, buffered-other}
 use Rattle.connection.specs.Calls.{isWrite}
 use Rattle.history.specs.Demand3.{runOf}
 use Rattle.history.proofs.Good.{Leaves}

@@ -1,15 +1,14 @@
 -- Each call beside the book of a channel: parts that the calls share. Assumes nothing.
 use mathlib.Core.Path.{_≡_, refl, sym, ap, subst, _∙_}
-use mathlib.Core.Bool.{Bool, true, false, not, cond, _&&_, _||_, true≢false}
-use mathlib.Core.List.{List, [], _∷_, _++_, map, append-nil}
-use Prim.Native.Nat.{ℕ, zero, suc, _+_, _-_, _*_, _≤_, _<_, min}
+use mathlib.Core.Bool.{Bool, true, false, _&&_, _||_, true≢false}
+use mathlib.Core.List.{List, [], _∷_, _++_, map}
+use Prim.Native.Nat.{ℕ, _+_, _-_, _*_, _≤_, _<_, min}
 use native.Mathlib.Omega.{arith}
-use lib.Dec.{eqb, ltb, leb}
-use lib.ListN.{length, take, drop, set, length-set}
-use borrow.Author.Tests.{eqb-true, eqb-false, eq-eqb, ne-eqb}
+use lib.Dec.{eqb, leb}
+use lib.ListN.{length, set, length-set}
+use borrow.Author.Tests.{eqb-true, eqb-false, ne-eqb}
 use Rattle.le.proofs.Parts.{by-test}
 use Rattle.config.specs.declared.negotiated.RxPolicy.{RxPolicy}
-use Rattle.config.proofs.Laws.{and-true}
 use Rattle.config.specs.Negotiated.{policyOf}
 use Rattle.protocol.specs.declared.packet.Packet.{Packet}
 use Rattle.protocol.specs.declared.message.Message.{Message}
@@ -22,28 +21,26 @@ use Rattle.slot.specs.declared.ChannelSlot.{ChannelSlot}
 use Rattle.slot.specs.declared.Failed.{Failed}
 use Rattle.slot.specs.declared.Failed.the-variants.{No, By}
 use Rattle.slot.specs.declared.PendingAck.{PendingAck}
-use Rattle.slot.specs.declared.PendingAck.the-variants.{Len, Nothing}
 use Rattle.slot.specs.declared.Settled.{Settled}
-use Rattle.slot.specs.Slot.{withNumbers, acked, isOpening, isFailed, isClosed, spentOf, deliveredOf, settledOf, tookOf, SlotOk}
-use Rattle.slot.proofs.Kept.{pick, settled-sound}
-use Rattle.slot.proofs.Laws.{cond-true, cond-false}
-use Rattle.state.specs.Change.{Change, slotTo, headerTo, changed, changedAll}
+use Rattle.slot.specs.Slot.{acked, isOpening, isFailed, spentOf, deliveredOf, settledOf, SlotOk}
+use Rattle.slot.proofs.Kept.{pick}
+use Rattle.slot.proofs.Laws.{cond-false}
+use Rattle.state.specs.Change.{Change, headerTo, changed, changedAll}
 use Rattle.state.specs.State.{Connection}
 use Rattle.state.specs.declared.Header.{Header}
 use Rattle.state.specs.declared.PendingOpen.{PendingOpen}
-use Rattle.table.specs.Dispatch.{slotIn, shareOf}
+use Rattle.table.specs.Dispatch.{slotIn}
 use Rattle.connection.specs.declared.Answer.{Answer}
-use Rattle.connection.specs.declared.Answer.the-variants.{Done, Waiting, Refused}
+use Rattle.connection.specs.declared.Answer.the-variants.{Waiting, Refused}
 use Rattle.connection.specs.declared.Refusal.{Refusal}
-use Rattle.connection.specs.Act.{Acted, actOn}
+use Rattle.connection.specs.Act.{actOn}
 use Rattle.connection.specs.Answer.{refusalNumber, numberOf}
-use Rattle.connection.specs.Calls.{Lent, Outcome, Work, begun, then, thenActed, ends, policy, bodyOf, frameLen, unlessFault, errorRefusal, faultRefusal, isWrite}
-use Rattle.connection.specs.Frames.{Frame}
+use Rattle.connection.specs.Calls.{Outcome, Work, ends, bodyOf, frameLen, unlessFault, errorRefusal, faultRefusal, isWrite}
 use Rattle.history.specs.Run.{Sent, Seen}
-use Rattle.history.specs.Book.{Book, Mark, sentB, ackedB, handedB, settleB, isRefused, isEarly, isWrte, headerAt, payloadAt, damagedB, frameB, packetB, acksOf, acksB, closesB}
+use Rattle.history.specs.Book.{Book, Mark, isRefused, isEarly, isWrte, headerAt, payloadAt, damagedB, frameB, packetB, closesB}
 use Rattle.history.specs.Demand3.{runOf}
-use Rattle.history.proofs.Acts.{acksIn, acks-append, mineOf, endsOf, acted-acks, acted-at, Tells, good-by, at-good, faulty}
-use Rattle.history.proofs.Good.{Terms, Good, Limits, Settles, already, not-due, due, settles, sent-good, acked-none}
+use Rattle.history.proofs.Acts.{mineOf, endsOf, acted-at, Tells, good-by, at-good, faulty}
+use Rattle.history.proofs.Good.{Terms, Good, Limits, Settles, already, not-due, due, settles, sent-good}
 use Rattle.history.proofs.Packets.{Stops, markOf, reads-write, reads-arg1, reads-payload, body-small, closes-agree}
 use Rattle.history.proofs.Places.{slotsBy, slots-append, slot-set-same, slot-set-other, SameRun, TableOk}
 

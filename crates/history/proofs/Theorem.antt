@@ -1,11 +1,11 @@
 -- Demand 3, over every list of calls. Assumes nothing.
-use mathlib.Core.Path.{_≡_, refl, sym, ap, ap₂, subst, _∙_}
-use mathlib.Core.Bool.{Bool, true, false, cond, true≢false}
+use mathlib.Core.Path.{_≡_, refl, sym, ap, subst, _∙_}
+use mathlib.Core.Bool.{Bool, true, false, true≢false}
 use mathlib.Core.List.{List, [], _∷_, _++_, map}
-use Prim.Native.Nat.{ℕ, _+_, _*_, _^_, _≤_, _<_, min}
+use Prim.Native.Nat.{ℕ, _+_, _*_, _^_, _≤_, _<_}
 use native.Mathlib.Omega.{arith}
 use lib.Dec.{ltb, leb}
-use lib.ListN.{length, getD, drop, replicate}
+use lib.ListN.{length, drop}
 use borrow.Author.Tests.{leb-true}
 use Rattle.le.proofs.Parts.{by-test}
 use Rattle.config.specs.declared.ConnectionConfig.{ConnectionConfig}
@@ -21,22 +21,20 @@ use Rattle.slot.proofs.Laws.{cond-true, cond-false}
 use Rattle.state.specs.Change.{changedAll}
 use Rattle.state.specs.State.{Connection, stateOf}
 use Rattle.state.specs.Valid.{isWhole}
-use Rattle.state.proofs.WholeLaws.{Whole, whole-own, whole-fits}
+use Rattle.state.proofs.WholeLaws.{whole-fits}
 use Rattle.table.specs.Dispatch.{slotIn}
-use Rattle.connection.specs.declared.Answer.the-variants.{Refused}
 use Rattle.connection.specs.declared.Refusal.the-variants.{StoreShort, OutShort, BrokenState}
 use Rattle.connection.specs.Answer.{numberOf, refusalNumber}
-use Rattle.connection.specs.Calls.{Lent, Outcome, untouched, checked, checkedOut, policy, fresh, openOf, dispatchOf, settleOf, takeOf, readOf, writeOf, closeOf, frontCall}
-use Rattle.history.specs.Run.{Call, openCall, dispatchCall, settleCall, takeCall, readCall, writeCall, closeCall, frontTaken, bytesIn, World, lent, outcome, after, afterAll, Sent, Seen, seen, made}
-use Rattle.history.specs.Book.{Book, Ledger, Mark, noMark, clean, entry, isEarly}
+use Rattle.connection.specs.Calls.{Lent, Outcome, checked, checkedOut, fresh, openOf, dispatchOf, settleOf, takeOf, readOf, writeOf, closeOf, frontCall}
+use Rattle.history.specs.Run.{Call, openCall, dispatchCall, settleCall, takeCall, readCall, writeCall, closeCall, frontTaken, World, lent, outcome, after, afterAll, Seen, seen, made}
+use Rattle.history.specs.Book.{Book, Ledger, clean, entry}
 use Rattle.history.specs.NoLeak.{NoTake, ReadOnly, NoLeak}
-use Rattle.history.specs.Demand3.{ledgerAfter, slotOf, runOf, Distinct, Apart, Claim, Demand3}
+use Rattle.history.specs.Demand3.{ledgerAfter, slotOf, Distinct, Apart, Claim, Demand3}
 use Rattle.history.proofs.Good.{Terms, Good, Limits}
-use Rattle.history.proofs.Heard.{heardOf}
 use Rattle.history.proofs.Joins.{Kept, Hears, Follows, early-follows, dispatch-follows, settle-follows, take-follows, read-follows, write-follows, close-follows, front-follows, open-follows}
 use Rattle.history.proofs.Never13.{Holds, state-after, holds-after, made-holds, made-state, always-8, in-replicate}
 use Rattle.history.proofs.Packets.{markOf}
-use Rattle.history.proofs.Places.{slotsBy, slots-by, TableOk}
+use Rattle.history.proofs.Places.{slots-by, TableOk}
 use Rattle.history.proofs.Steps.{seenOf}
 use Rattle.history.proofs.Written.{seen-is, seen-acks, seen-open}
 
