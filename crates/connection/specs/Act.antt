@@ -1,6 +1,9 @@
 -- What a packet does that a call does not take for itself (connection.rs, `dispatch` and `act_on`). Assumes nothing.
-use Prim.Native.Nat.{ℕ}
+use Prim.Native.Nat.{ℕ, _^_, _≤_, _<_}
 use mathlib.Core.List.{List, [], _∷_, _++_}
+use lib.ListN.{length}
+use Rattle.le.specs.Le.{Bytes}
+use Rattle.config.specs.declared.negotiated.Negotiated.{Negotiated}
 use Rattle.config.specs.Negotiated.{policyOf}
 use Rattle.incoming.specs.declared.Pushed.{Pushed}
 use Rattle.incoming.specs.declared.Pushed.the-variants.{Queued, Full}
@@ -66,3 +69,10 @@ tableOf h ss rx p payload = dispatchOf (policyOf (h .negotiated)) (h .negotiated
 unfoldable pub actOn : Header → List ChannelSlot → List PendingOpen → List ℕ → List ℕ → Packet → List ℕ → Acted
 actOn h ss opens rx store p payload =
     actedBy h opens payload store (tableOf h ss rx p payload) (tableOf h ss rx p payload .step .result)
+
+-- a packet that was decoded from bytes
+pub record PacketFits (n : Negotiated) (p : Packet) (payload : List ℕ) : Type 0 where
+  pub arg0 : p .arg0 < 2 ^ 32
+  pub arg1 : p .arg1 < 2 ^ 32
+  pub small : length payload ≤ n .config .«max_payload»
+  pub bytes : Bytes payload

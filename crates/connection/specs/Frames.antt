@@ -2,6 +2,7 @@
 use Prim.Native.Nat.{ℕ}
 use mathlib.Core.List.{List}
 use Rattle.config.specs.declared.negotiated.Negotiated.{Negotiated}
+use Rattle.protocol.specs.declared.command.Command.{Command}
 use Rattle.protocol.specs.declared.command.Command.the-variants.{Open, Write}
 use Rattle.protocol.specs.Checksum.{policyFor}
 use Rattle.protocol.specs.Packet.{frameFor}
@@ -16,6 +17,13 @@ pub data Frame : Type 0 where
   closeFrame : ChannelIds → Frame
   openFrame : LocalId → ℕ → List ℕ → Frame
   writeFrame : ChannelIds → List ℕ → Frame
+
+-- a frame as its receiver sees it
+pub record Sent : Type 0 where
+  pub command : Command
+  pub arg0 : ℕ
+  pub arg1 : ℕ
+  pub payload : List ℕ
 
 -- its bytes; the check is left out by the version
 unfoldable pub frameBytes : Negotiated → Frame → List ℕ

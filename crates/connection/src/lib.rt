@@ -1,4 +1,4 @@
-// A connection's calls: what each answers.
+// A connection's calls: what they answer. The definitions are in specs/; the code is in calls, reading, writing and opening.
 use protocol::packet::Packet;
 use slot::PendingAck;
 use slot::ids::RemoteId;

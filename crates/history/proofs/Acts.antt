@@ -54,7 +54,8 @@ use Rattle.connection.specs.Frames.{Frame, okayFrame, closeFrame, openFrame, wr
 use Rattle.history.specs.Book.{Book, Mark, sentB, closedB, overB, isRefused, isWrte, closesB, wrteB, frameB}
 use Rattle.history.specs.Demand3.{runOf}
 use Rattle.history.proofs.Good.{Terms, Good, Limits, Leaves, carried, carried-none, refuse-good, accept-good, shut-good, ready-good}
-use Rattle.history.proofs.Places.{SameRun, ready-run, found-filled, room-for, Decides, buffers, overflows, isTaken, decides, slotsBy, slots-append, TableOk, faultOf, At, apart, wrote, over, credited, shut, at-route}
+use Rattle.connection.proofs.Slots.{slotsBy, slots-append}
+use Rattle.history.proofs.Places.{SameRun, ready-run, found-filled, room-for, Decides, buffers, overflows, isTaken, decides, TableOk, faultOf, At, apart, wrote, over, credited, shut, at-route}
 
 -- ---- the credit of frames
 

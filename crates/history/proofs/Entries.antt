@@ -41,7 +41,7 @@ use Rattle.state.specs.Change.{changedAll, Step, Change, slotTo}
 use Rattle.incoming.specs.declared.Front.{Front}
 use Rattle.incoming.specs.declared.Front.the-variants.{Open as FrontOpen, Nothing as NoFront}
 use Rattle.incoming.specs.Incoming.{popped}
-use Rattle.connection.specs.Frames.{Frame, closeFrame, writeFrame, framesBytes}
+use Rattle.connection.specs.Frames.{Frame, closeFrame, writeFrame, framesBytes, Sent}
 use Rattle.table.specs.Dispatch.{slotIn, shareOf}
 use Rattle.connection.specs.declared.Answer.{Answer}
 use Rattle.connection.specs.declared.Answer.the-variants.{Done, Waiting, Nothing, Settled as SettledIs, Read, Written, Front as FrontIs, Refused}
@@ -54,13 +54,13 @@ use Rattle.table.specs.declared.ChannelId.{ChannelId}
 use Rattle.table.specs.declared.Want.the-variants.{Remote}
 use Rattle.table.specs.Table.{first, wantedBy, placeOf}
 use Rattle.connection.specs.Calls.{untouched, sendLen, sendSome, sendBy, sendAgain, writeReadied, writeActed, writeAct, writeBy, writeFirst, writeOn, writeStep, isReady, isWrite, faultRefusal, readDirect, readActed, readSettled, reread, isDirect, readBy, readTaken, readFirst, readStep, idsIn, closeStep, frontBy, frontStep, errorRefusal, frontOf, takenBy, takeStep, ackFrames, settledAs, settleStep, isThere, slotFor, Lent, Outcome, Work, begun, then, thenActed, ends, dropped, policy, bodyOf, frameLen, receivedOf, unlessFault, dispatchBy, dispatchStep}
-use Rattle.history.specs.Run.{Sent}
 use Rattle.history.specs.Book.{writeB, isClse, hasRemote, endsOther, noMark, ownEnd, acceptedB, sentB, closedB, damagedB, isWrte, payloadAt, Mark, readB, readUsedB, isRefused, handedB, isEarly, settleB, isOn, Book, ackedB, acksOf, acksB, packetB, frameB, headerAt, never}
 use Rattle.history.specs.Demand3.{runOf}
 use Rattle.history.proofs.Acts.{frame-none, at-keeps, at-stays, at-named, at-sound, at-fits, at-live, acted-length, acks-own, acks-other, acksIn, acks-append, mineOf, endsOf, acted-acks, acted-at, Tells, good-by}
 use Rattle.history.proofs.Good.{Terms, settled-takes, ready-good, spent-good, Leaves, deliver-good, shut-good, settle-empty, acked-drop, took-good, handed-none, Good, Limits, acked-none, carried, settle-good}
 use Rattle.history.proofs.Packets.{Stops, Got, stopped, packet, got, markOf, reads-write, reads-close, reads-arg1, reads-payload, ready-no-write, write-no-close, reads-end, mark-at, body-length, body-small}
-use Rattle.history.proofs.Places.{closed-run, ready-run, At, slots-by, slots-append, slots-length, slotsBy, slot-set-same, slot-set-other, SameRun, TableOk}
+use Rattle.connection.proofs.Slots.{slots-by, slots-append, slots-length, slotsBy, slot-set-same, slot-set-other}
+use Rattle.history.proofs.Places.{closed-run, ready-run, At, SameRun, TableOk}
 use Rattle.history.proofs.Steps.{fault-apart, unless-is, waiting-four, spent-run, late-error, late-unless, four-error, over-told, table-set, delivered-same, damaged-good, nil-of, Alike, settled-alike, settled-run, acted-good, seenOf, stop-good, packet-good, not-four, tells-fault, Fine, ends-fine}
 
 module _ (l : Lent) (credit : Terms) (ok : TableOk (policy l) (l .state .header .negotiated .config .channels) (l .state .slots) (l .rx))

@@ -25,38 +25,13 @@ use Rattle.state.proofs.RowLaws.{Every}
 use Rattle.wire.specs.Wire.{creditBytes, okayBytes, closeBytes}
 use Rattle.wire.proofs.Laws.{back}
 use Rattle.connection.specs.Calls.{Outcome, writtenBy, isReady}
-use Rattle.connection.specs.Frames.{Frame, okayFrame, closeFrame, openFrame, writeFrame, frameBytes, framesBytes}
+use Rattle.connection.specs.Frames.{Frame, okayFrame, closeFrame, openFrame, writeFrame, frameBytes, framesBytes, Sent}
+use Rattle.connection.proofs.Sending.{sentOf, SentFits, lenOf, FrameFits}
 use Rattle.history.specs.Book.{creditIn, acksOf, lastOpen}
-use Rattle.history.specs.Run.{Sent, Seen, sentBy, sentIn, seenIn}
+use Rattle.history.specs.Run.{Seen, sentBy, sentIn, seenIn}
 use Rattle.history.proofs.Acts.{acksIn}
 
 -- ---- what a frame is as bytes
-
--- what a frame is to its receiver
-abbrev pub sentOf : Negotiated → Frame → Sent
-sentOf n (okayFrame ids len) = record { command = Ready; arg0 = ids .local .0; arg1 = ids .remote .0; payload = creditBytes (n .«delayed_ack») len }
-sentOf n (closeFrame ids) = record { command = Close; arg0 = ids .local .0; arg1 = ids .remote .0; payload = [] }
-sentOf n (openFrame local credit destination) = record { command = Open; arg0 = local .0; arg1 = credit; payload = destination }
-sentOf n (writeFrame ids bytes) = record { command = Write; arg0 = ids .local .0; arg1 = ids .remote .0; payload = bytes }
-
--- numbers of 32 bits, a payload within the maximum
-pub record SentFits (s : Sent) : Type 0 where
-  pub arg0-fits : s .arg0 < 2 ^ 32
-  pub arg1-fits : s .arg1 < 2 ^ 32
-  pub small : length (s .payload) ≤ maxPayload
-
--- the number that an OKAY acknowledges
-abbrev pub lenOf : Frame → ℕ
-lenOf (okayFrame ids len) = len
-lenOf (closeFrame ids) = 0
-lenOf (openFrame local credit destination) = 0
-lenOf (writeFrame ids bytes) = 0
-
--- a frame that is read back: its numbers are below 2 ^ 32, its payload is within the maximum; a length that is not sent
--- may be any
-pub record FrameFits (n : Negotiated) (f : Frame) : Type 0 where
-  pub sent : SentFits (sentOf n f)
-  pub len-fits : n .«delayed_ack» ≡ true → lenOf f < 2 ^ 32
 
 -- the bytes of what is sent
 abbrev bytesFor : Negotiated → Sent → List ℕ

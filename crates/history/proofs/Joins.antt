@@ -26,7 +26,8 @@ use Rattle.connection.specs.declared.Answer.{Answer}
 use Rattle.connection.specs.declared.Answer.the-variants.{Done, Waiting, Nothing, Opened, Settled as SettledIs, Read, Written, Front as FrontIs, Refused}
 use Rattle.connection.specs.declared.Refusal.{Refusal}
 use Rattle.connection.specs.Calls.{Lent, Outcome, ends, untouched, policy, bodyOf, isThere, slotFor, dispatchStep, settleStep, takeStep, readStep, writeStep, closeStep, frontStep, openStep}
-use Rattle.history.specs.Run.{Call, openCall, dispatchCall, settleCall, takeCall, readCall, writeCall, closeCall, frontTaken, bytesIn, Sent}
+use Rattle.connection.specs.Frames.{Sent}
+use Rattle.history.specs.Run.{Call, openCall, dispatchCall, settleCall, takeCall, readCall, writeCall, closeCall, frontTaken, bytesIn}
 use Rattle.history.specs.Book.{headerAt, newBook, Book, noBook, Mark, noMark, Ledger, isOn, isEarly, isRefused, settleB, readB, writeB, packetB, acksOf, lastOpen, entryOn, openedB, fillB, fillM, marks, entry}
 use Rattle.history.specs.Demand3.{runOf}
 use Rattle.history.specs.NoLeak.{NoTake}
@@ -37,7 +38,8 @@ use Rattle.history.proofs.Marks.{tame-marks, dispatch-tame, settle-tame
 use Rattle.history.proofs.Good.{Terms, Good, Limits, Leaves, new-good, acked-none, handed-none}
 use Rattle.history.proofs.Heard.{openIn}
 use Rattle.history.proofs.Packets.{isOpened, markOf, mark-at, reads-arg0}
-use Rattle.history.proofs.Places.{slotsBy, slot-set-same, slot-set-other, TableOk}
+use Rattle.connection.proofs.Slots.{slotsBy, slot-set-same, slot-set-other}
+use Rattle.history.proofs.Places.{TableOk}
 use Rattle.history.proofs.Opens.{and-false, open-call, Opens, fills, leaves, opens}
 use Rattle.history.proofs.Steps.{seenOf, Fine}
 

@@ -1,5 +1,6 @@
 pub mod Acts
 pub mod Asks
+pub mod Bytes
 pub mod Entries
 pub mod Good
 pub mod Heard
@@ -10,11 +11,6 @@ pub mod Opens
 pub mod Packets
 pub mod Places
 pub mod Queue
-pub mod Received
-pub mod Sending
 pub mod Steps
 pub mod Theorem
-pub mod WholeAct
-pub mod WholeCalls
-pub mod WholeWork
 pub mod Written

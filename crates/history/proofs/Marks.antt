@@ -57,7 +57,8 @@ use Rattle.connection.specs.Frames.{Frame, writeFrame, framesBytes}
 use Rattle.history.specs.Book.{noMark}
 use Rattle.history.proofs.Acts.{NoSlot, pushed-slots, withdrawn-slots}
 use Rattle.history.proofs.Packets.{markOf}
-use Rattle.history.proofs.Places.{slotsBy, slots-by, TableOk, found-filled}
+use Rattle.connection.proofs.Slots.{slotsBy, slots-by}
+use Rattle.history.proofs.Places.{TableOk, found-filled}
 use Rattle.history.proofs.Steps.{settled-alike, table-set}
 
 -- changes of slots that keep their marks

@@ -26,9 +26,9 @@ use Rattle.connection.specs.Calls.{Outcome, untouched, checked, checkedOut, ope
 use Rattle.history.specs.Run.{bytesIn, Call, openCall, dispatchCall, settleCall, takeCall, readCall, writeCall, closeCall, frontTaken, World, lent, outcome, after, afterAll, made}
 use Rattle.history.specs.Never13.{Unbroken, Never13, StaysWhole, Always8}
 use Rattle.state.proofs.WholeLaws.{length-layout, Bounds, SlotWhole, Whole, whole-own, whole-true, whole-full, whole-fits, empty-whole, whole-facts}
-use Rattle.history.proofs.Received.{bytes-in}
-use Rattle.history.proofs.WholeWork.{negotiated, Kept, checked-kept, checked-out-kept, long}
-use Rattle.history.proofs.WholeCalls.{settle-kept, take-kept, close-kept, front-kept, dispatch-kept, read-kept, write-kept, open-kept}
+use Rattle.history.proofs.Bytes.{bytes-in}
+use Rattle.connection.proofs.WholeWork.{negotiated, Kept, checked-kept, checked-out-kept, long}
+use Rattle.connection.proofs.WholeCalls.{settle-kept, take-kept, close-kept, front-kept, dispatch-kept, read-kept, write-kept, open-kept}
 
 -- ---- one call
 

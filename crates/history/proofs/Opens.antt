@@ -41,15 +41,15 @@ use Rattle.connection.specs.declared.Refusal.the-variants.{PayloadTooLarge, Sho
 use Rattle.connection.specs.Act.{Acted, actOn}
 use Rattle.connection.specs.Answer.{refusalNumber, numberOf}
 use Rattle.connection.specs.Calls.{Lent, Outcome, Work, begun, then, thenActed, withHeader, ends, untouched, dropped, waitingFor, policy, bodyOf, frameLen, receivedOf, unlessFault, stillWaits, isWrite, isReady, openOn, openReadied, openActed, openBy, openStep}
-use Rattle.connection.specs.Frames.{closeFrame, openFrame}
-use Rattle.history.specs.Run.{Sent}
+use Rattle.connection.specs.Frames.{closeFrame, openFrame, Sent}
 use Rattle.history.specs.Book.{Book, Mark, hasRemote, acksB, acksOf, packetB, frameB, headerAt, isWrte, isClse, isRefused, endsOpen}
 use Rattle.history.specs.Demand3.{runOf}
 use Rattle.history.proofs.Acts.{acksIn, mineOf, acted-acks, good-by, frame-none, close-fault}
 use Rattle.history.proofs.Good.{Terms, Good, Limits, sent-good, quiet-good, acked-none}
 use Rattle.history.proofs.Marks.{Tame, tame-ends, tame-act}
 use Rattle.history.proofs.Packets.{isOpened, Got, stopped, packet, got, markOf, reads-write, reads-close, write-no-close, ready-no-write}
-use Rattle.history.proofs.Places.{slotsBy, slot-set-other, TableOk}
+use Rattle.connection.proofs.Slots.{slotsBy, slot-set-other}
+use Rattle.history.proofs.Places.{TableOk}
 use Rattle.history.proofs.Steps.{seenOf, stop-good, packet-good, acted-good, not-four, tells-fault, waiting-four, Fine, ends-fine}
 
 pub and-false : (x : Bool) → (x && false) ≡ false

@@ -44,47 +44,9 @@ use Rattle.table.specs.Dispatch.{left, stored, slotIn, faulted, remotePlace, cl
 use Rattle.table.proofs.KeepLaws.{place-found}
 use Rattle.table.proofs.DispatchLaws.{share-in, buffered-own, buffered-other}
 use Rattle.connection.specs.Calls.{isWrite}
+use Rattle.connection.proofs.Slots.{slotsBy, slots-by, slots-append, slots-length, slot-set-same, slot-set-other}
 use Rattle.history.specs.Demand3.{runOf}
 use Rattle.history.proofs.Good.{Leaves}
-
--- ---- slots under changes
-
--- slots after some changes to a state
-abbrev pub slotsBy : List ChannelSlot → List Change → List ChannelSlot
-slotsBy ss [] = ss
-slotsBy ss (slotTo i s ∷ xs) = slotsBy (set ss i s) xs
-slotsBy ss (headerTo h ∷ xs) = slotsBy ss xs
-slotsBy ss (openTo i q ∷ xs) = slotsBy ss xs
-slotsBy ss (opensTo qs ∷ xs) = slotsBy ss xs
-
-pub slots-by : (c : Connection) (xs : List Change) → changedAll c xs .slots ≡ slotsBy (c .slots) xs
-slots-by c [] = refl
-slots-by c (slotTo i s ∷ xs) = slots-by (changed c (slotTo i s)) xs
-slots-by c (headerTo h ∷ xs) = slots-by (changed c (headerTo h)) xs
-slots-by c (openTo i q ∷ xs) = slots-by (changed c (openTo i q)) xs
-slots-by c (opensTo qs ∷ xs) = slots-by (changed c (opensTo qs)) xs
-
-pub slots-append : (ss : List ChannelSlot) (xs ys : List Change) → slotsBy ss (xs ++ ys) ≡ slotsBy (slotsBy ss xs) ys
-slots-append ss [] ys = refl
-slots-append ss (slotTo i s ∷ xs) ys = slots-append (set ss i s) xs ys
-slots-append ss (headerTo h ∷ xs) ys = slots-append ss xs ys
-slots-append ss (openTo i q ∷ xs) ys = slots-append ss xs ys
-slots-append ss (opensTo qs ∷ xs) ys = slots-append ss xs ys
-
-pub slots-length : (ss : List ChannelSlot) (xs : List Change) → length (slotsBy ss xs) ≡ length ss
-slots-length ss [] = refl
-slots-length ss (slotTo i s ∷ xs) = slots-length (set ss i s) xs ∙ length-set ss i s
-slots-length ss (headerTo h ∷ xs) = slots-length ss xs
-slots-length ss (openTo i q ∷ xs) = slots-length ss xs
-slots-length ss (opensTo qs ∷ xs) = slots-length ss xs
-
-pub slot-set-same : (ss : List ChannelSlot) (i : ℕ) (t : ChannelSlot) → i < length ss → slotIn (set ss i t) i ≡ t
-unfolding slotIn
-slot-set-same ss i t h = getD-set-same ss i t emptySlot h
-
-pub slot-set-other : (ss : List ChannelSlot) (f i : ℕ) (t : ChannelSlot) → (i ≡ f → ⊥) → slotIn (set ss f t) i ≡ slotIn ss i
-unfolding slotIn
-slot-set-other ss f i t d = getD-set-other ss f i t emptySlot d
 
 -- ---- a table of a whole state, its channels' numbers apart
 

@@ -71,9 +71,10 @@ use Rattle.connection.specs.Act.{Acted, pushedBy, actedBy, tableOf, actOn}
 use Rattle.history.specs.Queue.{QueueMove, stays, pushes, withdraws, pops, moved, commandMove, usedMove, queueOf, packetMove, Hands, takesNone, openTakes, readTakes, writeTakes, moveOf, queueIn, Queues, QueueIsRusts}
 use Rattle.history.specs.Run.{bytesIn, Call, openCall, dispatchCall, settleCall, takeCall, readCall, writeCall, closeCall, frontTaken, World, lent, outcome, after, afterAll, made}
 use Rattle.history.proofs.Steps.{Alike, settled-alike}
-use Rattle.history.proofs.WholeAct.{PacketFits}
-use Rattle.history.proofs.WholeWork.{negotiated, At, at-frames, at-slot, there-live, there-at, Long, long, drop-whole}
-use Rattle.history.proofs.Received.{bytes-in, ReceivedFits, received-fits}
+use Rattle.connection.specs.Act.{PacketFits}
+use Rattle.connection.proofs.WholeWork.{negotiated, At, at-frames, at-slot, there-live, there-at, Long, long, drop-whole}
+use Rattle.history.proofs.Bytes.{bytes-in}
+use Rattle.connection.proofs.Decoding.{ReceivedFits, received-fits}
 use Rattle.history.proofs.Never13.{Holds, holds-whole, holds-kept, state-after, made-state, all-holds}
 
 length-waits : (payload : ℕ) (store : List ℕ) (qs : List PendingOpen) → length (waits payload store qs) ≡ length qs

@@ -36,13 +36,15 @@ use Rattle.connection.specs.declared.Refusal.{Refusal}
 use Rattle.connection.specs.Act.{actOn}
 use Rattle.connection.specs.Answer.{refusalNumber, numberOf}
 use Rattle.connection.specs.Calls.{Outcome, Work, ends, bodyOf, frameLen, unlessFault, errorRefusal, faultRefusal, isWrite}
-use Rattle.history.specs.Run.{Sent, Seen}
+use Rattle.connection.specs.Frames.{Sent}
+use Rattle.history.specs.Run.{Seen}
 use Rattle.history.specs.Book.{Book, Mark, isRefused, isEarly, isWrte, headerAt, payloadAt, damagedB, frameB, packetB, closesB}
 use Rattle.history.specs.Demand3.{runOf}
 use Rattle.history.proofs.Acts.{mineOf, endsOf, acted-at, Tells, good-by, at-good, faulty}
 use Rattle.history.proofs.Good.{Terms, Good, Limits, Settles, already, not-due, due, settles, sent-good}
 use Rattle.history.proofs.Packets.{Stops, markOf, reads-write, reads-arg1, reads-payload, body-small, closes-agree}
-use Rattle.history.proofs.Places.{slotsBy, slots-append, slot-set-same, slot-set-other, SameRun, TableOk}
+use Rattle.connection.proofs.Slots.{slotsBy, slots-append, slot-set-same, slot-set-other}
+use Rattle.history.proofs.Places.{SameRun, TableOk}
 
 -- ---- what a caller sees
 

@@ -34,7 +34,8 @@ use Rattle.history.proofs.Good.{Terms, Good, Limits}
 use Rattle.history.proofs.Joins.{Kept, Hears, Follows, early-follows, dispatch-follows, settle-follows, take-follows, read-follows, write-follows, close-follows, front-follows, open-follows}
 use Rattle.history.proofs.Never13.{Holds, state-after, holds-after, made-holds, made-state, always-8, in-replicate}
 use Rattle.history.proofs.Packets.{markOf}
-use Rattle.history.proofs.Places.{slots-by, TableOk}
+use Rattle.connection.proofs.Slots.{slots-by}
+use Rattle.history.proofs.Places.{TableOk}
 use Rattle.history.proofs.Steps.{seenOf}
 use Rattle.history.proofs.Written.{seen-is, seen-acks, seen-open}
 

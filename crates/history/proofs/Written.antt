@@ -61,11 +61,11 @@ use Rattle.connection.specs.Frames.{Frame, closeFrame, openFrame, writeFrame, f
 use Rattle.history.specs.Run.{bytesIn, Call, openCall, dispatchCall, settleCall, takeCall, readCall, writeCall, closeCall, frontTaken, World, lent, outcome, Seen, seenIn, seen}
 use Rattle.history.specs.Book.{acksOf, lastOpen}
 use Rattle.history.proofs.Acts.{acksIn}
-use Rattle.history.proofs.Heard.{FrameFits, Writes, heard-acks, openIn, heard-open, heardOf, heard-call}
+use Rattle.history.proofs.Heard.{Writes, heard-acks, openIn, heard-open, heardOf, heard-call}
 use Rattle.history.proofs.Packets.{Got, stopped, packet, got, reads-arg0, reads-arg1, body-length}
-use Rattle.history.proofs.Places.{slots-by, slot-set-same, slot-set-other}
-use Rattle.history.proofs.Received.{bytes-in}
-use Rattle.history.proofs.Sending.{IdsFit, Few, bytes-append, bytes-one, few-none, few-join, few-close, few-ack, Rests, quiet, same, clear, Own, Readied-ids, ready-ids, some, Acts, acts, settled-ids, settled-small, silent-clear, silent-again, Taking, took, nothing, shut, taking, no-data, delivered-ids, delivered-small}
+use Rattle.connection.proofs.Slots.{slots-by, slot-set-same, slot-set-other}
+use Rattle.history.proofs.Bytes.{bytes-in}
+use Rattle.connection.proofs.Sending.{IdsFit, Few, bytes-append, bytes-one, few-none, few-join, few-close, few-ack, Rests, quiet, same, clear, Own, Readied-ids, ready-ids, some, Acts, acts, settled-ids, settled-small, silent-clear, silent-again, Taking, took, nothing, shut, taking, no-data, delivered-ids, delivered-small, FrameFits}
 
 -- ---- what is asked of a state
 

@@ -21,7 +21,8 @@ use Rattle.connection.specs.declared.Answer.{Answer}
 use Rattle.connection.specs.declared.Answer.the-variants.{Done, Waiting, Nothing, Opened, Settled, Read, Written, Front, Refused}
 use Rattle.connection.specs.Answer.{numberOf}
 use Rattle.connection.specs.Calls.{isReady}
-use Rattle.history.specs.Run.{Call, openCall, dispatchCall, settleCall, takeCall, readCall, writeCall, closeCall, frontTaken, bytesIn, Sent, Seen}
+use Rattle.connection.specs.Frames.{Sent}
+use Rattle.history.specs.Run.{Call, openCall, dispatchCall, settleCall, takeCall, readCall, writeCall, closeCall, frontTaken, bytesIn, Seen}
 
 pub record Book : Type 0 where
   -- the channel is in the table: from the call that fills its slot to the one in which the Rust empties it

@@ -18,7 +18,7 @@ use Rattle.state.specs.Valid.{isWhole}
 use Rattle.table.specs.declared.ChannelId.{ChannelId}
 use Rattle.connection.specs.declared.Answer.{Answer}
 use Rattle.connection.specs.Calls.{Lent, Outcome, writtenBy, openOf, dispatchOf, settleOf, takeOf, readOf, writeOf, closeOf, frontCall, makeOf}
-use Rattle.connection.specs.Frames.{framesBytes}
+use Rattle.connection.specs.Frames.{Sent, framesBytes}
 
 -- numbers as bytes: a caller's list of any numbers stands for bytes
 unfoldable pub bytesIn : List ℕ → List ℕ
@@ -63,13 +63,6 @@ afterAll w [] = w
 afterAll w (c ∷ cs) = afterAll (after w c) cs
 
 -- ---- what a caller sees of a call
-
--- a frame in the outgoing buffer
-pub record Sent : Type 0 where
-  pub command : Command
-  pub arg0 : ℕ
-  pub arg1 : ℕ
-  pub payload : List ℕ
 
 -- what bytes begin with, before the frames behind it
 unfoldable pub sentBy : List ℕ → List Sent → Decoded → List Sent

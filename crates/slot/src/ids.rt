@@ -15,7 +15,7 @@ pub struct ChannelIds {
     pub remote: RemoteId,
 }
 
-fn is_close(command: Command) -> bool
+pub fn is_close(command: Command) -> bool
     ensures { λ r. ⌜ r ≡ isClose command ⌝ }
 {
     match command {

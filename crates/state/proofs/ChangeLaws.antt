@@ -12,7 +12,7 @@ use Rattle.state.specs.State.{Connection, slotBytes, openBytes, headerBy
 use Rattle.state.specs.Change.{Change, slotTo, headerTo, openTo, opensTo, changed, changedAll, putChange, putAll, putOpens, withOpens, Within, Step, Steps}
 use Rattle.state.proofs.Fields.{length-slot, length-open, length-header}
 use Rattle.state.proofs.RowLaws.{put-rows, length-flat, Every, every-set, every-append, every-drop}
-use Rattle.state.proofs.StateLaws.{Full, state-full, Fits, SlotFits, HeaderFits, OpenFits, state-split, state-forth, state-fits, put-slot-layout, put-header-layout, put-open-layout, layout-is-state}
+use Rattle.state.proofs.StateLaws.{Full, state-full, Fits, SlotFits, HeaderFits, OpenFits, state-split, rows-forth, state-forth, state-fits, put-slot-layout, put-header-layout, put-open-layout, layout-is-state}
 
 -- the first of 64 are replaced: there are 64 still
 opens-length : {A : Type 0} (qs x : List A) → length qs ≤ 64 → length x ≡ 64 → length (qs ++ drop (length qs) x) ≡ 64
@@ -93,3 +93,11 @@ next-is-state b xs r w = layout-is-state (changedAll (stateOf b) xs) r (full-all
 pub steps-by : {R : Type 0} (d e : Step R) (r : R) (before after : List ℕ) → d ≡ e → Steps e before r after → Steps d before r after
 steps-by d e r before after h s =
     record { result-is = s .result-is ∙ sym (ap (λ x. x .result) h); state-is = s .state-is ∙ sym (ap (λ x. putAll before (x .changes)) h) }
+
+-- slots and waiting opens after some changes, read from the bytes
+pub rows-after : (b : List ℕ) (xs : List Change) → Bytes b → isState b ≡ true → Every Within xs → Every SlotFits (changedAll (stateOf b) xs .slots) → Every OpenFits (changedAll (stateOf b) xs .opens)
+    → (stateOf (putAll b xs) .slots ≡ changedAll (stateOf b) xs .slots) × (stateOf (putAll b xs) .opens ≡ changedAll (stateOf b) xs .opens)
+rows-after b xs y e k s o =
+    let z = changes-bytes b xs y e k in
+    let r = rows-forth (changedAll (stateOf b) xs) (drop 4730 b) (full-all (stateOf b) xs (state-full b) k) s o in
+    (ap (λ (x : List ℕ). stateOf x .slots) z ∙ r .0, ap (λ (x : List ℕ). stateOf x .opens) z ∙ r .1)

@@ -400,6 +400,27 @@ pub record Fits (c : Connection) : Type 0 where
   pub slots : Every SlotFits (c .slots)
   pub opens : Every OpenFits (c .opens)
 
+-- slots and waiting opens that fit are read back from a state's bytes
+pub rows-forth : (c : Connection) (r : List ℕ) → Full c → Every SlotFits (c .slots) → Every OpenFits (c .opens)
+    → (stateOf (layout c ++ r) .slots ≡ c .slots) × (stateOf (layout c ++ r) .opens ≡ c .opens)
+unfolding stateOf layout
+rows-forth c r f s o =
+    let h = headerBytes (c .header) in
+    let x = flat slotBytes (c .slots) in
+    let q = flat openBytes (c .opens) in
+    let n = length-header (c .header) in
+    let m = length-flat 49 slotBytes length-slot (c .slots) in
+    let a = f .slots in
+    let b = f .opens in
+    let hx : length (h ++ x) ≡ 3194 = simp length-append (omega arith) in
+    let g1 : h ++ x ++ q ++ r ≡ h ++ (x ++ (q ++ r)) = simp append-assoc in
+    let g2 : h ++ x ++ q ++ r ≡ h ++ x ++ (q ++ r) = simp append-assoc in
+    let d2 : drop 58 (h ++ x ++ q ++ r) ≡ x ++ (q ++ r) = rw g1 (drop-at h (x ++ (q ++ r)) 58 n) in
+    let d3 : drop 3194 (h ++ x ++ q ++ r) ≡ q ++ r = rw g2 (drop-at (h ++ x) (q ++ r) 3194 hx) in
+    let e2 : rows 49 slotOf 64 (x ++ (q ++ r)) ≡ c .slots = rw a at (rows-flat 49 slotBytes slotOf SlotFits length-slot slot-forth (c .slots) (q ++ r) s) in
+    let e3 : rows 24 openOf 64 (q ++ r) ≡ c .opens = rw b at (rows-flat 24 openBytes openOf OpenFits length-open open-forth (c .opens) r o) in
+    (ap (rows 49 slotOf 64) d2 ∙ e2, ap (rows 24 openOf 64) d3 ∙ e3)
+
 -- a state that fits is read back from its bytes
 pub state-forth : (c : Connection) (r : List ℕ) → Fits c → stateOf (layout c ++ r) ≡ c
 unfolding stateOf layout
@@ -407,19 +428,10 @@ state-forth c r f =
     let h = headerBytes (c .header) in
     let x = flat slotBytes (c .slots) in
     let q = flat openBytes (c .opens) in
-    let n = length-header (c .header) in
-    let m = length-flat 49 slotBytes length-slot (c .slots) in
-    let a = f .full .slots in
-    let b = f .full .opens in
-    let hx : length (h ++ x) ≡ 3194 = simp length-append (omega arith) in
-    let g1 : h ++ x ++ q ++ r ≡ h ++ (x ++ (q ++ r)) = simp append-assoc in
-    let g2 : h ++ x ++ q ++ r ≡ h ++ x ++ (q ++ r) = simp append-assoc in
-    let e1 : headerOf (h ++ x ++ q ++ r) ≡ c .header = rw g1 (header-forth (c .header) (x ++ (q ++ r)) (f .header)) in
-    let d2 : drop 58 (h ++ x ++ q ++ r) ≡ x ++ (q ++ r) = rw g1 (drop-at h (x ++ (q ++ r)) 58 n) in
-    let d3 : drop 3194 (h ++ x ++ q ++ r) ≡ q ++ r = rw g2 (drop-at (h ++ x) (q ++ r) 3194 hx) in
-    let e2 : rows 49 slotOf 64 (x ++ (q ++ r)) ≡ c .slots = rw a at (rows-flat 49 slotBytes slotOf SlotFits length-slot slot-forth (c .slots) (q ++ r) (f .slots)) in
-    let e3 : rows 24 openOf 64 (q ++ r) ≡ c .opens = rw b at (rows-flat 24 openBytes openOf OpenFits length-open open-forth (c .opens) r (f .opens)) in
-    rw (e1, d2, d3, e2, e3)
+    let g : h ++ x ++ q ++ r ≡ h ++ (x ++ (q ++ r)) = simp append-assoc in
+    let e : headerOf (h ++ x ++ q ++ r) ≡ c .header = rw g (header-forth (c .header) (x ++ (q ++ r)) (f .header)) in
+    let k = rows-forth c r (f .full) (f .slots) (f .opens) in
+    rw (e, k .0, k .1)
 
 -- what bytes stand for fits
 slot-fits : (l : List ℕ) → Bytes l → SlotFits (slotOf l)

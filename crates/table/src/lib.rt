@@ -51,7 +51,7 @@ pub enum DispatchOutcome {
     Unmatched,
 }
 
-fn has_local(s: ChannelSlot, n: LocalId) -> bool
+pub fn has_local(s: ChannelSlot, n: LocalId) -> bool
     ensures { λ r. ⌜ r ≡ wantedBy (Local n) s ⌝ }
 {
     let local = s.local;

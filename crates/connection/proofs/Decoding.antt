@@ -1,8 +1,8 @@
 -- What decoding bytes says of a packet, and which answers are never refusal 13. Assumes nothing.
-use mathlib.Core.Path.{_≡_}
+use mathlib.Core.Path.{_≡_, sym, subst, _∙_}
 use mathlib.Core.Bool.{not}
-use mathlib.Core.List.{List, [], _∷_}
-use Prim.Native.Nat.{ℕ, zero, suc, _+_, min}
+use mathlib.Core.List.{List}
+use Prim.Native.Nat.{ℕ, _+_, _≤_, min}
 use native.Mathlib.Omega.{arith}
 use lib.Dec.{eqb, ltb}
 use lib.ListN.{length}
@@ -14,6 +14,7 @@ use Rattle.config.specs.declared.negotiated.Negotiated.{Negotiated}
 use Rattle.protocol.specs.declared.command.Command.{Command}
 use Rattle.protocol.specs.declared.command.CommandWord.{CommandWord}
 use Rattle.protocol.specs.declared.command.CommandWord.the-variants.{Known, Invalid}
+use Rattle.protocol.specs.declared.packet.Packet.{Packet}
 use Rattle.protocol.specs.declared.packet.Decoded.{Decoded}
 use Rattle.protocol.specs.declared.packet.Decoded.the-variants.{Waiting as FrameWaiting, InvalidCommand as WordInvalid, InvalidMagic as MagicInvalid, PayloadTooLarge as LengthTooLarge, InvalidChecksum as SumInvalid, Accepted}
 use Rattle.protocol.specs.Command.{magicOf, commandOf}
@@ -26,23 +27,13 @@ use Rattle.slot.specs.declared.ChannelFault.the-variants.{RxOverflow, ShortRead
 use Rattle.slot.specs.declared.Failed.{Failed}
 use Rattle.slot.specs.declared.Failed.the-variants.{No, By}
 use Rattle.slot.proofs.Kept.{pick}
 use Rattle.connection.specs.declared.Answer.{Answer}
 use Rattle.connection.specs.declared.Answer.the-variants.{Refused}
 use Rattle.connection.specs.declared.Received.{Received}
 use Rattle.connection.specs.declared.Received.the-variants.{Packet as PacketIs, Stop}
 use Rattle.connection.specs.Answer.{refusalNumber, numberOf}
 use Rattle.connection.specs.Calls.{Lent, bodyOf, faultRefusal, errorRefusal, unlessFault, receivedBy, receivedOf}
-use Rattle.history.specs.Run.{bytesIn}
-use Rattle.history.proofs.WholeAct.{PacketFits}
-
--- ---- bytes
-
--- numbers as bytes are bytes
-pub bytes-in : (l : List ℕ) → Bytes (bytesIn l)
-unfolding bytesIn
-bytes-in [] k = omega arith
-bytes-in (x ∷ l) zero = omega arith
-bytes-in (x ∷ l) (suc k) = bytes-in l k
+use Rattle.connection.specs.Act.{PacketFits}
 
 -- ---- answers
 
@@ -120,3 +111,44 @@ unfolding receivedOf
 received-fits l received y =
     received-by (l .state .header .negotiated) received y (decodeOf received (l .state .header .negotiated .config .«max_payload»))
     (decoded-fits (l .state .header .negotiated) received y)
+
+-- ---- where a packet's payload lies
+
+pub record PacketRoom (received : List ℕ) (limit : ℕ) (p : Packet) : Type 0 where
+  pub whole : 24 + p .«data_length» ≤ length received
+  pub body : length (bodyOf received p) ≡ p .«data_length»
+  pub small : p .«data_length» ≤ limit
+  pub most : p .«data_length» ≤ 1_048_576
+
+module _ (received : List ℕ) (limit : ℕ) where
+  abbrev RoomIn : Received → Type 0
+  RoomIn (PacketIs p) = PacketRoom received limit p
+  RoomIn (Stop a used) = Unit {0}
+
+  known-room : (c : Command) → RoomIn (receivedBy (knownOf received limit c (messageOf received)))
+  unfolding knownOf packetOf messageOf payloadOf receivedBy
+  known-room c =
+      let R : Decoded → Type 0 = λ d. RoomIn (receivedBy d) in
+      let k = numOf (part received 12 4) in
+      let most = min limit 1_048_576 in
+      pick R (not (eqb (numOf (part received 20 4)) (magicOf c))) (λ t. tt)
+      (λ t. pick R (ltb most k) (λ u. tt)
+      (λ u. pick R (ltb (length received) (24 + k)) (λ v. tt)
+      (λ v. pick R (checkPasses (numOf (part received 16 4)) (part received 24 k))
+      (λ w. let a = ltb-false most k u in
+      let b = ltb-false (length received) (24 + k) v in
+      let e = length-part received 24 k b in
+      record { whole = b; body = e; small = omega arith; most = omega arith })
+      (λ w. tt))))
+
+  named-room : (w : CommandWord) → RoomIn (receivedBy (namedOf received limit (messageOf received) w))
+  unfolding namedOf receivedBy
+  named-room (Known c) = known-room c
+  named-room (Invalid word) = tt
+
+  room-in : RoomIn (receivedBy (decodeOf received limit))
+  unfolding decodeOf receivedBy
+  room-in = pick (λ (d : Decoded). RoomIn (receivedBy d)) (ltb (length received) 24) (λ t. tt) (λ t. named-room (commandOf (messageOf received .command)))
+
+  pub packet-room : (r : Received) (p : Packet) → r ≡ receivedBy (decodeOf received limit) → r ≡ PacketIs p → PacketRoom received limit p
+  packet-room r p e f = subst RoomIn (sym e ∙ f) room-in

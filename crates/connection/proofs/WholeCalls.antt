@@ -39,22 +39,23 @@ use Rattle.table.specs.declared.ChannelId.{ChannelId}
 use Rattle.table.specs.declared.Want.the-variants.{Empty}
 use Rattle.table.specs.Table.{wantedBy, placeOf, nextLocal, numbered, allocated}
 use Rattle.table.specs.Dispatch.{slotIn}
 use Rattle.connection.specs.declared.Answer.{Answer}
 use Rattle.connection.specs.declared.Answer.the-variants.{Done, Waiting, Nothing, Opened, Settled, Read, Written, Front as FrontIs, Refused}
 use Rattle.connection.specs.declared.Received.{Received}
 use Rattle.connection.specs.declared.Received.the-variants.{Packet as PacketIs, Stop}
 use Rattle.connection.specs.declared.Refusal.the-variants.{PayloadTooLarge, ShortReadyPayload, UnexpectedCommand, OutShort, ChannelClosed, NoFreeChannels}
 use Rattle.connection.specs.Answer.{refusalNumber, numberOf}
 use Rattle.connection.specs.Act.{Acted, actOn}
 use Rattle.connection.specs.Calls.{Lent, Work, begun, then, thenActed, ends, dropped, waitingFor, policy, idsIn, isThere, slotFor, ackFrames, faultRefusal, errorRefusal, unlessFault, receivedOf, bodyOf, frameLen, isWrite, isReady, dispatchBy, dispatchStep, settledAs, settleStep, takenBy, takeStep, reread, readSettled, readActed, isDirect, readDirect, readBy, readTaken, readFirst, readStep, sendLen, sendSome, sendBy, sendAgain, writeReadied, writeActed, writeAct, writeBy, writeFirst, writeOn, writeStep, closeStep, frontBy, frontStep, openOn, stillWaits, openReadied, openActed, openBy, openStep}
 use Rattle.connection.specs.Frames.{Frame, framesBytes}
 use Rattle.state.proofs.WholeLaws.{Live, Whole, live-whole, empty-whole}
 use Rattle.state.proofs.LiveLaws.{ReadiedLive, ready-live, opened-live, TakenLive, taken-live, settled-live, delivered-live, spent-live, closed-live}
 use Rattle.table.proofs.KeepLaws.{place-found}
 use Rattle.incoming.proofs.QueueLaws.{QueueKeeps, FrontAs, pop-keeps}
-use Rattle.history.proofs.WholeAct.{ActedKeeps, PacketFits, acted-keeps}
-use Rattle.history.proofs.Received.{NotBroken, fault-fine, error-fine, unless-fine, ReceivedFits, received-fits}
-use Rattle.history.proofs.WholeWork.{negotiated, Kept, WorkWhole, At, drop-whole, begun-whole, frames-whole, slot-whole, act-whole, ends-kept, at-frames, at-slot, at-act, at-ends, untouched-kept, dropped-whole, there-live, there-at, Long, long}
+use Rattle.connection.proofs.WholeAct.{ActedKeeps, acted-keeps}
+use Rattle.connection.specs.Act.{PacketFits}
+use Rattle.connection.proofs.Decoding.{NotBroken, fault-fine, error-fine, unless-fine, ReceivedFits, received-fits}
+use Rattle.connection.proofs.WholeWork.{negotiated, Kept, WorkWhole, At, drop-whole, begun-whole, frames-whole, slot-whole, act-whole, ends-kept, at-frames, at-slot, at-act, at-ends, untouched-kept, dropped-whole, there-live, there-at, Long, long}
 
 -- ---- answers that are not refusal 13
 

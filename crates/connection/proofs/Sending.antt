@@ -18,6 +18,7 @@ use Rattle.protocol.specs.declared.command.Command.{Command}
 use Rattle.protocol.specs.declared.command.Command.the-variants.{Sync, Connect, Open, Ready, Close, Write, Auth, StartTls}
 use Rattle.protocol.specs.declared.packet.Packet.{Packet}
 use Rattle.protocol.specs.Checksum.{policyFor}
+use Rattle.protocol.specs.Packet.{maxPayload}
 use Rattle.slot.specs.declared.ids.ChannelIds.{ChannelIds}
 use Rattle.slot.specs.declared.ids.LocalId.{LocalId}
 use Rattle.slot.specs.declared.ids.RemoteId.{RemoteId}
@@ -47,15 +48,41 @@ use Rattle.table.specs.declared.DispatchOutcome.the-variants.{AckWrite, CreditG
 use Rattle.table.specs.declared.Want.the-variants.{Local}
 use Rattle.table.specs.Table.{placeOf}
 use Rattle.table.specs.Dispatch.{left, stored, slotIn, faulted, remotePlace, closedAt, closeOf, readiedOf, granted, readyAt, strayOf, grantOf, Dispatched, wroteBy, wroteAt, writeOf, routeOf, dispatchOf}
+use Rattle.wire.specs.Wire.{creditBytes}
 use Rattle.wire.proofs.Laws.{okay-length, close-length, credit-length}
 use Rattle.connection.specs.Act.{Acted, pushedBy, actedBy, tableOf, actOn}
 use Rattle.connection.specs.Answer.{ackLength}
 use Rattle.connection.specs.Calls.{ackFrames, idsIn}
-use Rattle.connection.specs.Frames.{Frame, okayFrame, closeFrame, frameBytes, framesBytes}
-use Rattle.history.proofs.Heard.{FrameFits}
-use Rattle.history.proofs.Places.{slotsBy, slots-append, slot-set-same, slot-set-other}
+use Rattle.connection.specs.Frames.{Sent, Frame, openFrame, writeFrame, okayFrame, closeFrame, frameBytes, framesBytes}
+use Rattle.connection.proofs.Slots.{slotsBy, slots-append, slot-set-same, slot-set-other}
 
 -- ---- frames and their bytes
+
+-- what a frame is to its receiver
+abbrev pub sentOf : Negotiated → Frame → Sent
+sentOf n (okayFrame ids len) = record { command = Ready; arg0 = ids .local .0; arg1 = ids .remote .0; payload = creditBytes (n .«delayed_ack») len }
+sentOf n (closeFrame ids) = record { command = Close; arg0 = ids .local .0; arg1 = ids .remote .0; payload = [] }
+sentOf n (openFrame local credit destination) = record { command = Open; arg0 = local .0; arg1 = credit; payload = destination }
+sentOf n (writeFrame ids bytes) = record { command = Write; arg0 = ids .local .0; arg1 = ids .remote .0; payload = bytes }
+
+-- numbers of 32 bits, a payload within the maximum
+pub record SentFits (s : Sent) : Type 0 where
+  pub arg0-fits : s .arg0 < 2 ^ 32
+  pub arg1-fits : s .arg1 < 2 ^ 32
+  pub small : length (s .payload) ≤ maxPayload
+
+-- the number that an OKAY acknowledges
+abbrev pub lenOf : Frame → ℕ
+lenOf (okayFrame ids len) = len
+lenOf (closeFrame ids) = 0
+lenOf (openFrame local credit destination) = 0
+lenOf (writeFrame ids bytes) = 0
+
+-- a frame that is read back: its numbers are below 2 ^ 32, its payload is within the maximum; a length that is not sent
+-- may be any
+pub record FrameFits (n : Negotiated) (f : Frame) : Type 0 where
+  pub sent : SentFits (sentOf n f)
+  pub len-fits : n .«delayed_ack» ≡ true → lenOf f < 2 ^ 32
 
 -- a channel's numbers are of 32 bits
 pub record IdsFit (ids : ChannelIds) : Type 0 where

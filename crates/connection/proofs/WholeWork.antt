@@ -22,17 +22,17 @@ use Rattle.state.proofs.RowLaws.{Every, every-append, never}
 use Rattle.state.proofs.ChangeLaws.{changes-append}
 use Rattle.table.specs.declared.ChannelId.{ChannelId}
 use Rattle.table.specs.Dispatch.{slotIn}
 use Rattle.connection.specs.declared.Answer.{Answer}
 use Rattle.connection.specs.declared.Answer.the-variants.{Refused}
 use Rattle.connection.specs.declared.Refusal.{Refusal}
 use Rattle.connection.specs.declared.Refusal.the-variants.{StoreShort, OutShort}
 use Rattle.connection.specs.Answer.{refusalNumber, numberOf}
 use Rattle.connection.specs.Act.{Acted}
 use Rattle.connection.specs.Calls.{Lent, Outcome, untouched, Work, begun, then, thenActed, ends, checked, checkedOut, dropped, isThere, slotFor}
 use Rattle.connection.specs.Frames.{Frame}
 use Rattle.state.proofs.WholeLaws.{Live, SlotWhole, Whole, whole-live, whole-put}
-use Rattle.history.proofs.WholeAct.{ActedKeeps}
-use Rattle.history.proofs.Received.{NotBroken}
+use Rattle.connection.proofs.WholeAct.{ActedKeeps}
+use Rattle.connection.proofs.Decoding.{NotBroken}
 use Rattle.table.proofs.KeepLaws.{local-filled}
 
 abbrev pub negotiated : Lent → Negotiated

@@ -22,8 +22,9 @@ use Rattle.state.proofs.ChangeLaws.{changes-append}
 use Rattle.table.specs.declared.DispatchOutcome.{DispatchOutcome}
 use Rattle.table.specs.declared.DispatchOutcome.the-variants.{AckWrite, CreditGranted, SlotClosed, DataBuffered, IncomingOpen, CancelPendingOpen, StrayReady, ChannelFault, Unmatched}
 use Rattle.table.specs.Dispatch.{slotIn, Dispatched}
 use Rattle.connection.specs.Act.{Acted, tabled, pushedBy, actedBy, tableOf, actOn}
 use Rattle.connection.specs.Frames.{Frame}
+use Rattle.connection.specs.Act.{PacketFits}
 use Rattle.state.proofs.WholeLaws.{Whole}
 use Rattle.table.proofs.KeepLaws.{AnswerFits, TableKeeps, dispatch-keeps}
 use Rattle.incoming.proofs.QueueLaws.{QueueKeeps, PushedAs, push-keeps, withdraw-keeps}
@@ -35,13 +36,6 @@ pub record ActedKeeps (n : Negotiated) (c : Connection) (rx store : ℕ) (a : Ac
   pub filled : (i : ℕ) → slotIn (c .slots) i .filled ≡ true → slotIn (changedAll c (a .changes) .slots) i .filled ≡ true
   pub rx-length : length (a .rx) ≡ rx
   pub store-length : length (a .store) ≡ store
-
--- a packet that was decoded from bytes
-pub record PacketFits (n : Negotiated) (p : Packet) (payload : List ℕ) : Type 0 where
-  pub arg0 : p .arg0 < 2 ^ 32
-  pub arg1 : p .arg1 < 2 ^ 32
-  pub small : length payload ≤ n .config .«max_payload»
-  pub bytes : Bytes payload
 
 module _ (h : Header) (c : Connection) (rx store : List ℕ) (g : Whole (h .negotiated) h (c .slots) (c .opens)) where
   tabled-keeps : (fault : Failed) (d : Dispatched) (fs : List Frame) → TableKeeps (h .negotiated) h c rx d
