@@ -1,0 +1,10 @@
+pub mod ActLaws
+pub mod AdmitLaws
+pub mod CallLaws
+pub mod CloseLaws
+pub mod FrameLaws
+pub mod FrontLaws
+pub mod LeaveLaws
+pub mod MakeLaws
+pub mod ThereLaws
+pub mod WideLaws

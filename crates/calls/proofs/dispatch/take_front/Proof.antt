@@ -1,0 +1,71 @@
+use Rattle.calls.proofs.WideLaws.{wide-refuses, wide-leaves}
+use Rattle.calls.proofs.LeaveLaws.{admitted-goes, goes-admits}
+use Rattle.calls.specs.Promise.{agreedIn}
+use Rattle.connection.specs.Calls.{dropped, frontCall}
+use mathlib.Core.Path.{ap, _∙_}
+use borrow.Author.Needs.{needs}
+use Rattle.calls.proofs.dispatch.take_front.Statement.{statement}
+use Rattle.calls.proofs.dispatch.take_front.Tie as tie
+use Rattle.calls.proofs.dispatch.take_front.Reads as reads
+use Rattle.calls.proofs.dispatch.take_front.Lts as lts
+use Rattle.calls.proofs.admit.admit.Reads as admit-reads
+use Rattle.calls.proofs.admit.drop_waiting.Reads as drop-waiting-reads
+use Rattle.calls.proofs.admit.refused.Reads as refused-reads
+use Rattle.calls.proofs.dispatch.front_step.Reads as front-step-reads
+
+-- src/dispatch.rt:113:9
+admit-requires : tie.Need-admit-requires
+admit-requires c κs = search needs
+
+-- src/dispatch.rt:115:22
+enum-known-admitted : tie.Need-enum-known-admitted
+enum-known-admitted c = search needs
+
+-- src/dispatch.rt:115:34
+refused-requires : tie.Need-refused-requires
+refused-requires c κs = search needs
+
+-- src/dispatch.rt:116:23
+enum-known-admitted-2 : tie.Need-enum-known-admitted-2
+enum-known-admitted-2 c = search needs
+
+-- src/dispatch.rt:116:58
+drop-waiting-requires : tie.Need-drop-waiting-requires
+drop-waiting-requires c κs = search needs
+
+-- src/dispatch.rt:116:29
+front-step-requires : tie.Need-front-step-requires
+front-step-requires c κs = (goes-admits (c .before .before .before .before .before .before .before .before .before .before .args .state .now) (c .before .before .before .before .before .before .before .before .before .before .args .rx .now) (c .before .before .before .before .before .before .before .before .before .before .args .store .now) 56 _ (admitted-goes (c .before .before .before .before .before .before .before .before .before .before .args .state .now) (c .before .before .before .before .before .before .before .before .before .before .args .rx .now) (c .before .before .before .before .before .before .before .before .before .before .args .store .now) 56 _ (c .before .before .before .before .before .admit .result) (c .before .before .before .before .before .admit .ensures) (c .before .before .before .admitted2 .given .1)) (λ j. c .before .before .before .before .before .before .before .before .before .slice-known .given j .fits), c .drop-waiting .ensures ∙ ap dropped ((admitted-goes (c .before .before .before .before .before .before .before .before .before .before .args .state .now) (c .before .before .before .before .before .before .before .before .before .before .args .rx .now) (c .before .before .before .before .before .before .before .before .before .before .args .store .now) 56 _ (c .before .before .before .before .before .admit .result) (c .before .before .before .before .before .admit .ensures) (c .before .before .before .admitted2 .given .1)) .header))
+
+-- src/dispatch.rt:110:1
+same-length : tie.Need-same-length
+same-length c = search needs
+
+-- src/dispatch.rt:110:1
+returns : tie.Need-returns
+unfolding frontCall
+returns c = wide-refuses (c .before .before .before .before .before .before .before .before .before .args .state .now) (c .before .before .before .before .before .before .before .before .before .args .rx .now) (c .before .before .before .before .before .before .before .before .before .args .store .now) (agreedIn (c .before .before .before .before .before .before .before .before .before .args .state .now)) _ _ _ _ (c .before .before .before .before .admit .result) _ (c .before .before .before .before .admit .ensures) (c .before .before .admitted .given .1) (c .refused .ensures)
+
+-- src/dispatch.rt:110:1
+same-length-2 : tie.Need-same-length-2
+same-length-2 c = search needs
+
+-- src/dispatch.rt:110:1
+returns-2 : tie.Need-returns-2
+unfolding frontCall
+returns-2 c = wide-leaves (c .before .before .before .before .before .before .before .before .before .before .before .before .before .args .state .now) (c .before .before .before .before .before .before .before .before .before .before .before .before .before .args .rx .now) (c .before .before .before .before .before .before .before .before .before .before .before .before .before .args .store .now) (agreedIn (c .before .before .before .before .before .before .before .before .before .before .before .before .before .args .state .now)) _ _ _ _ _ _ _ _ _ _ (admitted-goes (c .before .before .before .before .before .before .before .before .before .before .before .before .before .args .state .now) (c .before .before .before .before .before .before .before .before .before .before .before .before .before .args .rx .now) (c .before .before .before .before .before .before .before .before .before .before .before .before .before .args .store .now) 56 _ (c .before .before .before .before .before .before .before .before .admit .result) (c .before .before .before .before .before .before .before .before .admit .ensures) (c .before .before .before .before .before .before .admitted2 .given .1)) (c .before .before .front-step .ensures)
+
+pub take-front-spec : {M : Type 1} → statement M
+take-front-spec =
+    tie.close
+    (tie.spec
+    admit-requires
+    enum-known-admitted
+    refused-requires
+    enum-known-admitted-2
+    drop-waiting-requires
+    front-step-requires
+    same-length
+    returns
+    same-length-2
+    returns-2)

@@ -1,0 +1,35 @@
+use Rattle.connection.specs.Frames.{frameBytes}
+use borrow.Author.Needs.{needs}
+use Rattle.calls.proofs.frames.put_open.Statement.{statement}
+use Rattle.calls.proofs.frames.put_open.Tie as tie
+use Rattle.calls.proofs.frames.put_open.Reads as reads
+use Rattle.calls.proofs.frames.put_open.Lts as lts
+use Rattle.config.proofs.negotiated.Negotiated.advertised_credit.Reads as advertised-credit-reads
+use Rattle.config.proofs.negotiated.Negotiated.checksum.Reads as checksum-reads
+use Rattle.protocol.proofs.packet.Packet.put_at.Reads as put-at-reads
+
+-- src/frames.rt:74:9
+advertised-credit-requires : tie.Need-advertised-credit-requires
+advertised-credit-requires c κs = search needs
+
+-- src/frames.rt:76:9
+checksum-requires : tie.Need-checksum-requires
+checksum-requires c κs = search needs
+
+-- src/frames.rt:69:5
+put-at-requires : tie.Need-put-at-requires
+put-at-requires c κs = search needs
+
+-- src/frames.rt:59:1
+same-length : tie.Need-same-length
+same-length c = search needs
+
+-- src/frames.rt:59:1
+returns : tie.Need-returns
+unfolding frameBytes
+returns c = rw (c .before .before .before .checksum .ensures, c .before .before .before .before .advertised-credit .ensures) at (c .before .before .put-at .ensures)
+
+pub put-open-spec : {M : Type 1} → statement M
+put-open-spec =
+    tie.close
+    (tie.spec advertised-credit-requires checksum-requires put-at-requires same-length returns)

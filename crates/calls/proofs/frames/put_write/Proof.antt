@@ -1,0 +1,28 @@
+use Rattle.connection.specs.Frames.{frameBytes}
+use borrow.Author.Needs.{needs}
+use Rattle.calls.proofs.frames.put_write.Statement.{statement}
+use Rattle.calls.proofs.frames.put_write.Tie as tie
+use Rattle.calls.proofs.frames.put_write.Reads as reads
+use Rattle.calls.proofs.frames.put_write.Lts as lts
+use Rattle.config.proofs.negotiated.Negotiated.checksum.Reads as checksum-reads
+use Rattle.protocol.proofs.packet.Packet.put_at.Reads as put-at-reads
+
+-- src/frames.rt:85:71
+checksum-requires : tie.Need-checksum-requires
+checksum-requires c κs = search needs
+
+-- src/frames.rt:85:5
+put-at-requires : tie.Need-put-at-requires
+put-at-requires c κs = search needs
+
+-- src/frames.rt:73:1
+same-length : tie.Need-same-length
+same-length c = search needs
+
+-- src/frames.rt:73:1
+returns : tie.Need-returns
+unfolding frameBytes
+returns c = rw (c .before .before .before .checksum .ensures) at (c .before .before .put-at .ensures)
+
+pub put-write-spec : {M : Type 1} → statement M
+put-write-spec = tie.close (tie.spec checksum-requires put-at-requires same-length returns)

@@ -1,0 +1,99 @@
+use Rattle.connection.specs.Calls.{isReady}
+use borrow.Author.Needs.{needs}
+use Rattle.calls.proofs.recv.is_ready.Statement.{statement}
+use Rattle.calls.proofs.recv.is_ready.Tie as tie
+use Rattle.calls.proofs.recv.is_ready.Reads as reads
+use Rattle.calls.proofs.recv.is_ready.Lts as lts
+
+-- src/recv.rt:84:26
+enum-told : tie.Need-enum-told
+enum-told c = search needs
+
+-- src/recv.rt:85:29
+enum-told-2 : tie.Need-enum-told-2
+enum-told-2 c = search needs
+
+-- src/recv.rt:86:26
+enum-told-3 : tie.Need-enum-told-3
+enum-told-3 c = search needs
+
+-- src/recv.rt:87:27
+enum-told-4 : tie.Need-enum-told-4
+enum-told-4 c = search needs
+
+-- src/recv.rt:88:27
+enum-told-5 : tie.Need-enum-told-5
+enum-told-5 c = search needs
+
+-- src/recv.rt:89:27
+enum-told-6 : tie.Need-enum-told-6
+enum-told-6 c = search needs
+
+-- src/recv.rt:90:26
+enum-told-7 : tie.Need-enum-told-7
+enum-told-7 c = search needs
+
+-- src/recv.rt:91:30
+enum-told-8 : tie.Need-enum-told-8
+enum-told-8 c = search needs
+
+-- src/recv.rt:80:1
+returns : tie.Need-returns
+unfolding isReady
+returns c = rw (c .enum-told .given .1)
+
+-- src/recv.rt:80:1
+returns-2 : tie.Need-returns-2
+unfolding isReady
+returns-2 c = rw (c .enum-told2 .given .1)
+
+-- src/recv.rt:80:1
+returns-3 : tie.Need-returns-3
+unfolding isReady
+returns-3 c = rw (c .enum-told3 .given .1)
+
+-- src/recv.rt:80:1
+returns-4 : tie.Need-returns-4
+unfolding isReady
+returns-4 c = rw (c .enum-told4 .given .1)
+
+-- src/recv.rt:80:1
+returns-5 : tie.Need-returns-5
+unfolding isReady
+returns-5 c = rw (c .enum-told5 .given .1)
+
+-- src/recv.rt:80:1
+returns-6 : tie.Need-returns-6
+unfolding isReady
+returns-6 c = rw (c .enum-told6 .given .1)
+
+-- src/recv.rt:80:1
+returns-7 : tie.Need-returns-7
+unfolding isReady
+returns-7 c = rw (c .enum-told7 .given .1)
+
+-- src/recv.rt:80:1
+returns-8 : tie.Need-returns-8
+unfolding isReady
+returns-8 c = rw (c .enum-told8 .given .1)
+
+pub is-ready-spec : {M : Type 1} → statement M
+is-ready-spec =
+    tie.close
+    (tie.spec
+    enum-told
+    enum-told-2
+    enum-told-3
+    enum-told-4
+    enum-told-5
+    enum-told-6
+    enum-told-7
+    enum-told-8
+    returns
+    returns-2
+    returns-3
+    returns-4
+    returns-5
+    returns-6
+    returns-7
+    returns-8)

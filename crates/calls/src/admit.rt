@@ -1,0 +1,81 @@
+// What comes ahead of every call's steps.
+use crate::Reply;
+use connection::Answer;
+use connection::Refusal;
+use state::Header;
+use state::Waiting;
+use state::header_of;
+use state::slot_at;
+use state::valid::is_whole;
+use table::ChannelId;
+use table::has_local;
+ghost use mathlib.Core.Path.{_≡_};
+ghost use Prim.Native.Nat.{_≤_};
+ghost use lib.ListN.{length};
+ghost use Rattle.state.specs.State.{stateOf};
+ghost use Rattle.connection.specs.declared.Answer.the-variants.{Refused};
+ghost use Rattle.connection.specs.Calls.{dropped};
+ghost use Rattle.calls.specs.Promise.{admitted, thereIn};
+
+pub enum Admitted {
+    Yes(Header),
+    No(Refusal),
+}
+
+// Refusals 13, 8, and 9 for 56 bytes, by the stores' and the outgoing buffer's lengths.
+pub fn admit(state: &[u8], rx: usize, store: usize, out: usize) -> Admitted
+    ensures { λ r. ⌜ r ≡ admitted (now (state .entry)) rx store out ⌝ }
+{
+    if is_whole(state) {
+        let h = header_of(state);
+        let negotiated = h.negotiated;
+        let config = negotiated.config;
+        if config.stores_fit(rx, store) {
+            if out < 56 {
+                return Admitted::No(Refusal::OutShort);
+            }
+            return Admitted::Yes(h);
+        }
+        return Admitted::No(Refusal::StoreShort);
+    }
+    Admitted::No(Refusal::BrokenState)
+}
+
+// An open that waits for its OKAY does so no more.
+pub fn drop_waiting(h: Header) -> Header
+    ensures { λ r. ⌜ r ≡ dropped h ⌝ }
+{
+    let waiting = h.waiting;
+    let local = waiting.local;
+    let gone = Waiting {
+        on: false,
+        slot: waiting.slot,
+        local,
+    };
+    let mut kept = h;
+    kept.waiting = gone;
+    kept
+}
+
+// Whether a channel is in the table: its place is one of n, filled, and has its number.
+pub fn is_there(state: &[u8], n: usize, ch: ChannelId) -> bool
+    requires { ⌜ (n ≤ 64) × (4730 ≤ length (now state)) ⌝ }
+    ensures { λ r. ⌜ r ≡ thereIn n (stateOf (now (state .entry)) .slots) ch ⌝ }
+{
+    let local = ch.local;
+    if ch.slot < n {
+        return has_local(slot_at(state, ch.slot), local);
+    }
+    false
+}
+
+// A refusal that changes nothing.
+pub fn refused(refusal: Refusal) -> Reply
+    ensures { λ r. ⌜ r ≡ record { answer = Refused refusal; used = 0; written = 0 } ⌝ }
+{
+    Reply {
+        answer: Answer::Refused(refusal),
+        used: 0,
+        written: 0,
+    }
+}

@@ -1,0 +1,93 @@
+// One packet from the bytes that were received.
+use connection::Answer;
+use connection::Received;
+use connection::Refusal;
+use protocol::command::Command;
+use protocol::packet::Decoded;
+use protocol::packet::Packet;
+use slot::ChannelError;
+use slot::ChannelFault;
+use slot::Failed;
+ghost use mathlib.Core.Path.{_≡_};
+ghost use Rattle.protocol.specs.Packet.{decodeOf};
+ghost use Rattle.connection.specs.Calls.{receivedBy, faultRefusal, errorRefusal, unlessFault, isWrite, isReady};
+
+// Waiting and refusals 1 to 3 use nothing; 4 uses the frame.
+pub fn recv_pkt(received: &[u8], max_payload: u32) -> Received
+    ensures { λ r. ⌜ r ≡ receivedBy (decodeOf (now (received .entry)) «max_payload») ⌝ }
+{
+    let decoded = Packet::decode(received, max_payload);
+    match decoded {
+        Decoded::Waiting => Received::Stop(Answer::Waiting, 0),
+        Decoded::InvalidCommand(word) => Received::Stop(
+            Answer::Refused(Refusal::InvalidCommand(word)),
+            0,
+        ),
+        Decoded::InvalidMagic => Received::Stop(Answer::Refused(Refusal::InvalidMagic), 0),
+        Decoded::PayloadTooLarge => Received::Stop(Answer::Refused(Refusal::PayloadTooLarge), 0),
+        Decoded::InvalidChecksum { used } => Received::Stop(
+            Answer::Refused(Refusal::InvalidChecksum),
+            used,
+        ),
+        Decoded::Accepted(packet) => Received::Packet(packet),
+    }
+}
+
+pub fn fault_refusal(fault: ChannelFault) -> Refusal
+    ensures { λ r. ⌜ r ≡ faultRefusal fault ⌝ }
+{
+    match fault {
+        ChannelFault::RxOverflow => Refusal::ChannelRxOverflow,
+        ChannelFault::ShortReadyPayload => Refusal::ShortReadyPayload,
+        ChannelFault::UnexpectedCommand => Refusal::UnexpectedCommand,
+    }
+}
+
+pub fn error_refusal(error: ChannelError) -> Refusal
+    ensures { λ r. ⌜ r ≡ errorRefusal error ⌝ }
+{
+    match error {
+        ChannelError::Closed => Refusal::ChannelClosed,
+        ChannelError::Fault(fault) => fault_refusal(fault),
+    }
+}
+
+// The answer, unless dispatching failed.
+pub fn unless_fault(fault: Failed, answer: Answer) -> Answer
+    ensures { λ r. ⌜ r ≡ unlessFault fault answer ⌝ }
+{
+    match fault {
+        Failed::No => answer,
+        Failed::By(why) => Answer::Refused(fault_refusal(why)),
+    }
+}
+
+pub fn is_write(command: Command) -> bool
+    ensures { λ r. ⌜ r ≡ isWrite command ⌝ }
+{
+    match command {
+        Command::Sync => false,
+        Command::Connect => false,
+        Command::Open => false,
+        Command::Ready => false,
+        Command::Close => false,
+        Command::Write => true,
+        Command::Auth => false,
+        Command::StartTls => false,
+    }
+}
+
+pub fn is_ready(command: Command) -> bool
+    ensures { λ r. ⌜ r ≡ isReady command ⌝ }
+{
+    match command {
+        Command::Sync => false,
+        Command::Connect => false,
+        Command::Open => false,
+        Command::Ready => true,
+        Command::Close => false,
+        Command::Write => false,
+        Command::Auth => false,
+        Command::StartTls => false,
+    }
+}

@@ -1,0 +1,168 @@
+use Rattle.opening.proofs.OpenLaws.{packet-fits, own-is, packet-ready, packet-acts, packet-early, packet-closes}
+use native.Mathlib.Omega.{arith}
+use mathlib.Core.Path.{refl, sym, _∙_}
+use borrow.Author.Needs.{needs}
+use Rattle.opening.proofs.open.open_packet.Statement.{statement}
+use Rattle.opening.proofs.open.open_packet.Tie as tie
+use Rattle.opening.proofs.open.open_packet.Reads as reads
+use Rattle.opening.proofs.open.open_packet.Lts as lts
+use Rattle.calls.proofs.admit.drop_waiting.Reads as drop-waiting-reads
+use Rattle.opening.proofs.open.close_open.Reads as close-open-reads
+use Rattle.opening.proofs.open.is_own.Reads as is-own-reads
+use Rattle.opening.proofs.open.open_act.Reads as open-act-reads
+use Rattle.opening.proofs.open.open_ready.Reads as open-ready-reads
+use Rattle.opening.proofs.open.waited_for.Reads as waited-for-reads
+use Rattle.calls.proofs.recv.is_ready.Reads as is-ready-reads
+use Rattle.calls.proofs.recv.is_write.Reads as is-write-reads
+use Rattle.slot.proofs.ids.is_close.Reads as is-close-reads
+use Rattle.state.proofs.put_header.Reads as put-header-reads
+
+-- src/open.rt:199:9
+waited-for-requires : tie.Need-waited-for-requires
+waited-for-requires c κs = search needs
+
+-- src/open.rt:201:15
+is-ready-requires : tie.Need-is-ready-requires
+is-ready-requires c κs = search needs
+
+-- src/open.rt:201:8
+is-own-requires : tie.Need-is-own-requires
+is-own-requires c κs = search needs
+
+-- src/open.rt:202:9
+open-ready-requires : tie.Need-open-ready-requires
+open-ready-requires c κs = search needs
+
+-- src/open.rt:202:9
+same-length : tie.Need-same-length
+same-length c = search needs
+
+-- src/open.rt:202:9
+same-length-2 : tie.Need-same-length-2
+same-length-2 c = search needs
+
+-- src/open.rt:202:9
+same-length-3 : tie.Need-same-length-3
+same-length-3 c = search needs
+
+-- src/open.rt:202:9
+same-length-4 : tie.Need-same-length-4
+same-length-4 c = search needs
+
+-- src/open.rt:202:9
+returns : tie.Need-returns
+returns c = packet-ready (c .before .before .before .before .before .before .before .before .before .before .before .before .before .before .before .before .before .before .before .args .state .now) (c .before .before .before .before .before .before .before .before .before .before .before .before .before .before .before .before .before .before .before .args .rx .now) (c .before .before .before .before .before .before .before .before .before .before .before .before .before .before .before .before .before .before .before .args .store .now) (c .before .before .before .before .before .before .before .before .before .before .before .before .before .before .before .before .before .before .before .args .out .now) (c .before .before .before .before .before .before .before .before .before .before .before .before .before .before .before .before .before .before .before .args .h) (c .before .before .before .before .before .before .before .before .before .before .before .before .before .before .before .before .before .before .before .pre .1) (c .before .before .before .before .before .before .before .before .before .before .before .before .before .before .before .before .before .before .before .args .received .now) (c .before .before .before .before .before .before .before .before .before .before .before .before .before .before .before .before .before .before .before .args .packet) _ _ _ _ _ (sym (own-is (c .before .before .before .before .before .before .before .before .before .before .before .before .before .before .before .before .before .before .before .args .state .now) (c .before .before .before .before .before .before .before .before .before .before .before .before .before .before .before .before .before .before .before .args .rx .now) (c .before .before .before .before .before .before .before .before .before .before .before .before .before .before .before .before .before .before .before .args .store .now) (c .before .before .before .before .before .before .before .before .before .before .before .before .before .before .before .before .before .before .before .args .out .now) (c .before .before .before .before .before .before .before .before .before .before .before .before .before .before .before .before .before .before .before .args .h) (c .before .before .before .before .before .before .before .before .before .before .before .before .before .before .before .before .before .before .before .pre .1) (c .before .before .before .before .before .before .before .before .before .before .before .before .before .before .before .before .before .before .before .args .received .now) (c .before .before .before .before .before .before .before .before .before .before .before .before .before .before .before .before .before .before .before .args .packet) (c .before .before .before .before .before .before .before .before .before .before .is-own .result) (c .before .before .before .before .before .before .before .before .before .before .before .is-ready .result) _ (c .before .before .before .before .before .before .before .before .before .before .before .before .before .waited-for .result) (c .before .before .before .before .before .before .before .before .before .before .before .before .before .waited-for .ensures) (c .before .before .before .before .before .before .before .before .before .before .before .is-ready .ensures) (c .before .before .before .before .before .before .before .before .before .before .is-own .ensures)) ∙ c .before .before .before .before .before .before .before .before .before .if1 .taken) (c .before .before .before .before .open-ready .ensures)
+
+-- src/open.rt:204:15
+is-write-requires : tie.Need-is-write-requires
+is-write-requires c κs = search needs
+
+-- src/open.rt:204:8
+is-own-requires-2 : tie.Need-is-own-requires-2
+is-own-requires-2 c κs = search needs
+
+-- src/open.rt:205:13
+close-open-requires : tie.Need-close-open-requires
+close-open-requires c κs = search needs
+
+-- src/open.rt:208:19
+add-t29 : tie.Need-add-t29
+add-t29 c = let k = (packet-fits (c .before .before .before .before .before .before .before .before .before .before .before .before .before .before .before .before .before .before .before .before .before .args .state .now) (c .before .before .before .before .before .before .before .before .before .before .before .before .before .before .before .before .before .before .before .before .before .args .rx .now) (c .before .before .before .before .before .before .before .before .before .before .before .before .before .before .before .before .before .before .before .before .before .args .store .now) (c .before .before .before .before .before .before .before .before .before .before .before .before .before .before .before .before .before .before .before .before .before .args .out .now) (c .before .before .before .before .before .before .before .before .before .before .before .before .before .before .before .before .before .before .before .before .before .args .h) (c .before .before .before .before .before .before .before .before .before .before .before .before .before .before .before .before .before .before .before .before .before .pre .1) (c .before .before .before .before .before .before .before .before .before .before .before .before .before .before .before .before .before .before .before .before .before .args .received .now) (c .before .before .before .before .before .before .before .before .before .before .before .before .before .before .before .before .before .before .before .before .before .args .packet) (c .before .before .before .before .before .before .before .before .before .before .before .before .before .before .before .before .before .before .before .before .before .pre .3)) .most in omega arith
+
+-- src/open.rt:206:9
+same-length-5 : tie.Need-same-length-5
+same-length-5 c = search needs
+
+-- src/open.rt:206:9
+same-length-6 : tie.Need-same-length-6
+same-length-6 c = search needs
+
+-- src/open.rt:206:9
+returns-2 : tie.Need-returns-2
+returns-2 c = packet-early (c .before .before .before .before .before .before .before .before .before .before .before .before .before .before .before .before .before .before .before .before .before .args .state .now) (c .before .before .before .before .before .before .before .before .before .before .before .before .before .before .before .before .before .before .before .before .before .args .rx .now) (c .before .before .before .before .before .before .before .before .before .before .before .before .before .before .before .before .before .before .before .before .before .args .store .now) (c .before .before .before .before .before .before .before .before .before .before .before .before .before .before .before .before .before .before .before .before .before .args .out .now) (c .before .before .before .before .before .before .before .before .before .before .before .before .before .before .before .before .before .before .before .before .before .args .h) (c .before .before .before .before .before .before .before .before .before .before .before .before .before .before .before .before .before .before .before .before .before .pre .1) (c .before .before .before .before .before .before .before .before .before .before .before .before .before .before .before .before .before .before .before .before .before .args .received .now) (c .before .before .before .before .before .before .before .before .before .before .before .before .before .before .before .before .before .before .before .before .before .args .packet) _ _ _ _ (c .before .before .before .before .before .before .before .before .before .before .before .before .before .before .before .before .before .before .before .before .before .pre .0 .room) (sym (own-is (c .before .before .before .before .before .before .before .before .before .before .before .before .before .before .before .before .before .before .before .before .before .args .state .now) (c .before .before .before .before .before .before .before .before .before .before .before .before .before .before .before .before .before .before .before .before .before .args .rx .now) (c .before .before .before .before .before .before .before .before .before .before .before .before .before .before .before .before .before .before .before .before .before .args .store .now) (c .before .before .before .before .before .before .before .before .before .before .before .before .before .before .before .before .before .before .before .before .before .args .out .now) (c .before .before .before .before .before .before .before .before .before .before .before .before .before .before .before .before .before .before .before .before .before .args .h) (c .before .before .before .before .before .before .before .before .before .before .before .before .before .before .before .before .before .before .before .before .before .pre .1) (c .before .before .before .before .before .before .before .before .before .before .before .before .before .before .before .before .before .before .before .before .before .args .received .now) (c .before .before .before .before .before .before .before .before .before .before .before .before .before .before .before .before .before .before .before .before .before .args .packet) (c .before .before .before .before .before .before .before .before .before .before .before .before .is-own .result) (c .before .before .before .before .before .before .before .before .before .before .before .before .before .is-ready .result) _ (c .before .before .before .before .before .before .before .before .before .before .before .before .before .before .before .waited-for .result) (c .before .before .before .before .before .before .before .before .before .before .before .before .before .before .before .waited-for .ensures) (c .before .before .before .before .before .before .before .before .before .before .before .before .before .is-ready .ensures) (c .before .before .before .before .before .before .before .before .before .before .before .before .is-own .ensures)) ∙ c .before .before .before .before .before .before .before .before .before .before .before .if1 .left) (sym (own-is (c .before .before .before .before .before .before .before .before .before .before .before .before .before .before .before .before .before .before .before .before .before .args .state .now) (c .before .before .before .before .before .before .before .before .before .before .before .before .before .before .before .before .before .before .before .before .before .args .rx .now) (c .before .before .before .before .before .before .before .before .before .before .before .before .before .before .before .before .before .before .before .before .before .args .store .now) (c .before .before .before .before .before .before .before .before .before .before .before .before .before .before .before .before .before .before .before .before .before .args .out .now) (c .before .before .before .before .before .before .before .before .before .before .before .before .before .before .before .before .before .before .before .before .before .args .h) (c .before .before .before .before .before .before .before .before .before .before .before .before .before .before .before .before .before .before .before .before .before .pre .1) (c .before .before .before .before .before .before .before .before .before .before .before .before .before .before .before .before .before .before .before .before .before .args .received .now) (c .before .before .before .before .before .before .before .before .before .before .before .before .before .before .before .before .before .before .before .before .before .args .packet) (c .before .before .before .before .before .before .before .before .before .is-own2 .result) (c .before .before .before .before .before .before .before .before .before .before .is-write .result) _ (c .before .before .before .before .before .before .before .before .before .before .before .before .before .before .before .waited-for .result) (c .before .before .before .before .before .before .before .before .before .before .before .before .before .before .before .waited-for .ensures) (c .before .before .before .before .before .before .before .before .before .before .is-write .ensures) (c .before .before .before .before .before .before .before .before .before .is-own2 .ensures)) ∙ c .before .before .before .before .before .before .before .before .if2 .taken) (c .before .before .before .before .before .close-open .ensures .0) (c .before .before .before .before .before .close-open .ensures .1) refl
+
+-- src/open.rt:212:15
+is-close-requires : tie.Need-is-close-requires
+is-close-requires c κs = search needs
+
+-- src/open.rt:212:8
+is-own-requires-3 : tie.Need-is-own-requires-3
+is-own-requires-3 c κs = search needs
+
+-- src/open.rt:213:27
+drop-waiting-requires : tie.Need-drop-waiting-requires
+drop-waiting-requires c κs = search needs
+
+-- src/open.rt:213:9
+put-header-requires : tie.Need-put-header-requires
+put-header-requires c κs = omega (arith, c .before .before .before .before .before .before .before .before .before .before .before .before .before .before .before .before .before .before .pre)
+
+-- src/open.rt:216:19
+add-t37 : tie.Need-add-t37
+add-t37 c = let k = (packet-fits (c .before .before .before .before .before .before .before .before .before .before .before .before .before .before .before .before .before .before .before .before .before .before .args .state .now) (c .before .before .before .before .before .before .before .before .before .before .before .before .before .before .before .before .before .before .before .before .before .before .args .rx .now) (c .before .before .before .before .before .before .before .before .before .before .before .before .before .before .before .before .before .before .before .before .before .before .args .store .now) (c .before .before .before .before .before .before .before .before .before .before .before .before .before .before .before .before .before .before .before .before .before .before .args .out .now) (c .before .before .before .before .before .before .before .before .before .before .before .before .before .before .before .before .before .before .before .before .before .before .args .h) (c .before .before .before .before .before .before .before .before .before .before .before .before .before .before .before .before .before .before .before .before .before .before .pre .1) (c .before .before .before .before .before .before .before .before .before .before .before .before .before .before .before .before .before .before .before .before .before .before .args .received .now) (c .before .before .before .before .before .before .before .before .before .before .before .before .before .before .before .before .before .before .before .before .before .before .args .packet) (c .before .before .before .before .before .before .before .before .before .before .before .before .before .before .before .before .before .before .before .before .before .before .pre .3)) .most in omega arith
+
+-- src/open.rt:214:9
+same-length-7 : tie.Need-same-length-7
+same-length-7 c = search needs
+
+-- src/open.rt:214:9
+returns-3 : tie.Need-returns-3
+returns-3 c = packet-closes (c .before .before .before .before .before .before .before .before .before .before .before .before .before .before .before .before .before .before .before .before .before .before .args .state .now) (c .before .before .before .before .before .before .before .before .before .before .before .before .before .before .before .before .before .before .before .before .before .before .args .rx .now) (c .before .before .before .before .before .before .before .before .before .before .before .before .before .before .before .before .before .before .before .before .before .before .args .store .now) (c .before .before .before .before .before .before .before .before .before .before .before .before .before .before .before .before .before .before .before .before .before .before .args .out .now) (c .before .before .before .before .before .before .before .before .before .before .before .before .before .before .before .before .before .before .before .before .before .before .args .h) (c .before .before .before .before .before .before .before .before .before .before .before .before .before .before .before .before .before .before .before .before .before .before .pre .1) (c .before .before .before .before .before .before .before .before .before .before .before .before .before .before .before .before .before .before .before .before .before .before .args .received .now) (c .before .before .before .before .before .before .before .before .before .before .before .before .before .before .before .before .before .before .before .before .before .before .args .packet) (c .before .before .before .before .drop-waiting .result) _ _ (sym (own-is (c .before .before .before .before .before .before .before .before .before .before .before .before .before .before .before .before .before .before .before .before .before .before .args .state .now) (c .before .before .before .before .before .before .before .before .before .before .before .before .before .before .before .before .before .before .before .before .before .before .args .rx .now) (c .before .before .before .before .before .before .before .before .before .before .before .before .before .before .before .before .before .before .before .before .before .before .args .store .now) (c .before .before .before .before .before .before .before .before .before .before .before .before .before .before .before .before .before .before .before .before .before .before .args .out .now) (c .before .before .before .before .before .before .before .before .before .before .before .before .before .before .before .before .before .before .before .before .before .before .args .h) (c .before .before .before .before .before .before .before .before .before .before .before .before .before .before .before .before .before .before .before .before .before .before .pre .1) (c .before .before .before .before .before .before .before .before .before .before .before .before .before .before .before .before .before .before .before .before .before .before .args .received .now) (c .before .before .before .before .before .before .before .before .before .before .before .before .before .before .before .before .before .before .before .before .before .before .args .packet) (c .before .before .before .before .before .before .before .before .before .before .before .before .before .is-own .result) (c .before .before .before .before .before .before .before .before .before .before .before .before .before .before .is-ready .result) _ (c .before .before .before .before .before .before .before .before .before .before .before .before .before .before .before .before .waited-for .result) (c .before .before .before .before .before .before .before .before .before .before .before .before .before .before .before .before .waited-for .ensures) (c .before .before .before .before .before .before .before .before .before .before .before .before .before .before .is-ready .ensures) (c .before .before .before .before .before .before .before .before .before .before .before .before .before .is-own .ensures)) ∙ c .before .before .before .before .before .before .before .before .before .before .before .before .if1 .left) (sym (own-is (c .before .before .before .before .before .before .before .before .before .before .before .before .before .before .before .before .before .before .before .before .before .before .args .state .now) (c .before .before .before .before .before .before .before .before .before .before .before .before .before .before .before .before .before .before .before .before .before .before .args .rx .now) (c .before .before .before .before .before .before .before .before .before .before .before .before .before .before .before .before .before .before .before .before .before .before .args .store .now) (c .before .before .before .before .before .before .before .before .before .before .before .before .before .before .before .before .before .before .before .before .before .before .args .out .now) (c .before .before .before .before .before .before .before .before .before .before .before .before .before .before .before .before .before .before .before .before .before .before .args .h) (c .before .before .before .before .before .before .before .before .before .before .before .before .before .before .before .before .before .before .before .before .before .before .pre .1) (c .before .before .before .before .before .before .before .before .before .before .before .before .before .before .before .before .before .before .before .before .before .before .args .received .now) (c .before .before .before .before .before .before .before .before .before .before .before .before .before .before .before .before .before .before .before .before .before .before .args .packet) (c .before .before .before .before .before .before .before .before .before .before .is-own2 .result) (c .before .before .before .before .before .before .before .before .before .before .before .is-write .result) _ (c .before .before .before .before .before .before .before .before .before .before .before .before .before .before .before .before .waited-for .result) (c .before .before .before .before .before .before .before .before .before .before .before .before .before .before .before .before .waited-for .ensures) (c .before .before .before .before .before .before .before .before .before .before .before .is-write .ensures) (c .before .before .before .before .before .before .before .before .before .before .is-own2 .ensures)) ∙ c .before .before .before .before .before .before .before .before .before .if2 .left) (sym (own-is (c .before .before .before .before .before .before .before .before .before .before .before .before .before .before .before .before .before .before .before .before .before .before .args .state .now) (c .before .before .before .before .before .before .before .before .before .before .before .before .before .before .before .before .before .before .before .before .before .before .args .rx .now) (c .before .before .before .before .before .before .before .before .before .before .before .before .before .before .before .before .before .before .before .before .before .before .args .store .now) (c .before .before .before .before .before .before .before .before .before .before .before .before .before .before .before .before .before .before .before .before .before .before .args .out .now) (c .before .before .before .before .before .before .before .before .before .before .before .before .before .before .before .before .before .before .before .before .before .before .args .h) (c .before .before .before .before .before .before .before .before .before .before .before .before .before .before .before .before .before .before .before .before .before .before .pre .1) (c .before .before .before .before .before .before .before .before .before .before .before .before .before .before .before .before .before .before .before .before .before .before .args .received .now) (c .before .before .before .before .before .before .before .before .before .before .before .before .before .before .before .before .before .before .before .before .before .before .args .packet) (c .before .before .before .before .before .before .before .is-own3 .result) (c .before .before .before .before .before .before .before .before .is-close .result) _ (c .before .before .before .before .before .before .before .before .before .before .before .before .before .before .before .before .waited-for .result) (c .before .before .before .before .before .before .before .before .before .before .before .before .before .before .before .before .waited-for .ensures) (c .before .before .before .before .before .before .before .before .is-close .ensures) (c .before .before .before .before .before .before .before .is-own3 .ensures)) ∙ c .before .before .before .before .before .before .if3 .taken) (c .before .before .before .before .drop-waiting .ensures) (c .before .before .before .put-header .ensures) refl
+
+-- src/open.rt:220:5
+open-act-requires : tie.Need-open-act-requires
+open-act-requires c κs = search needs
+
+-- src/open.rt:186:1
+same-length-8 : tie.Need-same-length-8
+same-length-8 c = search needs
+
+-- src/open.rt:186:1
+same-length-9 : tie.Need-same-length-9
+same-length-9 c = search needs
+
+-- src/open.rt:186:1
+same-length-10 : tie.Need-same-length-10
+same-length-10 c = search needs
+
+-- src/open.rt:186:1
+same-length-11 : tie.Need-same-length-11
+same-length-11 c = search needs
+
+-- src/open.rt:186:1
+returns-4 : tie.Need-returns-4
+returns-4 c = packet-acts (c .before .before .before .before .before .before .before .before .before .before .before .before .before .before .before .before .before .before .before .before .before .before .before .before .before .before .before .before .before .args .state .now) (c .before .before .before .before .before .before .before .before .before .before .before .before .before .before .before .before .before .before .before .before .before .before .before .before .before .before .before .before .before .args .rx .now) (c .before .before .before .before .before .before .before .before .before .before .before .before .before .before .before .before .before .before .before .before .before .before .before .before .before .before .before .before .before .args .store .now) (c .before .before .before .before .before .before .before .before .before .before .before .before .before .before .before .before .before .before .before .before .before .before .before .before .before .before .before .before .before .args .out .now) (c .before .before .before .before .before .before .before .before .before .before .before .before .before .before .before .before .before .before .before .before .before .before .before .before .before .before .before .before .before .args .h) (c .before .before .before .before .before .before .before .before .before .before .before .before .before .before .before .before .before .before .before .before .before .before .before .before .before .before .before .before .before .pre .1) (c .before .before .before .before .before .before .before .before .before .before .before .before .before .before .before .before .before .before .before .before .before .before .before .before .before .before .before .before .before .args .received .now) (c .before .before .before .before .before .before .before .before .before .before .before .before .before .before .before .before .before .before .before .before .before .before .before .before .before .before .before .before .before .args .packet) _ _ _ _ _ (sym (own-is (c .before .before .before .before .before .before .before .before .before .before .before .before .before .before .before .before .before .before .before .before .before .before .before .before .before .before .before .before .before .args .state .now) (c .before .before .before .before .before .before .before .before .before .before .before .before .before .before .before .before .before .before .before .before .before .before .before .before .before .before .before .before .before .args .rx .now) (c .before .before .before .before .before .before .before .before .before .before .before .before .before .before .before .before .before .before .before .before .before .before .before .before .before .before .before .before .before .args .store .now) (c .before .before .before .before .before .before .before .before .before .before .before .before .before .before .before .before .before .before .before .before .before .before .before .before .before .before .before .before .before .args .out .now) (c .before .before .before .before .before .before .before .before .before .before .before .before .before .before .before .before .before .before .before .before .before .before .before .before .before .before .before .before .before .args .h) (c .before .before .before .before .before .before .before .before .before .before .before .before .before .before .before .before .before .before .before .before .before .before .before .before .before .before .before .before .before .pre .1) (c .before .before .before .before .before .before .before .before .before .before .before .before .before .before .before .before .before .before .before .before .before .before .before .before .before .before .before .before .before .args .received .now) (c .before .before .before .before .before .before .before .before .before .before .before .before .before .before .before .before .before .before .before .before .before .before .before .before .before .before .before .before .before .args .packet) (c .before .before .before .before .before .before .before .before .before .before .before .before .before .before .before .before .before .before .before .before .is-own .result) (c .before .before .before .before .before .before .before .before .before .before .before .before .before .before .before .before .before .before .before .before .before .is-ready .result) _ (c .before .before .before .before .before .before .before .before .before .before .before .before .before .before .before .before .before .before .before .before .before .before .before .waited-for .result) (c .before .before .before .before .before .before .before .before .before .before .before .before .before .before .before .before .before .before .before .before .before .before .before .waited-for .ensures) (c .before .before .before .before .before .before .before .before .before .before .before .before .before .before .before .before .before .before .before .before .before .is-ready .ensures) (c .before .before .before .before .before .before .before .before .before .before .before .before .before .before .before .before .before .before .before .before .is-own .ensures)) ∙ c .before .before .before .before .before .before .before .before .before .before .before .before .before .before .before .before .before .before .before .if1 .left) (sym (own-is (c .before .before .before .before .before .before .before .before .before .before .before .before .before .before .before .before .before .before .before .before .before .before .before .before .before .before .before .before .before .args .state .now) (c .before .before .before .before .before .before .before .before .before .before .before .before .before .before .before .before .before .before .before .before .before .before .before .before .before .before .before .before .before .args .rx .now) (c .before .before .before .before .before .before .before .before .before .before .before .before .before .before .before .before .before .before .before .before .before .before .before .before .before .before .before .before .before .args .store .now) (c .before .before .before .before .before .before .before .before .before .before .before .before .before .before .before .before .before .before .before .before .before .before .before .before .before .before .before .before .before .args .out .now) (c .before .before .before .before .before .before .before .before .before .before .before .before .before .before .before .before .before .before .before .before .before .before .before .before .before .before .before .before .before .args .h) (c .before .before .before .before .before .before .before .before .before .before .before .before .before .before .before .before .before .before .before .before .before .before .before .before .before .before .before .before .before .pre .1) (c .before .before .before .before .before .before .before .before .before .before .before .before .before .before .before .before .before .before .before .before .before .before .before .before .before .before .before .before .before .args .received .now) (c .before .before .before .before .before .before .before .before .before .before .before .before .before .before .before .before .before .before .before .before .before .before .before .before .before .before .before .before .before .args .packet) (c .before .before .before .before .before .before .before .before .before .before .before .before .before .before .before .before .before .is-own2 .result) (c .before .before .before .before .before .before .before .before .before .before .before .before .before .before .before .before .before .before .is-write .result) _ (c .before .before .before .before .before .before .before .before .before .before .before .before .before .before .before .before .before .before .before .before .before .before .before .waited-for .result) (c .before .before .before .before .before .before .before .before .before .before .before .before .before .before .before .before .before .before .before .before .before .before .before .waited-for .ensures) (c .before .before .before .before .before .before .before .before .before .before .before .before .before .before .before .before .before .before .is-write .ensures) (c .before .before .before .before .before .before .before .before .before .before .before .before .before .before .before .before .before .is-own2 .ensures)) ∙ c .before .before .before .before .before .before .before .before .before .before .before .before .before .before .before .before .if2 .left) (sym (own-is (c .before .before .before .before .before .before .before .before .before .before .before .before .before .before .before .before .before .before .before .before .before .before .before .before .before .before .before .before .before .args .state .now) (c .before .before .before .before .before .before .before .before .before .before .before .before .before .before .before .before .before .before .before .before .before .before .before .before .before .before .before .before .before .args .rx .now) (c .before .before .before .before .before .before .before .before .before .before .before .before .before .before .before .before .before .before .before .before .before .before .before .before .before .before .before .before .before .args .store .now) (c .before .before .before .before .before .before .before .before .before .before .before .before .before .before .before .before .before .before .before .before .before .before .before .before .before .before .before .before .before .args .out .now) (c .before .before .before .before .before .before .before .before .before .before .before .before .before .before .before .before .before .before .before .before .before .before .before .before .before .before .before .before .before .args .h) (c .before .before .before .before .before .before .before .before .before .before .before .before .before .before .before .before .before .before .before .before .before .before .before .before .before .before .before .before .before .pre .1) (c .before .before .before .before .before .before .before .before .before .before .before .before .before .before .before .before .before .before .before .before .before .before .before .before .before .before .before .before .before .args .received .now) (c .before .before .before .before .before .before .before .before .before .before .before .before .before .before .before .before .before .before .before .before .before .before .before .before .before .before .before .before .before .args .packet) (c .before .before .before .before .before .before .before .before .before .before .before .before .before .before .is-own3 .result) (c .before .before .before .before .before .before .before .before .before .before .before .before .before .before .before .is-close .result) _ (c .before .before .before .before .before .before .before .before .before .before .before .before .before .before .before .before .before .before .before .before .before .before .before .waited-for .result) (c .before .before .before .before .before .before .before .before .before .before .before .before .before .before .before .before .before .before .before .before .before .before .before .waited-for .ensures) (c .before .before .before .before .before .before .before .before .before .before .before .before .before .before .before .is-close .ensures) (c .before .before .before .before .before .before .before .before .before .before .before .before .before .before .is-own3 .ensures)) ∙ c .before .before .before .before .before .before .before .before .before .before .before .before .before .if3 .left) (c .before .before .before .before .before .before .before .before .open-act .ensures)
+
+pub open-packet-spec : {M : Type 1} → statement M
+open-packet-spec =
+    tie.close
+    (tie.spec
+    waited-for-requires
+    is-ready-requires
+    is-own-requires
+    open-ready-requires
+    same-length
+    same-length-2
+    same-length-3
+    same-length-4
+    returns
+    is-write-requires
+    is-own-requires-2
+    close-open-requires
+    add-t29
+    same-length-5
+    same-length-6
+    returns-2
+    is-close-requires
+    is-own-requires-3
+    drop-waiting-requires
+    put-header-requires
+    add-t37
+    same-length-7
+    returns-3
+    open-act-requires
+    same-length-8
+    same-length-9
+    same-length-10
+    same-length-11
+    returns-4)

@@ -1,0 +1,2 @@
+// Opening a channel.
+pub mod open;

@@ -1,0 +1,4 @@
+pub mod LookLaws
+pub mod ReadLaws
+pub mod ReadSteps
+pub mod TransferLaws

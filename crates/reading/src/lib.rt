@@ -1,0 +1,3 @@
+// Reading a channel: settle and take, the two halves, and read.
+pub mod read;
+pub mod transfer;

@@ -1,0 +1,338 @@
+// Reading: what is buffered, or what one packet brings.
+use crate::transfer::hand_over;
+use crate::transfer::store_slot;
+use calls::Reply;
+use calls::act::act_on;
+use calls::admit::Admitted;
+use calls::admit::admit;
+use calls::admit::drop_waiting;
+use calls::admit::is_there;
+use calls::admit::refused;
+use calls::frames::ids_in;
+use calls::frames::put_ack;
+use calls::recv::error_refusal;
+use calls::recv::is_write;
+use calls::recv::recv_pkt;
+use calls::recv::unless_fault;
+use connection::Answer;
+use connection::Received;
+use connection::Refusal;
+use protocol::packet::Packet;
+use slot::ChannelSlot;
+use slot::Failed;
+use slot::Taken;
+use state::Header;
+use state::put_header;
+use state::put_slot;
+use state::slot_at;
+use table::ChannelId;
+ghost use mathlib.Core.Path.{_≡_};
+ghost use mathlib.Core.Bool.{true, _&&_};
+ghost use mathlib.Core.List.{List, [], _∷_};
+ghost use Prim.Native.Nat.{ℕ, _+_, _*_, _≤_, _<_};
+ghost use lib.Dec.{eqb, leb};
+ghost use lib.ListN.{length, set};
+ghost use Rattle.le.specs.Le.{put};
+ghost use Rattle.config.specs.Config.{Within};
+ghost use Rattle.config.specs.Negotiated.{policyOf};
+ghost use Rattle.slot.specs.Slot.{settledOf, deliveredOf};
+ghost use Rattle.state.specs.Change.{slotTo};
+ghost use Rattle.state.specs.State.{stateOf, slotAt, putSlot, putHeader};
+ghost use Rattle.state.specs.Valid.{isWhole};
+ghost use Rattle.connection.specs.declared.Received.the-variants.{Packet as PacketIs};
+ghost use Rattle.connection.specs.Act.{actOn};
+ghost use Rattle.connection.specs.Calls.{dropped, begun, then, isThere, slotFor, frontOf, isDirect, receivedOf, readActed, readDirect, readBy, readFirst, readStep, readOf};
+ghost use Rattle.calls.specs.Promise.{lentOf, agreedIn, Leaves, Admits};
+ghost use Rattle.connection.specs.Act.{PacketFits};
+ghost use Rattle.reading.specs.Reading.{againOf, TakeRoom, Tries, Looks};
+
+pub enum Tried {
+    Replied(Reply),
+    // Nothing is there: the slot as settled, which is not stored yet, and the place past the frames.
+    Nothing(ChannelSlot, usize),
+}
+
+// Settles what the reader's buffer takes, writes the OKAY that is due, and takes it.
+fn take_buffered(
+    state: &mut [u8],
+    rx: &[u8],
+    ch: ChannelId,
+    out: &mut [u8],
+    at: usize,
+    buf: &mut [u8],
+    h: Header,
+    used: usize,
+    fault: Failed,
+) -> Tried
+    requires { ⌜ TakeRoom (h .negotiated) (now state) (now rx) (now out) (ch .slot) at (length (now buf)) ⌝ }
+    ensures { λ r. ⌜ ((store : List ℕ) → Tries (lentOf (now (state .entry)) (now (rx .entry)) store) h ch (length (now (buf .entry))) used fault (settledOf (slotAt (now (state .entry)) (ch .slot)) (policyOf (h .negotiated)) (length (now (buf .entry)))) at (now (state .entry)) (now (out .entry)) (now (buf .entry)) r (now (state .exit)) (now (out .exit)) (now (buf .exit))) ⌝ }
+{
+    let n = h.negotiated;
+    let policy = n.rx_policy();
+    let i = ch.slot;
+    let settled = slot_at(state, i).settle_take(buf.len(), policy);
+    let s = settled.slot;
+    let ack = settled.ack;
+    let end = put_ack(out, at, n, s, ack);
+    let taken = s.take_buffered(buf.len(), policy.rx_cap);
+    match taken {
+        Taken::Nothing => Tried::Nothing(s, end),
+        Taken::Closed(error) => {
+            store_slot(state, i, s, h);
+            Tried::Replied(Reply {
+                answer: unless_fault(fault, Answer::Refused(error_refusal(error))),
+                used,
+                written: end,
+            })
+        }
+        Taken::Data(t, len) => {
+            hand_over(rx, i, policy.rx_cap, s, len, buf);
+            store_slot(state, i, t, h);
+            Tried::Replied(Reply {
+                answer: Answer::Read(len),
+                used,
+                written: end,
+            })
+        }
+    }
+}
+
+// The same behind a packet that was dispatched: the call's end, or waiting.
+fn read_again(
+    state: &mut [u8],
+    rx: &[u8],
+    ch: ChannelId,
+    out: &mut [u8],
+    at: usize,
+    buf: &mut [u8],
+    h: Header,
+    used: usize,
+    fault: Failed,
+) -> Reply
+    requires { ⌜ TakeRoom (h .negotiated) (now state) (now rx) (now out) (ch .slot) at (length (now buf)) ⌝ }
+    ensures { λ r. ⌜ ((store : List ℕ) → Leaves (h .negotiated) (againOf (lentOf (now (state .entry)) (now (rx .entry)) store) h ch (length (now (buf .entry))) used fault (settledOf (slotAt (now (state .entry)) (ch .slot)) (policyOf (h .negotiated)) (length (now (buf .entry))))) at (now (state .entry)) (now (out .entry)) (now (buf .entry)) r (now (state .exit)) (now (rx .entry)) store (now (out .exit)) (now (buf .exit))) ⌝ }
+{
+    let tried = take_buffered(state, rx, ch, out, at, buf, h, used, fault);
+    match tried {
+        Tried::Replied(reply) => reply,
+        Tried::Nothing(s, end) => {
+            store_slot(state, ch.slot, s, h);
+            Reply {
+                answer: unless_fault(fault, Answer::Waiting),
+                used,
+                written: end,
+            }
+        }
+    }
+}
+
+// A WRTE of the channel's own that fits the reader's buffer.
+fn is_direct(s: ChannelSlot, room: usize, packet: Packet) -> bool
+    ensures { λ r. ⌜ r ≡ isDirect s room packet ⌝ }
+{
+    let command = packet.command;
+    let local = s.local;
+    if is_write(command) {
+        if packet.arg1 == local.0 {
+            return packet.data_length <= room;
+        }
+        return false;
+    }
+    false
+}
+
+// It goes straight to the reader, and never was unacknowledged.
+fn read_direct(
+    state: &mut [u8],
+    ch: ChannelId,
+    s: ChannelSlot,
+    used: usize,
+    payload: &[u8],
+    out: &mut [u8],
+    at: usize,
+    buf: &mut [u8],
+    h: Header,
+) -> Reply
+    requires { ⌜ (ch .slot < 64) × (4730 ≤ length (now state)) × Within (h .negotiated .config) × (length (now payload) ≤ length (now buf)) × (at + 28 ≤ length (now out)) ⌝ }
+    ensures { λ r. ⌜ ((rx store : List ℕ) → Leaves (h .negotiated) (readDirect ch used (begun h (lentOf (now (state .entry)) rx store)) (now (payload .entry)) (deliveredOf s (policyOf (h .negotiated)) (length (now (payload .entry))))) at (now (state .entry)) (now (out .entry)) (now (buf .entry)) r (now (state .exit)) rx store (now (out .exit)) (now (buf .exit))) ⌝ }
+{
+    let n = h.negotiated;
+    let delivered = s.deliver(payload.len(), n.rx_policy());
+    let t = delivered.slot;
+    let ack = delivered.ack;
+    le::copy_at(buf, 0, payload);
+    let end = put_ack(out, at, n, t, ack);
+    store_slot(state, ch.slot, t, h);
+    Reply {
+        answer: Answer::Read(payload.len()),
+        used,
+        written: end,
+    }
+}
+
+// A packet that is not for the reader: dispatched, then what is buffered by now.
+fn read_other(
+    state: &mut [u8],
+    rx: &mut [u8],
+    store: &mut [u8],
+    ch: ChannelId,
+    s: ChannelSlot,
+    used: usize,
+    packet: Packet,
+    payload: &[u8],
+    out: &mut [u8],
+    at: usize,
+    buf: &mut [u8],
+    h: Header,
+) -> Reply
+    requires { ⌜ Admits (now state) (now rx) (now store) (length (now out)) × Looks (lentOf (now state) (now rx) (now store)) h ch s (length (now buf)) at × PacketFits (h .negotiated) packet (now payload) ⌝ }
+    ensures { λ r. ⌜ Leaves (agreedIn (now (state .entry))) (readActed (lentOf (now (state .entry)) (now (rx .entry)) (now (store .entry))) ch (length (now (buf .entry))) used (then (begun h (lentOf (now (state .entry)) (now (rx .entry)) (now (store .entry)))) (slotTo (ch .slot) s ∷ []) []) (actOn h (set (stateOf (now (state .entry)) .slots) (ch .slot) s) (stateOf (now (state .entry)) .opens) (now (rx .entry)) (now (store .entry)) packet (now (payload .entry)))) at (now (state .entry)) (now (out .entry)) (now (buf .entry)) r (now (state .exit)) (now (rx .exit)) (now (store .exit)) (now (out .exit)) (now (buf .exit)) ⌝ }
+{
+    put_slot(state, ch.slot, s);
+    let acted = act_on(state, rx, store, out, at, h, packet, payload);
+    let header = acted.header;
+    let fault = acted.fault;
+    read_again(state, rx, ch, out, acted.end, buf, header, used, fault)
+}
+
+// A packet: the reader's own, its CLSE, or another's.
+fn read_packet(
+    state: &mut [u8],
+    rx: &mut [u8],
+    store: &mut [u8],
+    ch: ChannelId,
+    s: ChannelSlot,
+    packet: Packet,
+    received: &[u8],
+    out: &mut [u8],
+    at: usize,
+    buf: &mut [u8],
+    h: Header,
+) -> Reply
+    requires { ⌜ Admits (now state) (now rx) (now store) (length (now out)) × Looks (lentOf (now state) (now rx) (now store)) h ch s (length (now buf)) at × (receivedOf (lentOf (now state) (now rx) (now store)) (now received) ≡ PacketIs packet) ⌝ }
+    ensures { λ r. ⌜ Leaves (agreedIn (now (state .entry))) (readBy (lentOf (now (state .entry)) (now (rx .entry)) (now (store .entry))) ch (length (now (buf .entry))) (begun h (lentOf (now (state .entry)) (now (rx .entry)) (now (store .entry)))) s (now (received .entry)) (PacketIs packet)) at (now (state .entry)) (now (out .entry)) (now (buf .entry)) r (now (state .exit)) (now (rx .exit)) (now (store .exit)) (now (out .exit)) (now (buf .exit)) ⌝ }
+{
+    let payload = Packet::payload(received, packet.data_length);
+    let used = 24 + packet.data_length;
+    if is_direct(s, buf.len(), packet) {
+        return read_direct(state, ch, s, used, payload, out, at, buf, h);
+    }
+    if ids_in(s).closed_by(packet) {
+        store_slot(state, ch.slot, s.apply_close(), h);
+        return Reply {
+            answer: Answer::Refused(Refusal::ChannelClosed),
+            used,
+            written: at,
+        };
+    }
+    read_other(
+        state,
+        rx,
+        store,
+        ch,
+        s,
+        used,
+        packet,
+        payload,
+        out,
+        at,
+        buf,
+        h,
+    )
+}
+
+// Nothing is buffered: one packet is looked at.
+fn read_more(
+    state: &mut [u8],
+    rx: &mut [u8],
+    store: &mut [u8],
+    ch: ChannelId,
+    s: ChannelSlot,
+    received: &[u8],
+    out: &mut [u8],
+    at: usize,
+    buf: &mut [u8],
+    h: Header,
+) -> Reply
+    requires { ⌜ Admits (now state) (now rx) (now store) (length (now out)) × Looks (lentOf (now state) (now rx) (now store)) h ch s (length (now buf)) at ⌝ }
+    ensures { λ r. ⌜ Leaves (agreedIn (now (state .entry))) (readBy (lentOf (now (state .entry)) (now (rx .entry)) (now (store .entry))) ch (length (now (buf .entry))) (begun h (lentOf (now (state .entry)) (now (rx .entry)) (now (store .entry)))) s (now (received .entry)) (receivedOf (lentOf (now (state .entry)) (now (rx .entry)) (now (store .entry))) (now (received .entry)))) at (now (state .entry)) (now (out .entry)) (now (buf .entry)) r (now (state .exit)) (now (rx .exit)) (now (store .exit)) (now (out .exit)) (now (buf .exit)) ⌝ }
+{
+    let n = h.negotiated;
+    let config = n.config;
+    let found = recv_pkt(received, config.max_payload);
+    match found {
+        Received::Stop(answer, used) => {
+            store_slot(state, ch.slot, s, h);
+            Reply {
+                answer,
+                used,
+                written: at,
+            }
+        }
+        Received::Packet(packet) => {
+            read_packet(state, rx, store, ch, s, packet, received, out, at, buf, h)
+        }
+    }
+}
+
+// What is buffered, and else what a packet brings.
+fn read_channel(
+    state: &mut [u8],
+    rx: &mut [u8],
+    store: &mut [u8],
+    ch: ChannelId,
+    received: &[u8],
+    out: &mut [u8],
+    buf: &mut [u8],
+    h: Header,
+) -> Reply
+    requires { ⌜ Admits (now state) (now rx) (now store) (length (now out)) × (h ≡ dropped (stateOf (now state) .header)) × (isThere (lentOf (now state) (now rx) (now store)) ch ≡ true) ⌝ }
+    ensures { λ r. ⌜ Leaves (agreedIn (now (state .entry))) (readFirst (lentOf (now (state .entry)) (now (rx .entry)) (now (store .entry))) ch (length (now (buf .entry))) (now (received .entry)) (settledOf (slotFor (lentOf (now (state .entry)) (now (rx .entry)) (now (store .entry))) ch) (policyOf (agreedIn (now (state .entry)))) (length (now (buf .entry))))) 0 (now (state .entry)) (now (out .entry)) (now (buf .entry)) r (now (state .exit)) (now (rx .exit)) (now (store .exit)) (now (out .exit)) (now (buf .exit)) ⌝ }
+{
+    let tried = take_buffered(state, rx, ch, out, 0, buf, h, 0, Failed::No);
+    match tried {
+        Tried::Replied(reply) => reply,
+        Tried::Nothing(s, at) => read_more(state, rx, store, ch, s, received, out, at, buf, h),
+    }
+}
+
+fn read_step(
+    state: &mut [u8],
+    rx: &mut [u8],
+    store: &mut [u8],
+    ch: ChannelId,
+    received: &[u8],
+    out: &mut [u8],
+    buf: &mut [u8],
+    h: Header,
+) -> Reply
+    requires { ⌜ Admits (now state) (now rx) (now store) (length (now out)) × (h ≡ dropped (stateOf (now state) .header)) ⌝ }
+    ensures { λ r. ⌜ Leaves (agreedIn (now (state .entry))) (readStep (lentOf (now (state .entry)) (now (rx .entry)) (now (store .entry))) ch (length (now (buf .entry))) (now (received .entry))) 0 (now (state .entry)) (now (out .entry)) (now (buf .entry)) r (now (state .exit)) (now (rx .exit)) (now (store .exit)) (now (out .exit)) (now (buf .exit)) ⌝ }
+{
+    let n = h.negotiated;
+    let config = n.config;
+    if is_there(state, config.channels, ch) {
+        return read_channel(state, rx, store, ch, received, out, buf, h);
+    }
+    put_header(state, h);
+    refused(Refusal::ChannelClosed)
+}
+
+// Bytes of a channel for its reader: what is buffered, or what one packet brings.
+pub fn read(
+    state: &mut [u8],
+    rx: &mut [u8],
+    store: &mut [u8],
+    ch: ChannelId,
+    received: &[u8],
+    out: &mut [u8],
+    buf: &mut [u8],
+) -> Reply
+    ensures { λ r. ⌜ Leaves (agreedIn (now (state .entry))) (readOf (isWhole (now (state .entry))) (lentOf (now (state .entry)) (now (rx .entry)) (now (store .entry))) (length (now (out .entry))) ch (length (now (buf .entry))) (now (received .entry))) 0 (now (state .entry)) (now (out .entry)) (now (buf .entry)) r (now (state .exit)) (now (rx .exit)) (now (store .exit)) (now (out .exit)) (now (buf .exit)) ⌝ }
+{
+    let admitted = admit(state, rx.len(), store.len(), out.len());
+    match admitted {
+        Admitted::No(refusal) => refused(refusal),
+        Admitted::Yes(h) => read_step(state, rx, store, ch, received, out, buf, drop_waiting(h)),
+    }
+}

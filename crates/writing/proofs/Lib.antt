@@ -1,0 +1,2 @@
+pub mod RestLaws
+pub mod WriteLaws

@@ -1,0 +1,2 @@
+// Writing to a channel.
+pub mod write;

@@ -1,0 +1,338 @@
+// Sending bytes on a channel.
+use calls::Reply;
+use calls::act::act_on;
+use calls::admit::Admitted;
+use calls::admit::admit;
+use calls::admit::drop_waiting;
+use calls::admit::is_there;
+use calls::admit::refused;
+use calls::frames::ids_in;
+use calls::frames::put_write;
+use calls::recv::is_ready;
+use calls::recv::recv_pkt;
+use calls::recv::unless_fault;
+use connection::Answer;
+use connection::Received;
+use connection::Refusal;
+use protocol::packet::Packet;
+use slot::Budget;
+use slot::ChannelSlot;
+use slot::Readied;
+use slot::ids::LocalId;
+use slot::is_closed;
+use state::Header;
+use state::put_header;
+use state::put_slot;
+use state::slot_at;
+use table::ChannelId;
+ghost use mathlib.Core.Path.{_≡_};
+ghost use mathlib.Core.Bool.{_&&_};
+ghost use mathlib.Core.List.{List, []};
+ghost use Prim.Native.Nat.{ℕ, min, max};
+ghost use lib.Dec.{eqb};
+ghost use lib.ListN.{length};
+ghost use Rattle.slot.specs.declared.Budget.the-variants.{Nothing as NoBudget};
+ghost use Rattle.slot.specs.Slot.{readyOf};
+ghost use Rattle.state.specs.State.{stateOf};
+ghost use Rattle.state.specs.Valid.{isWhole};
+ghost use Rattle.connection.specs.declared.Received.the-variants.{Packet as PacketIs};
+ghost use Rattle.connection.specs.Calls.{dropped, policy, isReady, receivedOf, sendLen, sendSome, sendAgain, writeReadied, writeBy, writeFirst, writeOn, writeStep, writeOf};
+ghost use Rattle.calls.specs.Promise.{lentOf, agreedIn, Leaves, Admits};
+ghost use Rattle.writing.specs.Writing.{starts, Sends, Finds, Waits};
+
+// The least of the bytes left, the payload's maximum (at least 1) and the budget.
+fn send_len(len: usize, max_payload: u32, most: usize) -> usize
+    ensures { λ r. ⌜ r ≡ min (min len (max «max_payload» 1)) most ⌝ }
+{
+    if max_payload == 0 {
+        return saturate::least(saturate::least(len, 1), most);
+    }
+    saturate::least(saturate::least(len, max_payload as usize), most)
+}
+
+// A WRTE of as many bytes as may be sent. Where its frame does not fit the outgoing buffer, nothing changes: the packet that
+// came before is to be handed in again.
+fn send_some(
+    state: &mut [u8],
+    ch: ChannelId,
+    s: ChannelSlot,
+    bytes: &[u8],
+    most: usize,
+    used: usize,
+    out: &mut [u8],
+    h: Header,
+) -> Reply
+    requires { ⌜ Sends (now state) (ch .slot) h ⌝ }
+    ensures { λ r. ⌜ ((rx store : List ℕ) → Leaves (agreedIn (now (state .entry))) (sendSome (lentOf (now (state .entry)) rx store) ch (length (now (out .entry))) (now (bytes .entry)) used (starts (now (state .entry)) rx store) s (sendLen (lentOf (now (state .entry)) rx store) (now (bytes .entry)) most)) 0 (now (state .entry)) (now (out .entry)) [] r (now (state .exit)) rx store (now (out .exit)) []) ⌝ }
+{
+    let n = h.negotiated;
+    let len = send_len(bytes.len(), n.max_payload, most);
+    if out.len() < 24 + len {
+        return refused(Refusal::OutShort);
+    }
+    let end = put_write(out, 0, n, ids_in(s), &bytes[0..len]);
+    put_slot(state, ch.slot, s.spend(len, n.rx_policy()));
+    put_header(state, h);
+    Reply {
+        answer: Answer::Written(len),
+        used,
+        written: end,
+    }
+}
+
+// The turn after the channel's own OKAY, with its slot.
+fn send_again(
+    state: &mut [u8],
+    ch: ChannelId,
+    s: ChannelSlot,
+    bytes: &[u8],
+    used: usize,
+    out: &mut [u8],
+    h: Header,
+) -> Reply
+    requires { ⌜ Sends (now state) (ch .slot) h ⌝ }
+    ensures { λ r. ⌜ ((rx store : List ℕ) → Leaves (agreedIn (now (state .entry))) (sendAgain (lentOf (now (state .entry)) rx store) ch (length (now (out .entry))) (now (bytes .entry)) used (starts (now (state .entry)) rx store) s) 0 (now (state .entry)) (now (out .entry)) [] r (now (state .exit)) rx store (now (out .exit)) []) ⌝ }
+{
+    let condition = s.state;
+    if is_closed(condition) {
+        put_slot(state, ch.slot, s);
+        put_header(state, h);
+        return Reply {
+            answer: Answer::Refused(Refusal::ChannelClosed),
+            used,
+            written: 0,
+        };
+    }
+    let n = h.negotiated;
+    let budget = s.budget(n.rx_policy());
+    match budget {
+        Budget::Bytes(most) => send_some(state, ch, s, bytes, most, used, out, h),
+        Budget::Nothing => {
+            put_slot(state, ch.slot, s);
+            put_header(state, h);
+            Reply {
+                answer: Answer::Waiting,
+                used,
+                written: 0,
+            }
+        }
+    }
+}
+
+// The channel's own OKAY.
+fn write_ready(
+    state: &mut [u8],
+    ch: ChannelId,
+    s: ChannelSlot,
+    bytes: &[u8],
+    payload: &[u8],
+    used: usize,
+    out: &mut [u8],
+    h: Header,
+) -> Reply
+    requires { ⌜ Sends (now state) (ch .slot) h ⌝ }
+    ensures { λ r. ⌜ ((rx store : List ℕ) → Leaves (agreedIn (now (state .entry))) (writeReadied (lentOf (now (state .entry)) rx store) ch (length (now (out .entry))) (now (bytes .entry)) used (starts (now (state .entry)) rx store) s (readyOf s (now (payload .entry)) (policy (lentOf (now (state .entry)) rx store)))) 0 (now (state .entry)) (now (out .entry)) [] r (now (state .exit)) rx store (now (out .exit)) []) ⌝ }
+{
+    let n = h.negotiated;
+    let readied = s.apply_ready(payload, n.rx_policy());
+    match readied {
+        Readied::Slot(t) => send_again(state, ch, t, bytes, used, out, h),
+        Readied::Short => {
+            put_header(state, h);
+            Reply {
+                answer: Answer::Refused(Refusal::ShortReadyPayload),
+                used,
+                written: 0,
+            }
+        }
+    }
+}
+
+// Whether a packet is an OKAY of the channel with our number `local`.
+fn is_own_ready(packet: Packet, local: LocalId) -> bool
+    ensures { λ r. ⌜ r ≡ (isReady (packet .command) && eqb (packet .arg1) (local .0)) ⌝ }
+{
+    let command = packet.command;
+    if is_ready(command) {
+        return packet.arg1 == local.0;
+    }
+    false
+}
+
+// A packet that came while nothing may be sent. One that is not the channel's own leaves it so: there is no second turn.
+fn write_packet(
+    state: &mut [u8],
+    rx: &mut [u8],
+    store: &mut [u8],
+    ch: ChannelId,
+    s: ChannelSlot,
+    bytes: &[u8],
+    received: &[u8],
+    out: &mut [u8],
+    h: Header,
+    packet: Packet,
+) -> Reply
+    requires { ⌜ Waits (now state) (now rx) (now store) (length (now out)) ch h s × (receivedOf (lentOf (now state) (now rx) (now store)) (now received) ≡ PacketIs packet) ⌝ }
+    ensures { λ r. ⌜ Leaves (agreedIn (now (state .entry))) (writeBy (lentOf (now (state .entry)) (now (rx .entry)) (now (store .entry))) ch (length (now (out .entry))) (now (bytes .entry)) (starts (now (state .entry)) (now (rx .entry)) (now (store .entry))) s (now (received .entry)) (PacketIs packet)) 0 (now (state .entry)) (now (out .entry)) [] r (now (state .exit)) (now (rx .exit)) (now (store .exit)) (now (out .exit)) [] ⌝ }
+{
+    let payload = Packet::payload(received, packet.data_length);
+    let used = 24 + packet.data_length;
+    let local = s.local;
+    if is_own_ready(packet, local) {
+        return write_ready(state, ch, s, bytes, payload, used, out, h);
+    }
+    if ids_in(s).closed_by(packet) {
+        put_slot(state, ch.slot, s.apply_close());
+        put_header(state, h);
+        return Reply {
+            answer: Answer::Refused(Refusal::ChannelClosed),
+            used,
+            written: 0,
+        };
+    }
+    let acted = act_on(state, rx, store, out, 0, h, packet, payload);
+    let fault = acted.fault;
+    let header = acted.header;
+    put_header(state, header);
+    Reply {
+        answer: unless_fault(fault, Answer::Waiting),
+        used,
+        written: acted.end,
+    }
+}
+
+// Nothing may be sent before a packet is looked at.
+fn wait_ack(
+    state: &mut [u8],
+    rx: &mut [u8],
+    store: &mut [u8],
+    ch: ChannelId,
+    s: ChannelSlot,
+    bytes: &[u8],
+    received: &[u8],
+    out: &mut [u8],
+    h: Header,
+) -> Reply
+    requires { ⌜ Waits (now state) (now rx) (now store) (length (now out)) ch h s ⌝ }
+    ensures { λ r. ⌜ Leaves (agreedIn (now (state .entry))) (writeFirst (lentOf (now (state .entry)) (now (rx .entry)) (now (store .entry))) ch (length (now (out .entry))) (now (bytes .entry)) (now (received .entry)) (starts (now (state .entry)) (now (rx .entry)) (now (store .entry))) s NoBudget) 0 (now (state .entry)) (now (out .entry)) [] r (now (state .exit)) (now (rx .exit)) (now (store .exit)) (now (out .exit)) [] ⌝ }
+{
+    if s.has_remote {
+        let n = h.negotiated;
+        let config = n.config;
+        let found = recv_pkt(received, config.max_payload);
+        return match found {
+            Received::Stop(answer, used) => {
+                put_header(state, h);
+                Reply {
+                    answer,
+                    used,
+                    written: 0,
+                }
+            }
+            Received::Packet(packet) => write_packet(
+                state,
+                rx,
+                store,
+                ch,
+                s,
+                bytes,
+                received,
+                out,
+                h,
+                packet,
+            ),
+        };
+    }
+    put_header(state, h);
+    Reply {
+        answer: Answer::Refused(Refusal::ChannelClosed),
+        used: 0,
+        written: 0,
+    }
+}
+
+// The first turn on a channel that is in the table.
+fn write_channel(
+    state: &mut [u8],
+    rx: &mut [u8],
+    store: &mut [u8],
+    ch: ChannelId,
+    s: ChannelSlot,
+    bytes: &[u8],
+    received: &[u8],
+    out: &mut [u8],
+    h: Header,
+) -> Reply
+    requires { ⌜ Finds (now state) (now rx) (now store) (length (now out)) ch h s ⌝ }
+    ensures { λ r. ⌜ Leaves (agreedIn (now (state .entry))) (writeOn (lentOf (now (state .entry)) (now (rx .entry)) (now (store .entry))) ch (length (now (out .entry))) (now (bytes .entry)) (now (received .entry)) (starts (now (state .entry)) (now (rx .entry)) (now (store .entry))) s) 0 (now (state .entry)) (now (out .entry)) [] r (now (state .exit)) (now (rx .exit)) (now (store .exit)) (now (out .exit)) [] ⌝ }
+{
+    let condition = s.state;
+    if is_closed(condition) {
+        put_header(state, h);
+        return Reply {
+            answer: Answer::Refused(Refusal::ChannelClosed),
+            used: 0,
+            written: 0,
+        };
+    }
+    let n = h.negotiated;
+    let budget = s.budget(n.rx_policy());
+    match budget {
+        Budget::Bytes(most) => send_some(state, ch, s, bytes, most, 0, out, h),
+        Budget::Nothing => wait_ack(state, rx, store, ch, s, bytes, received, out, h),
+    }
+}
+
+fn write_step(
+    state: &mut [u8],
+    rx: &mut [u8],
+    store: &mut [u8],
+    ch: ChannelId,
+    bytes: &[u8],
+    received: &[u8],
+    out: &mut [u8],
+    h: Header,
+) -> Reply
+    requires { ⌜ Admits (now state) (now rx) (now store) (length (now out)) × (h ≡ dropped (stateOf (now state) .header)) ⌝ }
+    ensures { λ r. ⌜ Leaves (agreedIn (now (state .entry))) (writeStep (lentOf (now (state .entry)) (now (rx .entry)) (now (store .entry))) ch (length (now (out .entry))) (now (bytes .entry)) (now (received .entry))) 0 (now (state .entry)) (now (out .entry)) [] r (now (state .exit)) (now (rx .exit)) (now (store .exit)) (now (out .exit)) [] ⌝ }
+{
+    if bytes.len() == 0 {
+        put_header(state, h);
+        return Reply {
+            answer: Answer::Written(0),
+            used: 0,
+            written: 0,
+        };
+    }
+    let n = h.negotiated;
+    let config = n.config;
+    if is_there(state, config.channels, ch) {
+        let s = slot_at(state, ch.slot);
+        return write_channel(state, rx, store, ch, s, bytes, received, out, h);
+    }
+    put_header(state, h);
+    Reply {
+        answer: Answer::Refused(Refusal::ChannelClosed),
+        used: 0,
+        written: 0,
+    }
+}
+
+// Some of the bytes are sent in one WRTE, or one packet is looked at where none may be sent yet.
+pub fn write(
+    state: &mut [u8],
+    rx: &mut [u8],
+    store: &mut [u8],
+    ch: ChannelId,
+    bytes: &[u8],
+    received: &[u8],
+    out: &mut [u8],
+) -> Reply
+    ensures { λ r. ⌜ Leaves (agreedIn (now (state .entry))) (writeOf (isWhole (now (state .entry))) (lentOf (now (state .entry)) (now (rx .entry)) (now (store .entry))) (length (now (out .entry))) ch (now (bytes .entry)) (now (received .entry))) 0 (now (state .entry)) (now (out .entry)) [] r (now (state .exit)) (now (rx .exit)) (now (store .exit)) (now (out .exit)) [] ⌝ }
+{
+    let admitted = admit(state, rx.len(), store.len(), out.len());
+    match admitted {
+        Admitted::No(refusal) => refused(refusal),
+        Admitted::Yes(h) => write_step(state, rx, store, ch, bytes, received, out, drop_waiting(h)),
+    }
+}
