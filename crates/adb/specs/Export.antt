@@ -1,0 +1,80 @@
+-- What the exported functions leave (docs/ARCHITECTURE.md, "C interface"), in the terms of the definitions of the calls and of
+-- the theorems over lists of them. Assumes nothing.
+use Prim.Native.Nat.{ℕ}
+use mathlib.Core.Path.{_≡_}
+use mathlib.Core.Bool.{Bool, cond, _||_}
+use mathlib.Core.List.{List, [], _∷_, _++_}
+use lib.Dec.{ltb}
+use lib.ListN.{length}
+use Rattle.le.specs.Le.{bytesOf, put}
+use Rattle.state.specs.Rows.{flat}
+use Rattle.connection.specs.declared.Answer.{Answer}
+use Rattle.connection.specs.Answer.{numberOf, valuesOf}
+use Rattle.connection.specs.Calls.{writtenBy, Made}
+use Rattle.connection.specs.Frames.{framesBytes}
+use Rattle.adb.specs.declared.Values.{Values}
+use Rattle.history.specs.Run.{Call, World, lent, outcome, after}
+
+-- lent bytes that last from call to call
+abbrev pub worldOf : List ℕ → List ℕ → List ℕ → World
+worldOf state rx store = record { state = state; rx = rx; store = store }
+
+-- four values in a row
+abbrev pub valuesIn : Values → List ℕ
+valuesIn v = v .a ∷ v .b ∷ v .c ∷ v .d ∷ []
+
+-- the answer's 48 bytes: used, written, then the answer's four values
+unfoldable pub answerBytes : ℕ → ℕ → Answer → List ℕ
+answerBytes used written a = bytesOf 8 used ++ bytesOf 8 written ++ flat (bytesOf 8) (valuesOf a)
+
+-- a call's number, and all that it was lent
+pub record Exported : Type 0 where
+  pub number : ℕ
+  pub state : List ℕ
+  pub rx : List ℕ
+  pub store : List ℕ
+  pub out : List ℕ
+  pub buf : List ℕ
+  pub answer : List ℕ
+
+-- too few bytes for a state or for an answer
+unfoldable pub isShort : ℕ → ℕ → Bool
+isShort state answer = ltb state 4730 || ltb answer 48
+
+-- what a call leaves that is not refused for that: the frames stand at the start of the outgoing buffer, the bytes handed over
+-- at the start of the reader's
+unfoldable pub called : World → Call → List ℕ → List ℕ → List ℕ → Exported
+called w c out buf answer =
+    record {
+      number = numberOf (outcome w c .answer);
+      state = after w c .state;
+      rx = after w c .rx;
+      store = after w c .store;
+      out = put out 0 (framesBytes (lent w .state .header .negotiated) (outcome w c .frames));
+      buf = put buf 0 (outcome w c .handed);
+      answer = put answer 0 (answerBytes (outcome w c .used) (writtenBy (lent w .state .header .negotiated) (outcome w c)) (outcome w c .answer));
+    }
+
+-- 8, ahead of every other refusal, and nothing is touched; else the call
+unfoldable pub exported : World → Call → List ℕ → List ℕ → List ℕ → Exported
+exported w c out buf answer =
+    cond (isShort (length (w .state)) (length answer)) (record { number = 8; state = w .state; rx = w .rx; store = w .store; out = out; buf = buf; answer = answer }) (called w c out buf answer)
+
+-- what an exported function promises: the number, and every byte of what it was lent
+pub record Does (e : Exported) (r : ℕ) (state rx store out buf answer : List ℕ) : Type 0 where
+  pub number-is : r ≡ e .number
+  pub state-is : state ≡ e .state
+  pub rx-is : rx ≡ e .rx
+  pub store-is : store ≡ e .store
+  pub out-is : out ≡ e .out
+  pub buf-is : buf ≡ e .buf
+  pub answer-is : answer ≡ e .answer
+
+-- make's: a flag is no where it is 0
+abbrev pub isYes : ℕ → Bool
+isYes flag = ltb 0 flag
+
+-- its number, and the state's bytes: 8 for too few, then 7, else a fresh connection's
+pub record MakesState (m : Made) (r : ℕ) (state : List ℕ) : Type 0 where
+  pub number-is : r ≡ numberOf (m .answer)
+  pub state-is : state ≡ m .state
