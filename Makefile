@@ -1,0 +1,46 @@
+# C programs on the static library. `rt` proves the library before it writes it.
+#   make demo      forty simulated peers on one connection, in each mode (ARGS: seed, MiB)
+#   make damage    the calls on broken states and short buffers
+#   make compare   the port against libadb: SEEDS names libadb's folder libadb/src (ARGS: first and last seed, calls)
+#   make header    adb.h alone, as C99 and as C++
+#   make clean     removes what these targets built, but not what is proved
+# CC, CXX and CFLAGS may be set, as CFLAGS='-O1 -g -fsanitize=address,undefined'; LIB names another static library.
+
+CFLAGS ?= -O2
+CXX ?= c++
+WARNINGS = -Wall -Wextra -pedantic
+OUT = target/c
+LIB = target/staticlib/libadb.a
+
+.PHONY: all demo damage compare header clean
+
+all: header demo damage
+
+demo: $(OUT)/demo
+	$(OUT)/demo $(ARGS)
+
+damage: $(OUT)/damage
+	$(OUT)/damage $(ARGS)
+
+# compare.sh makes the default library itself.
+compare:
+	CC='$(CC)' LIB='$(if $(filter-out target/staticlib/libadb.a,$(LIB)),$(abspath $(LIB)))' oracle/compare.sh $(ARGS)
+
+header:
+	printf '#include <adb.h>\n#include <adb.h>\ntypedef int one;\n' | $(CC) -std=c99 $(WARNINGS) -Werror -Iinclude -x c -fsyntax-only -
+	printf '#include <adb.h>\n#include <adb.h>\ntypedef int one;\n' | $(CXX) $(WARNINGS) -Werror -Iinclude -x c++ -fsyntax-only -
+
+$(OUT)/demo: demo/demo.c include/adb.h $(LIB)
+	@mkdir -p $(OUT)
+	$(CC) -std=c99 $(WARNINGS) $(CFLAGS) -Iinclude demo/demo.c $(LIB) -o $@
+
+$(OUT)/damage: tests/damage.c include/adb.h $(LIB)
+	@mkdir -p $(OUT)
+	$(CC) -std=c99 $(WARNINGS) $(CFLAGS) -Iinclude tests/damage.c $(LIB) -o $@
+
+target/staticlib/libadb.a: crates.txt $(shell find crates -name '*.rt' -o -name '*.antt')
+	rt staticlib adb
+	@touch $@
+
+clean:
+	rm -rf $(OUT) target/oracle
