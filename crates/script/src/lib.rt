@@ -1,4 +1,6 @@
 // The words, numbers and bytes of the scripts that the programs replay.
+pub mod text;
+
 ghost use Prim.Native.Nat.{_≤_, _<_};
 ghost use lib.ListN.{length};
 ghost use Rattle.io.specs.Counts.{Counts};

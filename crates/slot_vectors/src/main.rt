@@ -3,15 +3,14 @@
 mod calls;
 mod packets;
 mod state;
-mod text;
 
 use config::negotiated::RxPolicy;
+use script::text::bytes_at;
+use script::text::number_at;
+use script::text::put;
+use script::text::signed_at;
+use script::text::size_at;
 use state::State;
-use text::bytes_at;
-use text::number_at;
-use text::put;
-use text::signed_at;
-use text::size_at;
 
 // A call's first letter; a capital for a test aid.
 fn letter(line: &[u8]) -> u8 {

@@ -2,12 +2,12 @@
 use crate::state::State;
 use crate::state::share_of;
 use crate::state::sound;
-use crate::text::put;
-use crate::text::put_number;
 use config::negotiated::RxPolicy;
 use protocol::command::Command;
 use protocol::packet::Decoded;
 use protocol::packet::Packet;
+use script::text::put;
+use script::text::put_number;
 use slot::AckDecision;
 use slot::ChannelSlot;
 use slot::Readied;

@@ -1,9 +1,9 @@
 // What is kept between calls, and how it is written. Every function takes it and answers with the next.
-use crate::text::put;
-use crate::text::put_flag;
-use crate::text::put_number;
-use crate::text::put_signed;
 use config::negotiated::RxPolicy;
+use script::text::put;
+use script::text::put_flag;
+use script::text::put_number;
+use script::text::put_signed;
 use slot::ChannelSlot;
 use slot::ChannelState;
 use slot::ids::LocalId;

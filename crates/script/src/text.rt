@@ -1,5 +1,5 @@
 // The words of a line, read as numbers and bytes, and numbers written as text.
-use script::word_end;
+use crate::word_end;
 ghost use Prim.Native.Nat.{_≤_};
 ghost use lib.ListN.{length};
 ghost use Rattle.io.specs.Counts.{Counts};
@@ -87,7 +87,7 @@ fn signed(s: &[u8]) -> i64 {
 pub fn number_at(line: &[u8], k: usize) -> u32 {
     let a = word_start(line, k);
     let e = word_end(line, a);
-    script::number(&line[a..e])
+    crate::number(&line[a..e])
 }
 
 pub fn size_at(line: &[u8], k: usize) -> usize {
@@ -108,5 +108,5 @@ pub fn bytes_at(line: &[u8], k: usize, out: &mut [u8]) -> usize
 {
     let a = word_start(line, k);
     let e = word_end(line, a);
-    script::unhex(&line[a..e], out)
+    crate::unhex(&line[a..e], out)
 }

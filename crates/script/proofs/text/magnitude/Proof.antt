@@ -1,8 +1,8 @@
 use Prim.Native.Nat.{_≤_, _-_}
 use lib.ListN.{length}
 use borrow.Author.Needs.{needs}
-use Rattle.slot_vectors.proofs.text.magnitude.Statement.{statement}
-use Rattle.slot_vectors.proofs.text.magnitude.Tie as tie
+use Rattle.script.proofs.text.magnitude.Statement.{statement}
+use Rattle.script.proofs.text.magnitude.Tie as tie
 
 abbrev Inv-loop : tie.InvT-loop
 Inv-loop s n₀ i₀ n i = i ≤ length s

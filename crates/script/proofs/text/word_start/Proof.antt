@@ -1,8 +1,8 @@
 use Prim.Native.Nat.{_≤_, _-_}
 use lib.ListN.{length}
 use borrow.Author.Needs.{needs}
-use Rattle.slot_vectors.proofs.text.word_start.Statement.{statement}
-use Rattle.slot_vectors.proofs.text.word_start.Tie as tie
+use Rattle.script.proofs.text.word_start.Statement.{statement}
+use Rattle.script.proofs.text.word_start.Tie as tie
 
 abbrev Inv-loop : tie.InvT-loop
 Inv-loop line k at₀ i₀ at i = at ≤ length line
