@@ -1,37 +1,32 @@
 -- A read that looks at a packet which is not for it: dispatched, then settling and taking again. Assumes nothing.
 use mathlib.Core.Path.{_≡_, refl, sym, ap, subst, _∙_}
-use mathlib.Core.Bool.{Bool, true, false, true≢false, _&&_}
+use mathlib.Core.Bool.{true, false, true≢false}
 use mathlib.Core.List.{List, [], _∷_, _++_, append-assoc, append-nil}
-use Prim.Native.Nat.{ℕ, _+_, _*_, _^_, _≤_, _<_}
+use Prim.Native.Nat.{ℕ, _+_, _*_, _≤_, _<_}
 use native.Mathlib.Omega.{arith}
 use lib.ListN.{length, set, length-set}
 use Rattle.le.specs.Le.{Bytes}
 use Rattle.le.proofs.Parts.{length-put}
 use Rattle.config.specs.declared.negotiated.Negotiated.{Negotiated}
-use Rattle.config.specs.declared.negotiated.RxPolicy.{RxPolicy}
 use Rattle.config.specs.Config.{Within as Limits}
 use Rattle.config.specs.Negotiated.{policyOf}
 use Rattle.config.proofs.Laws.{and-true}
 use Rattle.protocol.specs.declared.packet.Packet.{Packet}
 use Rattle.slot.specs.declared.ChannelSlot.{ChannelSlot}
 use Rattle.slot.specs.declared.Failed.{Failed}
-use Rattle.slot.specs.declared.PendingAck.{PendingAck}
 use Rattle.slot.specs.declared.PendingAck.the-variants.{Nothing as NoAck}
-use Rattle.slot.specs.declared.Settled.{Settled as SettledSlot}
 use Rattle.slot.specs.declared.Taken.{Taken}
 use Rattle.slot.specs.declared.Taken.the-variants.{Data, Nothing as NothingTaken, Closed as ClosedTaken}
 use Rattle.slot.specs.Slot.{emptySlot, isAck, hasData, closedSlot, deliveredOf, settledOf, takenOf, SlotOk}
 use Rattle.slot.specs.Ids.{closedBy}
 use Rattle.slot.proofs.Laws.{cond-true, cond-false}
-use Rattle.slot.proofs.Kept.{pick}
 use Rattle.state.specs.declared.Header.{Header}
-use Rattle.state.specs.Change.{Change, slotTo, headerTo, changedAll, putAll, Within}
+use Rattle.state.specs.Change.{Change, slotTo, headerTo, changedAll, putAll}
 use Rattle.state.specs.Rows.{flat}
 use Rattle.state.specs.State.{Connection, stateOf, slotAt, putSlot, putHeader, isState, withSlot, withHeader}
 use Rattle.state.specs.Valid.{isWhole}
 use Rattle.state.proofs.ChangeLaws.{rows-after}
 use Rattle.state.proofs.LiveLaws.{settled-live}
-use Rattle.state.proofs.RowLaws.{Every}
 use Rattle.state.proofs.StateLaws.{Fits, slot-in, put-slot-length}
 use Rattle.state.proofs.WholeLaws.{Live, Whole, whole-fits}
 use Rattle.table.specs.declared.ChannelId.{ChannelId}
@@ -39,21 +34,20 @@ use Rattle.table.specs.Dispatch.{slotIn}
 use Rattle.table.proofs.DispatchLaws.{share-in}
 use Rattle.connection.specs.declared.Answer.{Answer}
 use Rattle.connection.specs.declared.Answer.the-variants.{Refused}
-use Rattle.connection.specs.declared.Received.{Received}
 use Rattle.connection.specs.declared.Received.the-variants.{Packet as PacketIs}
 use Rattle.connection.specs.declared.Refusal.the-variants.{ChannelClosed}
 use Rattle.calls.specs.declared.Reply.{Reply}
 use Rattle.calls.specs.declared.act.ActedOn.{ActedOn}
 use Rattle.connection.specs.Act.{Acted, actOn}
-use Rattle.connection.specs.Calls.{Lent, Outcome, Work, begun, then, thenActed, ends, dropped, policy, idsIn, isThere, slotFor, ackFrames, receivedOf, bodyOf, frameLen, reread, readSettled, readActed, isDirect, readDirect, readBy}
+use Rattle.connection.specs.Calls.{Lent, Outcome, Work, begun, then, thenActed, ends, idsIn, slotFor, ackFrames, receivedOf, bodyOf, frameLen, reread, readSettled, readActed, isDirect, readDirect, readBy}
 use Rattle.connection.specs.Frames.{Frame, framesBytes}
 use Rattle.calls.specs.Promise.{lentOf, agreedIn, Leaves, Admits, ActRoom, ActsOn}
-use Rattle.reading.specs.Reading.{againOf, TakeRoom, Looks}
-use Rattle.calls.proofs.AdmitLaws.{act-room, admits-facts, admits-dropped, admits-stores}
+use Rattle.reading.specs.Reading.{againOf, TakeRoom, isNothing, Looks}
+use Rattle.calls.proofs.AdmitLaws.{act-room, admits-facts, admits-stores}
 use Rattle.connection.proofs.Decoding.{PacketRoom, packet-room, ReceivedFits, received-fits}
-use Rattle.calls.proofs.LeaveLaws.{put-append, Did, did-begun, did-slot, did-acted, did-stops, Behind, leaves-on}
-use Rattle.connection.proofs.Sending.{IdsFit, Few, Rests, quiet, same, clear, Own, some, Acts, acts, silent-again, silent-clear, taking, Taking, took, nothing, shut, no-data}
-use Rattle.connection.proofs.Slots.{slotsBy, slots-by, slot-set-same}
+use Rattle.calls.proofs.LeaveLaws.{Did, did-begun, did-slot, did-acted, did-stops, Behind, leaves-on}
+use Rattle.connection.proofs.Sending.{Rests, quiet, same, clear, some, Acts, acts, silent-again, silent-clear, taking, Taking, took, nothing, shut, no-data}
+use Rattle.connection.proofs.Slots.{slots-by, slot-set-same}
 use Rattle.connection.proofs.WholeAct.{ActedKeeps, acted-keeps}
 use Rattle.connection.specs.Act.{PacketFits}
 use Rattle.connection.proofs.WholeWork.{WorkWhole, At, at-slot, at-act, there-live, there-at, Long}
@@ -73,15 +67,10 @@ module _ (state rx store : List ℕ) (y : Bytes state) (e : isWhole state ≡ tr
 
 -- ---- small facts
 
-abbrev isSome : Taken → Bool
-isSome (Data t k) = true
-isSome NothingTaken = false
-isSome (ClosedTaken e) = true
-
 empty-data : {s : ChannelSlot} {room : ℕ} (x : Taken) → Taking s room x → x ≡ NothingTaken → hasData s ≡ false
-empty-data x (took u k h) e = absurd (true≢false (ap isSome e))
+empty-data x (took u k h) e = absurd (true≢false (sym (ap isNothing e)))
 empty-data x (nothing h) e = h
-empty-data x (shut r) e = absurd (true≢false (ap isSome e))
+empty-data x (shut r) e = absurd (true≢false (sym (ap isNothing e)))
 
 no-frames : (n : Negotiated) (fs : List Frame) → some fs ≡ false → length (framesBytes n fs) ≡ 0
 unfolding framesBytes flat

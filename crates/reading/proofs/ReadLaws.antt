@@ -1,13 +1,13 @@
 -- What reading's functions cite. Assumes nothing.
 use mathlib.Core.Path.{_≡_, refl, sym, ap, subst, _∙_}
-use mathlib.Core.Bool.{Bool, true, false, _&&_}
-use mathlib.Core.List.{List, [], _∷_, _++_}
+use mathlib.Core.Bool.{true, false, _&&_}
+use mathlib.Core.List.{List, [], _∷_}
 use Prim.Native.Nat.{ℕ, _+_, _*_, _≤_, _<_}
 use native.Mathlib.Omega.{arith}
 use lib.Dec.{eqb, leb}
-use lib.ListN.{length, length-take}
+use lib.ListN.{length}
 use borrow.Author.Tests.{leb-true}
-use Rattle.le.specs.Le.{part, put}
+use Rattle.le.specs.Le.{put}
 use Rattle.config.specs.declared.negotiated.Negotiated.{Negotiated}
 use Rattle.config.specs.declared.negotiated.RxPolicy.{RxPolicy}
 use Rattle.config.specs.Negotiated.{policyOf}
@@ -17,54 +17,31 @@ use Rattle.protocol.specs.Packet.{Puts}
 use Rattle.slot.specs.declared.ChannelError.{ChannelError}
 use Rattle.slot.specs.declared.ChannelSlot.{ChannelSlot}
 use Rattle.slot.specs.declared.Failed.{Failed}
-use Rattle.slot.specs.declared.PendingAck.{PendingAck}
-use Rattle.slot.specs.declared.PendingAck.the-variants.{Len, Nothing as NoAck}
 use Rattle.slot.specs.declared.Settled.{Settled as SettledSlot}
 use Rattle.slot.specs.declared.Taken.{Taken}
 use Rattle.slot.specs.declared.Taken.the-variants.{Data, Nothing as NothingTaken, Closed as ClosedTaken}
-use Rattle.slot.specs.Slot.{isAck, isClosed, hasData, deliveredOf, settledOf, takenOf, SlotOk}
-use Rattle.slot.proofs.Kept.{pick, settled-sound}
-use Rattle.slot.proofs.Laws.{take-held, take-room}
+use Rattle.slot.specs.Slot.{isAck, deliveredOf, settledOf, takenOf, SlotOk}
+use Rattle.slot.proofs.Kept.{settled-sound, Taken-sound, taken-sound}
 use Rattle.state.specs.declared.Header.{Header}
 use Rattle.state.specs.Change.{slotTo}
-use Rattle.state.specs.Rows.{flat}
 use Rattle.state.specs.State.{slotAt, putSlot, putHeader}
 use Rattle.table.specs.declared.ChannelId.{ChannelId}
-use Rattle.table.specs.Dispatch.{shareOf}
 use Rattle.connection.specs.declared.Answer.{Answer}
 use Rattle.connection.specs.declared.Answer.the-variants.{Waiting, Read, Refused}
 use Rattle.connection.specs.declared.Refusal.{Refusal}
 use Rattle.calls.specs.declared.Reply.{Reply}
 use Rattle.reading.specs.declared.read.Tried.{Tried}
 use Rattle.reading.specs.declared.read.Tried.the-variants.{Replied, Nothing}
-use Rattle.connection.specs.Calls.{Lent, Outcome, Work, begun, then, ends, ackFrames, errorRefusal, unlessFault, bodyOf, isWrite, frontOf, reread, isDirect, readDirect}
-use Rattle.connection.specs.Frames.{Frame, framesBytes}
+use Rattle.connection.specs.Calls.{Lent, Outcome, begun, then, ends, ackFrames, errorRefusal, unlessFault, bodyOf, isWrite, frontOf, reread, isDirect, readDirect}
+use Rattle.connection.specs.Frames.{framesBytes}
 use Rattle.calls.specs.Promise.{lentOf, Leaves}
 use Rattle.reading.specs.Reading.{againOf, TakeRoom, isNothing, Empty, Tries}
 use Rattle.connection.proofs.Decoding.{PacketRoom}
 use Rattle.calls.proofs.FrameLaws.{ack-room}
+use Rattle.reading.proofs.TransferLaws.{front-short}
 use Rattle.calls.proofs.LeaveLaws.{Did, did-begun, did-then, did-frames, did-slot, did-ends, did-stops}
 
 -- ---- settling and taking
-
--- no more than was asked for
-front-short : (rx : List ℕ) (cap i : ℕ) (s : ChannelSlot) (n room : ℕ) → n ≤ room → length (frontOf rx cap i s n) ≤ room
-unfolding frontOf part
-front-short rx cap i s n room h = simp length-take (omega arith)
-
-abbrev lenIn : Taken → ℕ
-lenIn (Data u k) = k
-lenIn NothingTaken = 0
-lenIn (ClosedTaken r) = 0
-
-taken-len : (s : ChannelSlot) (room cap : ℕ) → SlotOk s cap → (lenIn (takenOf s room) ≤ room) × (s .head + lenIn (takenOf s room) ≤ 2 * cap)
-unfolding takenOf
-taken-len s room cap ok =
-    let P : Taken → Type 0 = λ x. (lenIn x ≤ room) × (s .head + lenIn x ≤ 2 * cap) in
-    let a = take-held s room (ok .settled-buffered) in
-    let b = take-room s room in
-    let r = ok .run-fits in
-    pick P (hasData s) (λ d. (omega arith, omega arith)) (λ d. pick P (isClosed (s .state)) (λ c. (omega arith, omega arith)) (λ c. (omega arith, omega arith)))
 
 module _ (h : Header) (ch : ChannelId) (used : ℕ) (fault : Failed) (at : ℕ) (state rx store out buf : List ℕ) (s₀ : ChannelSlot) (p : RxPolicy) (set : SettledSlot)
     (se : s₀ ≡ slotAt state (ch .slot)) (pe : p ≡ policyOf (h .negotiated)) (te : set ≡ settledOf s₀ p (length buf))
@@ -96,8 +73,10 @@ module _ (h : Header) (ch : ChannelId) (used : ℕ) (fault : Failed) (at : ℕ) 
   pub take-room-is : (x : Taken) (t : ChannelSlot) (len : ℕ) → x ≡ takenOf (set .slot) room → x ≡ Data t len
       → (ch .slot < 64) × (p .«rx_cap» ≤ 16777216) × (ch .slot * (2 * p .«rx_cap») + 2 * p .«rx_cap» ≤ length rx) × (set .slot .head + len ≤ 2 * p .«rx_cap») × (len ≤ room)
   take-room-is x t len e f =
-      let k = subst (λ (y : Taken). (lenIn y ≤ room) × (set .slot .head + lenIn y ≤ 2 * p .«rx_cap»)) (sym e ∙ f) (taken-len (set .slot) room (p .«rx_cap») set-sound) in
-      (g .place-fits, set-sound .cap-small, subst (λ (x : RxPolicy). ch .slot * (2 * x .«rx_cap») + 2 * x .«rx_cap» ≤ length rx) (sym pe) (g .share-fits), k .1, k .0)
+      let k = subst (Taken-sound (set .slot) room (p .«rx_cap»)) (sym e ∙ f) (taken-sound (set .slot) room (p .«rx_cap») set-sound) in
+      let held = k .2 in
+      let run = set-sound .run-fits in
+      (g .place-fits, set-sound .cap-small, subst (λ (x : RxPolicy). ch .slot * (2 * x .«rx_cap») + 2 * x .«rx_cap» ≤ length rx) (sym pe) (g .share-fits), omega arith, k .1)
 
   -- what it promises
   module _ (end : ℕ) (out' : List ℕ) (puts : Puts out at (framesBytes n (ackFrames (set .slot) (set .ack))) end out') where
@@ -149,13 +128,14 @@ module _ (h : Header) (ch : ChannelId) (used : ℕ) (fault : Failed) (at : ℕ) 
     tries-data x t len state' buf' e f b s =
         let w = did-slot n at state out _ _ _ _ _ _ written (ch .slot) t (putSlot state (ch .slot) t) refl in
         let r : Reply = record { answer = Read len; used = used; written = end } in
-        let k = take-room-is x t len e f in (
+        let fits = take-room-is x t len e f .4 in
+        let short = front-short rx (policyOf n .«rx_cap») (ch .slot) (S .slot) len in (
           ap (λ (y : SettledSlot). isNothing (takenOf (y .slot) room)) (sym set-is) ∙ ap isNothing (sym e ∙ f),
           subst (λ (y : Outcome). Leaves n y at state out buf r state' rx store out' buf')
               (sym (again-is x e ∙ ap (reread ch (policyOf n .«rx_cap») used fault (then (begun h lent) [] (ackFrames (S .slot) (S .ack))) (S .slot)) f))
               (did-ends n at state out _ _ _ _ _ _ w buf buf' state' h _ used (frontOf rx (policyOf n .«rx_cap») (ch .slot) (S .slot) len) r refl s refl
               (b ∙ ap (λ (y : RxPolicy). put buf 0 (frontOf rx (y .«rx_cap») (ch .slot) (set .slot) len)) pe ∙ ap (λ (y : SettledSlot). put buf 0 (frontOf rx (policyOf n .«rx_cap») (ch .slot) (y .slot) len)) set-is)
-              (front-short rx (policyOf n .«rx_cap») (ch .slot) (S .slot) len room (k .4))),
+              (omega arith)),
         )
 
 -- ---- the same behind a packet

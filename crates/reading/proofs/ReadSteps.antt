@@ -2,7 +2,7 @@
 use mathlib.Core.Path.{_≡_, refl, sym, ap, subst, _∙_}
 use mathlib.Core.Bool.{Bool, true, false, true≢false, cond}
 use mathlib.Core.List.{List, [], _∷_, _++_, append-assoc, append-nil}
-use Prim.Native.Nat.{ℕ, _+_, _*_, _≤_, _<_}
+use Prim.Native.Nat.{ℕ, _+_, _*_}
 use native.Mathlib.Omega.{arith}
 use lib.ListN.{length, set}
 use Rattle.le.proofs.Parts.{length-put}
@@ -17,14 +17,11 @@ use Rattle.slot.specs.declared.Settled.{Settled as SettledSlot}
 use Rattle.slot.specs.declared.Taken.{Taken}
 use Rattle.slot.specs.declared.Taken.the-variants.{Data, Nothing as NothingTaken, Closed as ClosedTaken}
 use Rattle.slot.specs.Ids.{closedBy}
-use Rattle.slot.specs.Slot.{emptySlot, settledOf, takenOf, SlotOk}
-use Rattle.slot.proofs.Kept.{pick}
+use Rattle.slot.specs.Slot.{settledOf, takenOf, SlotOk}
 use Rattle.slot.proofs.Laws.{cond-true, cond-false}
 use Rattle.state.specs.declared.Header.{Header}
-use Rattle.state.specs.Change.{Change, slotTo, changedAll}
+use Rattle.state.specs.Change.{slotTo, changedAll}
 use Rattle.state.specs.State.{stateOf, slotAt, putSlot, putHeader}
-use Rattle.state.proofs.StateLaws.{slot-in}
-use Rattle.state.proofs.WholeLaws.{Live, Whole}
 use Rattle.table.specs.declared.ChannelId.{ChannelId}
 use Rattle.table.specs.Dispatch.{slotIn}
 use Rattle.table.proofs.DispatchLaws.{share-in}
@@ -42,9 +39,9 @@ use Rattle.reading.specs.Reading.{againOf, isNothing, TakeRoom, Empty, L
 use Rattle.calls.proofs.AdmitLaws.{admits-facts, admits-stores}
 use Rattle.calls.proofs.CallLaws.{received-is}
 use Rattle.calls.proofs.FrameLaws.{ack-room}
-use Rattle.calls.proofs.LeaveLaws.{Did, did-begun, did-frames, did-slot, did-stops, Behind, leaves-on}
-use Rattle.reading.proofs.LookLaws.{look-place, look-live}
-use Rattle.connection.proofs.WholeWork.{there-live, Long}
+use Rattle.calls.proofs.LeaveLaws.{did-begun, did-frames, did-slot, did-stops, Behind, leaves-on}
+use Rattle.reading.proofs.LookLaws.{look-live}
+use Rattle.calls.proofs.ThereLaws.{place-fits, slot-is, lives}
 
 -- ---- what the first settling wrote stands before all else
 
@@ -52,22 +49,18 @@ module _ (l : Lent) (ch : ChannelId) (room : ℕ) (h : Header) (fs : List Frame)
   abbrev w : Work
   w = then (begun h l) [] fs
 
+  frames-after : (gs ks : List Frame) → fs ++ [] ++ gs ++ ks ++ [] ≡ fs ++ (gs ++ ks ++ [])
+  frames-after gs ks = simp (append-assoc, append-nil)
+
   reread-after : (used : ℕ) (fault : Failed) (a : Acted) (t : SettledSlot) (x : Taken)
       → Behind w (reread ch (policy l .«rx_cap») used fault (then (thenActed (then w (slotTo (ch .slot) s ∷ []) []) a) [] (ackFrames (t .slot) (t .ack))) (t .slot) x)
       (reread ch (policy l .«rx_cap») used fault (then (thenActed (then (begun h l) (slotTo (ch .slot) s ∷ []) []) a) [] (ackFrames (t .slot) (t .ack))) (t .slot) x)
   unfolding reread ends
-  reread-after used fault a t (Data u k) = record { answer = refl; used = refl; frames = joined; handed = refl; changes = refl; rx = refl; store = refl }
-    where
-      joined : fs ++ [] ++ a .frames ++ ackFrames (t .slot) (t .ack) ++ [] ≡ fs ++ (a .frames ++ ackFrames (t .slot) (t .ack) ++ [])
-      joined = simp (append-assoc, append-nil)
-  reread-after used fault a t NothingTaken = record { answer = refl; used = refl; frames = joined; handed = refl; changes = refl; rx = refl; store = refl }
-    where
-      joined : fs ++ [] ++ a .frames ++ ackFrames (t .slot) (t .ack) ++ [] ≡ fs ++ (a .frames ++ ackFrames (t .slot) (t .ack) ++ [])
-      joined = simp (append-assoc, append-nil)
-  reread-after used fault a t (ClosedTaken e) = record { answer = refl; used = refl; frames = joined; handed = refl; changes = refl; rx = refl; store = refl }
-    where
-      joined : fs ++ [] ++ a .frames ++ ackFrames (t .slot) (t .ack) ++ [] ≡ fs ++ (a .frames ++ ackFrames (t .slot) (t .ack) ++ [])
-      joined = simp (append-assoc, append-nil)
+  reread-after used fault a t (Data u k) = record { answer = refl; used = refl; frames = frames-after (a .frames) (ackFrames (t .slot) (t .ack)); handed = refl; changes = refl; rx = refl; store = refl }
+  reread-after used fault a t NothingTaken =
+      record { answer = refl; used = refl; frames = frames-after (a .frames) (ackFrames (t .slot) (t .ack)); handed = refl; changes = refl; rx = refl; store = refl }
+  reread-after used fault a t (ClosedTaken e) =
+      record { answer = refl; used = refl; frames = frames-after (a .frames) (ackFrames (t .slot) (t .ack)); handed = refl; changes = refl; rx = refl; store = refl }
 
   pub read-behind : (x : Received) → Behind w (readBy l ch room w s received x) (readBy l ch room (begun h l) s received x)
   unfolding readBy readDirect readActed readSettled ends
@@ -133,16 +126,6 @@ module _ (state rx store out : List ℕ) (h : Header) (ch : ChannelId) (buf rece
   same-agreed : h .negotiated ≡ n
   same-agreed = ap (λ (x : Header). x .negotiated) hi
 
-  live : Live n (ch .slot) (slotFor l ch)
-  live = there-live l (admits-facts state rx store (length out) a) ch there
-
-  place : ch .slot < 64
-  place = let v = live in let p = v .place in let f = admits-facts state rx store (length out) a in let m = f .limits .within .most-channels in omega arith
-
-  slot-is : slotAt state (ch .slot) ≡ slotFor l ch
-  unfolding slotFor slotIn
-  slot-is = sym (slot-in state (ch .slot) emptySlot place)
-
   -- what is settled, as the code has it and as the definition has it
   abbrev S₀ : SettledSlot
   S₀ = settledOf (slotAt state (ch .slot)) (policyOf (h .negotiated)) room
@@ -151,11 +134,11 @@ module _ (state rx store out : List ℕ) (h : Header) (ch : ChannelId) (buf rece
   S = settledOf (slotFor l ch) (policyOf n) room
 
   settled-is : S₀ ≡ S
-  settled-is = ap (λ (x : Negotiated). settledOf (slotAt state (ch .slot)) (policyOf x) room) same-agreed ∙ ap (λ (x : ChannelSlot). settledOf x (policyOf n) room) slot-is
+  settled-is = ap (λ (x : Negotiated). settledOf (slotAt state (ch .slot)) (policyOf x) room) same-agreed ∙ ap (λ (x : ChannelSlot). settledOf x (policyOf n) room) (slot-is state rx store h hi (length out) a ch there)
 
   pub first-room : TakeRoom (h .negotiated) state rx out (ch .slot) 0 room
   first-room =
-      let v = live in
+      let v = lives state rx store h hi (length out) a ch there in
       let big = a .room in
       let st = admits-stores state rx store (length out) a in
       let sh = share-in (ch .slot) (n .config .channels) (2 * policyOf n .«rx_cap») (length rx) (v .place) (st .rx-long) in
@@ -163,8 +146,8 @@ module _ (state rx store out : List ℕ) (h : Header) (ch : ChannelId) (buf rece
       (record {
         within = admits-facts state rx store (length out) a .limits .within;
         state-fits = a .state-fits;
-        place-fits = place;
-        sound = subst (λ (x : ChannelSlot). SlotOk x (policyOf n .«rx_cap»)) (sym slot-is) (v .ok);
+        place-fits = place-fits state rx store h hi (length out) a ch there;
+        sound = subst (λ (x : ChannelSlot). SlotOk x (policyOf n .«rx_cap»)) (sym (slot-is state rx store h hi (length out) a ch there)) (v .ok);
         share-fits = sh;
         at-fits = omega arith;
         ack-fits = λ e. omega arith;
