@@ -5,7 +5,7 @@ use mathlib.Core.List.{List, [], _∷_, _++_, append-assoc, append-nil}
 use Prim.Native.Nat.{ℕ, zero, suc, _+_, _-_, _≤_}
 use native.Mathlib.Nat.{zero-add, suc-add}
 use native.Mathlib.Omega.{arith}
-use lib.ListN.{length, take, drop, length-append, length-take, length-drop, drop-of-length-le}
+use lib.ListN.{length, take, drop, length-append, length-take, length-drop, drop-of-length-le, take-append-drop}
 use lib.Seq.{take-length, take-append-le, drop-append-le, take-at, drop-at, drop-drop, take-append-seam, take-nil, take-take, take-add, drop-append-add}
 use borrow.Rule.Slice.PartMut.{putMid}
 use Rattle.le.specs.Le.{part, put}
@@ -82,6 +82,13 @@ copied d at s e h is =
     ∙ ap (λ (l : List ℕ). take (length s) s ++ drop (length s) l) (lent-part d at (length s))
     ∙ rw (take-length, drop-of-length-le (part d at (length s)) {i = length s} (omega arith)) (append-nil s) in
     rw z (lent-back d at (length s) s refl)
+
+-- no bytes put
+pub put-none : (d : List ℕ) (at : ℕ) → put d at [] ≡ d
+unfolding put
+put-none d at =
+    let e : at + 0 ≡ at = omega arith in
+    rw (e, append-nil (take at d)) (take-append-drop at d)
 
 -- one put behind another is one
 pub put-put : (d : List ℕ) (at : ℕ) (a : List ℕ) (k : ℕ) (b : List ℕ) → at + length a ≡ k → k + length b ≤ length d → put (put d at a) k b ≡ put d at (a ++ b)

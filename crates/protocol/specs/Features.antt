@@ -55,6 +55,7 @@ unfoldable pub listed : Option (List ℕ) → List ℕ → Bool
 listed none name = false
 listed (some rest) name = anySame (partsOf rest) name
 
+-- an identity text lists a feature
 unfoldable pub hasFeature : List ℕ → List ℕ → Bool
 hasFeature banner name = listed (afterName banner) name
 

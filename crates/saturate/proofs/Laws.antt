@@ -5,7 +5,7 @@ use Prim.Native.Nat.{ℕ, zero, suc, _+_, _≤_, _<_, _^_}
 use native.Mathlib.Omega.{arith}
 use lib.Dec.{T, ltb}
 use lib.IntN.{+ℤ-idl, ℤ, pos, negsuc, natAbs, negℤ, _+ℤ_, _-ℤ_}
-use lib.Signed.{ltZ, nonNeg}
+use lib.Signed.{ltZ, mag, nonNeg}
 use mir.Syntax.{w64}
 use mir.Val.{SFits}
 use borrow.Author.Tests.{ltb-true, ltb-false}
@@ -17,6 +17,12 @@ pub clamp-fits : (z : ℤ) → SFits w64 z → clamp z ≡ z
 unfolding clamp
 clamp-fits (pos n) f = ap pos (omega (arith, ltb-true, ltb-false))
 clamp-fits (negsuc n) f = ap negsuc (omega (arith, ltb-true, ltb-false))
+
+-- what is held fits
+pub held-fits : (z : ℤ) → mag (clamp z) < 2 ^ 63
+unfolding clamp
+held-fits (pos n) = omega arith
+held-fits (negsuc n) = omega arith
 
 -- the least number less a negative one fits
 pub least-fits : (b : ℤ) → SFits w64 b → ltZ b (pos 0) ≡ true → SFits w64 (negsuc 9223372036854775807 -ℤ b)

@@ -1,5 +1,5 @@
 -- No function on a slot breaks what its numbers of received bytes satisfy. Assumes nothing.
-use mathlib.Core.Path.{_≡_, refl}
+use mathlib.Core.Path.{_≡_, refl, sym}
 use mathlib.Core.Bool.{Bool, true, false, cond}
 use mathlib.Core.List.{List}
 use Prim.Native.Nat.{ℕ, _+_, _-_, _*_, _≤_, min}
@@ -63,6 +63,9 @@ sound-holds s cap ok =
       le-leb (s .buffered - s .settled) cap (ok .held-cap),
       le-leb (s .head + s .buffered) (2 * cap) (ok .run-fits),
     )
+
+pub unsound : (s : ChannelSlot) (cap : ℕ) → cap ≤ 16777216 → (SlotOk s cap → ⊥) → false ≡ slotOk s cap
+unsound s cap small broken = by-test (slotOk s cap) (λ t. absurd (broken (sound s cap small t))) (λ f. sym f)
 
 -- slots whose numbers of received bytes are the same are sound alike
 pub same-sound : (s t : ChannelSlot) (cap : ℕ) → t .settled ≡ s .settled → t .head ≡ s .head → t .buffered ≡ s .buffered → SlotOk s cap → SlotOk t cap

@@ -14,7 +14,7 @@ use Rattle.le.proofs.Parts.{by-test}
 use Rattle.config.specs.declared.negotiated.RxPolicy.{RxPolicy}
 use Rattle.rx_store.specs.RxStore.{appendedHead}
 use Rattle.saturate.specs.Saturate.{clamp, satSum}
-use Rattle.saturate.proofs.Laws.{zero-sub, neg-fits}
+use Rattle.saturate.proofs.Laws.{held-fits, zero-sub, neg-fits}
 use Rattle.slot.specs.declared.ids.RemoteId.{RemoteId}
 use Rattle.slot.specs.declared.ChannelSlot.{ChannelSlot}
 use Rattle.slot.specs.declared.ChannelState.the-variants.{Open}
@@ -40,9 +40,7 @@ pub credit-fits : (n : ℕ) → SFits w64 (pos (min n 9223372036854775807))
 credit-fits n = record { sfits = omega arith }
 
 pub clamp-small : (z : ℤ) → SFits w64 (clamp z)
-unfolding clamp
-clamp-small (pos n) = record { sfits = omega arith }
-clamp-small (negsuc n) = record { sfits = omega arith }
+clamp-small z = record { sfits = held-fits z }
 
 -- what the code passes on for a credit of 32 bits is the credit
 pub widened : (z : ℤ) → SFits w32 z → toZ w64 (ofZ w64 (toZ w32 (ofZ w32 z))) ≡ z

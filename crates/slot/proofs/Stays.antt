@@ -10,7 +10,8 @@ use lib.Signed.{mag}
 use lib.ListN.{length}
 use Rattle.le.specs.Le.{numOf, signed, part, Bytes}
 use Rattle.le.proofs.Laws.{signed-small, numOf-part}
-use Rattle.saturate.specs.Saturate.{clamp, satSum}
+use Rattle.saturate.specs.Saturate.{satSum}
+use Rattle.saturate.proofs.Laws.{held-fits}
 use Rattle.config.specs.declared.negotiated.RxPolicy.{RxPolicy}
 use Rattle.slot.specs.declared.ChannelSlot.{ChannelSlot}
 use Rattle.slot.specs.declared.Credit.{Credit}
@@ -40,11 +41,6 @@ stays-same s = record { filled = refl; local = refl; remote = refl; known = refl
 
 -- ---- budgets
 
-clamp-fits : (z : ℤ) → mag (clamp z) < 2 ^ 63
-unfolding clamp
-clamp-fits (pos n) = omega arith
-clamp-fits (negsuc n) = omega arith
-
 mag-more : (z : ℤ) → mag z < 2 ^ 31 → mag z < 2 ^ 63
 mag-more z h = omega arith
 
@@ -68,7 +64,7 @@ ReadiedStays s ReadyShort = Unit {0}
 ready-stays-by : (s : ChannelSlot) (c : Credit) → ReadiedStays s (readyBy s c)
 unfolding readyBy
 ready-stays-by s (Of z) =
-    record { filled = refl; local = refl; remote = refl; known = refl; opening = λ e. e; failed = refl; unacked = λ e. e; budget = λ e. clamp-fits (s .«send_budget» +ℤ z) }
+    record { filled = refl; local = refl; remote = refl; known = refl; opening = λ e. e; failed = refl; unacked = λ e. e; budget = λ e. held-fits (s .«send_budget» +ℤ z) }
 ready-stays-by s Short = tt
 
 pub ready-stays : (s : ChannelSlot) (payload : List ℕ) (p : RxPolicy) → ReadiedStays s (readyOf s payload p)
@@ -123,7 +119,7 @@ pub spent-stays : (s : ChannelSlot) (p : RxPolicy) (k : ℕ) → Stays s (spentO
 unfolding spentOf
 spent-stays s p k =
     pick (Stays s) (p .delayed)
-    (λ d. record { filled = refl; local = refl; remote = refl; known = refl; opening = λ e. e; failed = refl; unacked = λ e. e; budget = λ e. clamp-fits (s .«send_budget» -ℤ pos (min k 9223372036854775807)) })
+    (λ d. record { filled = refl; local = refl; remote = refl; known = refl; opening = λ e. e; failed = refl; unacked = λ e. e; budget = λ e. held-fits (s .«send_budget» -ℤ pos (min k 9223372036854775807)) })
     (λ d. record { filled = refl; local = refl; remote = refl; known = refl; opening = λ e. e; failed = refl; unacked = λ e. e; budget = λ e. e })
 
 pub closed-stays : (s : ChannelSlot) → Stays s (closedSlot s)

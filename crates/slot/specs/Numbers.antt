@@ -18,6 +18,7 @@ unfoldable pub creditNumber : Credit → ℕ
 creditNumber (Of z) = 0
 creditNumber Short = 5
 
+-- 5: an OKAY whose credit is short
 unfoldable pub readiedNumber : Readied → ℕ
 readiedNumber (Slot s) = 0
 readiedNumber ReadyShort = 5
@@ -29,6 +30,7 @@ decisionNumber Hold = 0
 decisionNumber Overflow = 11
 decisionNumber Early = 6
 
+-- 11, 5 and 6
 unfoldable pub faultNumber : ChannelFault → ℕ
 faultNumber RxOverflow = 11
 faultNumber ShortReadyPayload = 5
@@ -39,6 +41,7 @@ unfoldable pub errorNumber : ChannelError → ℕ
 errorNumber Closed = 10
 errorNumber (Fault f) = faultNumber f
 
+-- 101: nothing is buffered
 unfoldable pub takenNumber : Taken → ℕ
 takenNumber (Data s n) = 0
 takenNumber NothingTaken = 101

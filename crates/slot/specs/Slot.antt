@@ -1,4 +1,4 @@
--- One channel's numbers (document 01, slot.rs). Each definition is what the function of that name in slot.rs does.
+-- One channel's numbers (document 01, slot.rs). A name in backquotes is the function of slot.rs that a definition follows.
 -- Assumes nothing.
 use Prim.Native.Nat.{ℕ, _+_, _-_, _*_, _≤_, _<_, min}
 use mathlib.Core.Bool.{Bool, true, false, not, cond, _&&_}
@@ -42,6 +42,7 @@ use Rattle.slot.specs.declared.Reserved.the-variants.{Bytes as ReservedB
 
 -- ---- a slot with one thing changed
 
+-- its state
 abbrev pub withState : ChannelSlot → ChannelState → ChannelSlot
 withState s x =
     record {
@@ -59,6 +60,7 @@ withState s x =
       failed = s .failed;
     }
 
+-- the device's number, known from now on
 abbrev pub withRemote : ChannelSlot → RemoteId → ChannelSlot
 withRemote s r =
     record {
@@ -76,6 +78,7 @@ withRemote s r =
       failed = s .failed;
     }
 
+-- whether the last WRTE was acknowledged, and the budget
 abbrev pub withSending : ChannelSlot → Bool → ℤ → ChannelSlot
 withSending s acked budget =
     record {
@@ -216,6 +219,7 @@ acksNow s p held = cond (p .delayed) false (cond (ltb held (p .watermark)) (s .�
 unfoldable pub bufferedWith : ChannelSlot → RxPolicy → ℕ → ℕ → ChannelSlot
 bufferedWith s p n u = withNumbers s u (s .settled) (appendedHead (2 * p .«rx_cap») (s .head) (s .buffered) n) (s .buffered + n)
 
+-- a slot, and what became of the payload
 abbrev pub decided : ChannelSlot → AckDecision → Wrote
 decided s d = record { slot = s; decision = d }
 
@@ -227,6 +231,7 @@ wroteOf s p n =
     (cond (acksNow s p (heldOf s + n)) (decided (bufferedWith s p n 0) (Now n))
     (decided (bufferedWith s p n (satSum (s .unacked) n)) Hold)))
 
+-- a slot, and the acknowledgement that is due
 abbrev pub acked : ChannelSlot → PendingAck → Settled
 acked s a = record { slot = s; ack = a }
 
@@ -256,6 +261,7 @@ unfoldable pub settledBy : ChannelSlot → ℕ → PendingAck → Settled
 settledBy s n (Len k) = acked (withNumbers s (s .unacked - k) n (s .head) (s .buffered)) (Len k)
 settledBy s n Nothing = acked s Nothing
 
+-- `settle_take` of n bytes that are buffered, with none set aside
 unfoldable pub settledSome : ChannelSlot → RxPolicy → ℕ → Settled
 settledSome s p n = settledBy s n (ackLenOf s p n (s .buffered - n))
 
@@ -278,6 +284,7 @@ takenOf s room =
     cond (hasData s) (Data (tookOf s (takeLen s room)) (takeLen s room))
     (cond (isClosed (s .state)) (ClosedTaken (errorOf (s .failed))) NothingTaken)
 
+-- an acknowledgement is due
 unfoldable pub isAck : PendingAck → Bool
 isAck (Len n) = true
 isAck Nothing = false
@@ -289,6 +296,7 @@ takeAcks s p want =
 
 -- ---- sending
 
+-- a budget above 0
 unfoldable pub someBudget : ℕ → Budget
 someBudget n = cond (eqb n 0) NoBudget (Bytes n)
 
@@ -309,6 +317,7 @@ refundedOf s p n =
     cond (p .delayed) (withSending s (s .«wrte_acked») (clamp (s .«send_budget» +ℤ pos (min n 9223372036854775807))))
     (withSending s true (s .«send_budget»))
 
+-- `try_reserve_send`, once the budget is known
 unfoldable pub reservedBy : ChannelSlot → RxPolicy → ℕ → Budget → Reserved
 reservedBy s p want (Bytes most) = ReservedBytes (spentOf s p (min most want)) (min most want)
 reservedBy s p want NoBudget = NothingReserved

@@ -24,7 +24,7 @@ pub enum ChannelState {
     Closed,
 }
 
-// What went wrong on a channel that a split connection closed.
+// What is wrong with a packet for a channel: refusals 11, 5 and 6.
 pub enum ChannelFault {
     RxOverflow,
     ShortReadyPayload,
@@ -53,7 +53,7 @@ pub struct ChannelSlot {
     pub state: ChannelState,
     // Whether the last WRTE was acknowledged, where acknowledgements are not delayed.
     pub wrte_acked: bool,
-    // Bytes that may still be sent, where they are.
+    // Bytes that may still be sent, where acknowledgements are delayed.
     pub send_budget: i64,
     // Bytes that the device has had no OKAY for yet.
     pub unacked: usize,
@@ -526,7 +526,7 @@ impl ChannelSlot {
         self.with_numbers(self.unacked, settled, head, self.buffered - n)
     }
 
-    // What a read into `room` bytes finds: the numbers of it.
+    // What a read into `room` bytes finds, in numbers; `rx_store` hands the bytes over. `cap` is only for the `requires`.
     pub fn take_buffered(self, room: usize, cap: usize) -> Taken
         requires { ⌜ SlotOk self cap ⌝ }
         ensures { λ r. ⌜ r ≡ takenOf self room ⌝ }
@@ -642,13 +642,12 @@ impl ChannelSlot {
         requires { ⌜ cap ≤ 16777216 ⌝ }
         ensures { λ r. ⌜ r ≡ slotOk self cap ⌝ }
     {
-        if self.settled > self.buffered {
-            return false;
-        }
         if self.settled > cap {
             return false;
         }
-        if self.buffered > cap + self.settled {
+        // Held bytes: where less is buffered than settled, the difference wraps to more than any cap.
+        let held = std::num::wrapping_sub_usize(self.buffered, self.settled);
+        if held > cap {
             return false;
         }
         if self.head > 2 * cap - self.buffered {

@@ -99,6 +99,10 @@ module _ (channels cap i : ℕ) (l : List ℕ) where
       let f : flagOf (getD l 48 0 % 2) ≡ false = ne-eqb (getD l 48 0 % 2) 1 (λ x. omega arith) in
       k ∙ sym (ap (λ (x : Bool). isTag (getD l 48 0) && x) (cond-false (flagOf (getD l 48 0 % 2)) _ true f) ∙ and-id (isTag (getD l 48 0)))
 
+  pub row-zero : getD l 48 0 ≡ 0 → true ≡ rowFine channels cap i l
+  unfolding isTag
+  row-zero e = row-empty true (omega arith) (rw e)
+
   filled-row : getD l 48 0 % 2 ≡ 1 → rowFine channels cap i l ≡ (isTag (getD l 48 0) && (ltb i channels && filledOk (slotOf l) cap))
   unfolding rowFine slotFine slotOf isSlot
   filled-row e =
@@ -143,31 +147,56 @@ module _ (channels cap i : ℕ) (l : List ℕ) where
 
 -- ---- the rows, in one pass
 
-rows-next : (i : ℕ) (l : List ℕ) → drop 49 (drop (i * 49) l) ≡ drop ((i + 1) * 49) l
-rows-next i l = let e : i * 49 + 49 ≡ (i + 1) * 49 = omega arith in rw (drop-drop, e)
+rows-next : (i : ℕ) (b : List ℕ) → drop 49 (drop (58 + i * 49) b) ≡ drop (58 + (i + 1) * 49) b
+rows-next i b = let e : 58 + i * 49 + 49 ≡ 58 + (i + 1) * 49 = omega arith in rw (drop-drop, e)
 
-module _ (channels cap i : ℕ) (b : List ℕ) where
-  abbrev here : List ℕ
-  here = part b (58 + i * 49) 49
-
-  here-is : take 49 (drop (i * 49) (drop 58 b)) ≡ part b (58 + i * 49) 49
+module _ (channels cap i to : ℕ) (b : List ℕ) where
+  here-is : take 49 (drop (58 + i * 49) b) ≡ part b (58 + i * 49) 49
   unfolding part
-  here-is = rw drop-drop
+  here-is = refl
 
-  pub rows-step : i < 64 → rowFine channels cap i (part b (58 + i * 49) 49) ≡ true
-      → rowsFine channels cap i (64 - i) (drop (i * 49) (drop 58 b)) ≡ rowsFine channels cap (i + 1) (64 - (i + 1)) (drop ((i + 1) * 49) (drop 58 b))
+  pub rows-step : i < to → rowFine channels cap i (part b (58 + i * 49) 49) ≡ true
+      → rowsFine channels cap i (to - i) (drop (58 + i * 49) b) ≡ rowsFine channels cap (i + 1) (to - (i + 1)) (drop (58 + (i + 1) * 49) b)
   unfolding rowsFine
   rows-step h t =
-      let e : 64 - i ≡ suc (64 - (i + 1)) = omega arith in
-      rw (e, here-is, t, rows-next i (drop 58 b), add-one)
+      let e : to - i ≡ suc (to - (i + 1)) = omega arith in
+      rw (e, here-is, t, rows-next i b, add-one)
 
-  pub rows-stop : i < 64 → rowFine channels cap i (part b (58 + i * 49) 49) ≡ false → rowsFine channels cap i (64 - i) (drop (i * 49) (drop 58 b)) ≡ false
+  pub rows-stop : i < to → rowFine channels cap i (part b (58 + i * 49) 49) ≡ false → rowsFine channels cap i (to - i) (drop (58 + i * 49) b) ≡ false
   unfolding rowsFine
-  rows-stop h t = let e : 64 - i ≡ suc (64 - (i + 1)) = omega arith in rw (e, here-is, t)
+  rows-stop h t = let e : to - i ≡ suc (to - (i + 1)) = omega arith in rw (e, here-is, t)
 
-  pub rows-end : 64 ≤ i → rowsFine channels cap i (64 - i) (drop (i * 49) (drop 58 b)) ≡ true
+  pub rows-end : to ≤ i → rowsFine channels cap i (to - i) (drop (58 + i * 49) b) ≡ true
   unfolding rowsFine
-  rows-end h = let e : 64 - i ≡ 0 = omega arith in rw e
+  rows-end h = let e : to - i ≡ 0 = omega arith in rw e
+
+-- the first k rows and m behind them
+rows-split : (channels cap i k m : ℕ) (l : List ℕ)
+    → rowsFine channels cap i (k + m) l ≡ (rowsFine channels cap i k l && rowsFine channels cap (i + k) m (drop (k * 49) l))
+unfolding rowsFine
+rows-split channels cap i zero m l =
+    let n : 0 + m ≡ m = omega arith in
+    let p : i + 0 ≡ i = omega arith in
+    rw (n, p)
+rows-split channels cap i (suc k) m l =
+    let r = rows-split channels cap (suc i) k m (drop 49 l) in
+    let n : suc k + m ≡ suc (k + m) = omega arith in
+    let p : i + suc k ≡ suc i + k = omega arith in
+    let d : 49 + k * 49 ≡ suc k * 49 = omega arith in
+    rw (n, r, drop-drop, d, p) (sym (and-joins (rowFine channels cap i (take 49 l)) _ _))
+  where
+    and-joins : (x y z : Bool) → ((x && y) && z) ≡ (x && (y && z))
+    and-joins true y z = refl
+    and-joins false y z = refl
+
+-- the rows below k and those from k on
+pub rows-both : (channels cap k : ℕ) (b : List ℕ) → k ≤ 64
+    → (rowsFine channels cap 0 (k - 0) (drop (58 + 0 * 49) b) && rowsFine channels cap k (64 - k) (drop (58 + k * 49) b)) ≡ rowsFine channels cap 0 64 (drop 58 b)
+rows-both channels cap k b h =
+    let e : k + (64 - k) ≡ 64 = omega arith in
+    let s : 0 + k ≡ k = omega arith in
+    let z : k - 0 ≡ k = omega arith in
+    rw z (sym (rw (e, s, drop-drop) at (rows-split channels cap 0 k (64 - k) (drop 58 b))))
 
 -- one pass is both tests
 and-both : (a b c d : Bool) → ((a && b) && (c && d)) ≡ ((a && c) && (b && d))

@@ -32,6 +32,7 @@ changed c (headerTo h) = withHeader c h
 changed c (openTo i q) = withOpen c i q
 changed c (opensTo qs) = withOpens c qs
 
+-- one change after the other
 abbrev pub changedAll : Connection → List Change → Connection
 changedAll c [] = c
 changedAll c (x ∷ xs) = changedAll (changed c x) xs
@@ -43,6 +44,7 @@ putChange b (headerTo h) = putHeader b h
 putChange b (openTo i q) = putOpen b i q
 putChange b (opensTo qs) = putOpens b qs
 
+-- one change after the other
 abbrev pub putAll : List ℕ → List Change → List ℕ
 putAll b [] = b
 putAll b (x ∷ xs) = putAll (putChange b x) xs

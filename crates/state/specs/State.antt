@@ -27,6 +27,7 @@ pub record Connection : Type 0 where
 abbrev pub flagOf : ℕ → Bool
 flagOf b = eqb b 1
 
+-- the byte of a flag
 abbrev pub flagByte : Bool → ℕ
 flagByte f = cond f 1 0
 
@@ -34,6 +35,7 @@ flagByte f = cond f 1 0
 abbrev pub stateOfTag : ℕ → ChannelState
 stateOfTag b = cond (eqb b 0) Opening (cond (eqb b 1) Open Closed)
 
+-- the number of a state
 abbrev pub stateTag : ChannelState → ℕ
 stateTag Opening = 0
 stateTag Open = 1
@@ -43,6 +45,7 @@ stateTag Closed = 2
 abbrev pub failedOfTag : ℕ → Failed
 failedOfTag b = cond (eqb b 0) No (cond (eqb b 1) (By RxOverflow) (cond (eqb b 2) (By ShortReadyPayload) (By UnexpectedCommand)))
 
+-- the number of a fault
 abbrev pub failedTag : Failed → ℕ
 failedTag No = 0
 failedTag (By RxOverflow) = 1
@@ -51,6 +54,7 @@ failedTag (By UnexpectedCommand) = 3
 
 -- ---- a slot: 49 bytes
 
+-- its numbers: 48 bytes
 unfoldable pub slotNumbers : ChannelSlot → List ℕ
 slotNumbers s =
     bytesOf 4 (s .local .0) ++ bytesOf 4 (s .remote .0) ++ bytesOf 8 (unsigned 63 (s .«send_budget»)) ++ bytesOf 8 (s .unacked)
@@ -61,9 +65,11 @@ unfoldable pub tagOf : ChannelSlot → ℕ
 tagOf s =
     flagByte (s .filled) + 2 * flagByte (s .«has_remote») + 4 * flagByte (s .«wrte_acked») + 8 * stateTag (s .state) + 32 * failedTag (s .failed)
 
+-- its numbers, then the byte of flags and tags
 unfoldable pub slotBytes : ChannelSlot → List ℕ
 slotBytes s = slotNumbers s ++ bytesOf 1 (tagOf s)
 
+-- the slot that 49 bytes stand for
 unfoldable pub slotOf : List ℕ → ChannelSlot
 slotOf l =
     record {
@@ -85,36 +91,44 @@ slotOf l =
 unfoldable pub isTag : ℕ → Bool
 isTag t = leb t 127 && leb (t / 2 / 2 / 2 % 4) 2
 
+-- bytes that are a slot's
 unfoldable pub isSlot : List ℕ → Bool
 isSlot l = isTag (getD l 48 0)
 
 -- ---- a waiting open: 24 bytes
 
+-- its four numbers
 unfoldable pub openBytes : PendingOpen → List ℕ
 openBytes q = bytesOf 4 (q .remote .0) ++ bytesOf 4 (q .credit) ++ bytesOf 8 (q .share) ++ bytesOf 8 (q .length)
 
+-- the waiting open that 24 bytes stand for
 unfoldable pub openOf : List ℕ → PendingOpen
 openOf l = record { remote = record { 0 = numOf (part l 0 4) }; credit = numOf (part l 4 4); share = numOf (part l 8 8); length = numOf (part l 16 8) }
 
 -- ---- the header: 58 bytes
 
+-- the numbers of 8 bytes
 unfoldable pub headerSizes : Header → List ℕ
 headerSizes h =
     bytesOf 8 (h .negotiated .config .channels) ++ bytesOf 8 (h .negotiated .config .«max_rx_per_channel»)
     ++ bytesOf 8 (h .waiting .slot) ++ bytesOf 8 (h .queued)
 
+-- the numbers of 4 bytes
 unfoldable pub headerWords : Header → List ℕ
 headerWords h =
     bytesOf 4 (h .negotiated .config .«max_payload») ++ bytesOf 4 (h .negotiated .config .«initial_ack_bytes»)
     ++ bytesOf 4 (h .negotiated .«max_payload») ++ bytesOf 4 (h .negotiated .«protocol_version»)
     ++ bytesOf 4 (h .«next_local») ++ bytesOf 4 (h .waiting .local .0)
 
+-- the two flags
 unfoldable pub headerTags : Header → List ℕ
 headerTags h = bytesOf 1 (flagByte (h .negotiated .«delayed_ack»)) ++ bytesOf 1 (flagByte (h .waiting .on))
 
+-- the whole header
 unfoldable pub headerBytes : Header → List ℕ
 headerBytes h = headerSizes h ++ headerWords h ++ headerTags h
 
+-- the header that bytes begin with
 unfoldable pub headerOf : List ℕ → Header
 headerOf l =
     record {
@@ -138,6 +152,7 @@ headerOf l =
 
 -- ---- the whole: header, 64 slots, 64 waiting opens: 4,730 bytes
 
+-- the bytes of a state
 unfoldable pub layout : Connection → List ℕ
 layout c = headerBytes (c .header) ++ flat slotBytes (c .slots) ++ flat openBytes (c .opens)
 
@@ -151,26 +166,34 @@ isState b = leb 4730 (length b) && leb (getD b 56 0) 1 && leb (getD b 57 0) 1 &&
 
 -- ---- one record of it, in place
 
+-- the slot at place i
 unfoldable pub slotAt : List ℕ → ℕ → ChannelSlot
 slotAt b i = slotOf (part b (58 + i * 49) 49)
 
+-- the waiting open at place i
 unfoldable pub openAt : List ℕ → ℕ → PendingOpen
 openAt b i = openOf (part b (3194 + i * 24) 24)
 
+-- s stored as the slot at place i
 unfoldable pub putSlot : List ℕ → ℕ → ChannelSlot → List ℕ
 putSlot b i s = put b (58 + i * 49) (slotBytes s)
 
+-- q stored as the waiting open at place i
 unfoldable pub putOpen : List ℕ → ℕ → PendingOpen → List ℕ
 putOpen b i q = put b (3194 + i * 24) (openBytes q)
 
+-- h stored as the header
 unfoldable pub putHeader : List ℕ → Header → List ℕ
 putHeader b h = put b 0 (headerBytes h)
 
+-- the record with s as the slot at place i
 abbrev pub withSlot : Connection → ℕ → ChannelSlot → Connection
 withSlot c i s = record { header = c .header; slots = set (c .slots) i s; opens = c .opens }
 
+-- the record with another header
 abbrev pub withHeader : Connection → Header → Connection
 withHeader c h = record { header = h; slots = c .slots; opens = c .opens }
 
+-- the record with q as the waiting open at place i
 abbrev pub withOpen : Connection → ℕ → PendingOpen → Connection
 withOpen c i q = record { header = c .header; slots = c .slots; opens = set (c .opens) i q }

@@ -37,6 +37,7 @@ rowsFine channels cap i (suc n) l = rowFine channels cap i (take 49 l) && rowsFi
 unfoldable pub openFine : ℕ → ℕ → PendingOpen → Bool
 openFine channels payload q = leb (q .length) payload && ltb (q .share) channels
 
+-- every one of some waiting opens
 unfoldable pub opensFine : ℕ → ℕ → List PendingOpen → Bool
 opensFine channels payload [] = true
 opensFine channels payload (q ∷ qs) = openFine channels payload q && opensFine channels payload qs

@@ -6,7 +6,7 @@ use crate::open_at;
 use crate::slot_at;
 use crate::slot_of;
 ghost use mathlib.Core.Path.{_≡_};
-ghost use Prim.Native.Nat.{_+_, _*_, _≤_, _<_};
+ghost use Prim.Native.Nat.{_+_, _-_, _*_, _≤_, _<_};
 ghost use lib.ListN.{length, take, drop};
 ghost use Rattle.le.specs.Le.{part};
 ghost use Rattle.state.specs.State.{isTag, stateOf};
@@ -41,6 +41,10 @@ fn row_fine(p: &[u8], i: usize, channels: usize, cap: usize) -> bool
         }
         return false;
     }
+    // As a slot is left by making a state and by closing a channel.
+    if tag == 0 {
+        return true;
+    }
     if tag % 2 == 0 {
         return is_tag(tag);
     }
@@ -56,13 +60,13 @@ fn row_at_fine(state: &[u8], i: usize, channels: usize, cap: usize) -> bool
     row_fine(&state[at..end], i, channels, cap)
 }
 
-// Whether the 64 slots are each a slot that may stand at its place.
-fn slots_fine(state: &[u8], channels: usize, cap: usize) -> bool
-    requires { ⌜ (4730 ≤ length (now state)) × (cap ≤ 16777216) ⌝ }
-    ensures { λ r. ⌜ r ≡ rowsFine channels cap 0 64 (drop 58 (now (state .entry))) ⌝ }
+// Whether the slots from place `from` up to `end` are each a slot that may stand at its place.
+fn rows_fine(state: &[u8], from: usize, end: usize, channels: usize, cap: usize) -> bool
+    requires { ⌜ (from ≤ end) × (end ≤ 64) × (4730 ≤ length (now state)) × (cap ≤ 16777216) ⌝ }
+    ensures { λ r. ⌜ r ≡ rowsFine channels cap from (end - from) (drop (58 + from * 49) (now (state .entry))) ⌝ }
 {
-    let mut i = 0;
-    while i < 64 {
+    let mut i = from;
+    while i < end {
         if row_at_fine(state, i, channels, cap) {
             i += 1;
         } else {
@@ -70,6 +74,18 @@ fn slots_fine(state: &[u8], channels: usize, cap: usize) -> bool
         }
     }
     true
+}
+
+// Whether the 64 slots are each a slot that may stand at its place. In two parts: in the first the loop's bound already says
+// that the place is below channels, so that the compiler leaves that test of a filled slot out.
+fn slots_fine(state: &[u8], channels: usize, cap: usize) -> bool
+    requires { ⌜ (channels ≤ 64) × (4730 ≤ length (now state)) × (cap ≤ 16777216) ⌝ }
+    ensures { λ r. ⌜ r ≡ rowsFine channels cap 0 64 (drop 58 (now (state .entry))) ⌝ }
+{
+    if rows_fine(state, 0, channels, channels, cap) {
+        return rows_fine(state, channels, 64, channels, cap);
+    }
+    false
 }
 
 fn open_fine(q: PendingOpen, channels: usize, payload: usize) -> bool

@@ -13,7 +13,7 @@ rx-cap-requires c κs = search needs
 slots-fine-requires : tie.Need-slots-fine-requires
 slots-fine-requires c κs =
     let k = sound (c .before .before .before .before .args .h .negotiated .config) (c .before .before .before .before .pre .0 .within) .cap-small in
-    (omega arith, omega arith)
+    (omega arith, omega arith, omega arith)
 
 waiting-fine-requires : tie.Need-waiting-fine-requires
 waiting-fine-requires c κs = search needs

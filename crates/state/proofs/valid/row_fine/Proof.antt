@@ -1,15 +1,10 @@
 use native.Mathlib.Omega.{arith}
-use mathlib.Core.Path.{_≡_, refl, sym, ap, _∙_}
-use Rattle.state.proofs.ValidLaws.{row-empty, row-unknown, row-opening, row-failed, row-filled, row-beyond}
+use mathlib.Core.Path.{ap, _∙_}
+use Rattle.state.proofs.ValidLaws.{row-empty, row-zero, row-unknown, row-opening, row-failed, row-filled, row-beyond}
 use Rattle.slot.specs.Slot.{slotOk}
 use borrow.Author.Needs.{needs}
 use Rattle.state.proofs.valid.row_fine.Statement.{statement}
 use Rattle.state.proofs.valid.row_fine.Tie as tie
-use Rattle.state.proofs.valid.row_fine.Reads as reads
-use Rattle.state.proofs.valid.row_fine.Lts as lts
-use Rattle.slot.proofs.ChannelSlot.is_sound.Reads as is-sound-reads
-use Rattle.state.proofs.slot_of.Reads as slot-of-reads
-use Rattle.state.proofs.valid.is_tag.Reads as is-tag-reads
 
 shared-slice-read-tag : tie.Need-shared-slice-read-tag
 shared-slice-read-tag c = search needs
@@ -32,14 +27,17 @@ returns-3 c = row-filled (c .before .before .before .before .before .before .bef
 returns-4 : tie.Need-returns-4
 returns-4 c = row-beyond (c .before .before .before .before .before .before .args .channels) (c .before .before .before .before .before .before .args .cap) (c .before .before .before .before .before .before .args .i) (c .before .before .before .before .before .before .args .p .now) (omega arith) (omega arith)
 
+returns-5 : tie.Need-returns-5
+returns-5 c = row-zero (c .before .before .before .before .args .channels) (c .before .before .before .before .args .cap) (c .before .before .before .before .args .i) (c .before .before .before .before .args .p .now) (omega arith)
+
 is-tag-requires : tie.Need-is-tag-requires
 is-tag-requires c κs = search needs
 
-returns-5 : tie.Need-returns-5
-returns-5 c = row-empty (c .before .before .before .before .before .args .channels) (c .before .before .before .before .before .args .cap) (c .before .before .before .before .before .args .i) (c .before .before .before .before .before .args .p .now) _ (omega arith) (c .is-tag .ensures)
-
 returns-6 : tie.Need-returns-6
-returns-6 c = row-unknown (c .before .before .before .before .args .channels) (c .before .before .before .before .args .cap) (c .before .before .before .before .args .i) (c .before .before .before .before .args .p .now) (omega arith) (c .before .if1 .left)
+returns-6 c = row-empty (c .before .before .before .before .before .before .args .channels) (c .before .before .before .before .before .before .args .cap) (c .before .before .before .before .before .before .args .i) (c .before .before .before .before .before .before .args .p .now) _ (omega arith) (c .is-tag .ensures)
+
+returns-7 : tie.Need-returns-7
+returns-7 c = row-unknown (c .before .before .before .before .before .args .channels) (c .before .before .before .before .before .args .cap) (c .before .before .before .before .before .args .i) (c .before .before .before .before .before .args .p .now) (omega arith) (c .before .before .if1 .left)
 
 pub row-fine-spec : {M : Type 1} → statement M
 row-fine-spec =
@@ -52,6 +50,7 @@ row-fine-spec =
     is-sound-requires
     returns-3
     returns-4
-    is-tag-requires
     returns-5
-    returns-6)
+    is-tag-requires
+    returns-6
+    returns-7)

@@ -1,50 +1,21 @@
 use native.Mathlib.Omega.{arith}
-use mathlib.Core.Path.{_≡_, refl, sym, _∙_}
-use Prim.Native.Nat.{_-_, _*_, _≤_}
-use lib.ListN.{drop}
+use mathlib.Core.Path.{sym, _∙_}
+use Rattle.state.proofs.ValidLaws.{and-goes, and-stops, rows-both}
 use borrow.Author.Needs.{needs}
-use Rattle.state.specs.Valid.{rowsFine}
-use Rattle.state.proofs.ValidLaws.{rows-step, rows-stop, rows-end}
 use Rattle.state.proofs.valid.slots_fine.Statement.{statement}
 use Rattle.state.proofs.valid.slots_fine.Tie as tie
 
-abbrev Inv-loop : tie.InvT-loop
-Inv-loop state channels cap i₀ i = (i ≤ 64) × (rowsFine channels cap 0 64 (drop 58 state) ≡ rowsFine channels cap i (64 - i) (drop (i * 49) (drop 58 state)))
+rows-fine-requires : tie.Need-rows-fine-requires
+rows-fine-requires c κs = search needs
 
-abbrev μ-loop : tie.MeasureT-loop
-μ-loop state channels cap i₀ i = 64 - i
+rows-fine-requires-2 : tie.Need-rows-fine-requires-2
+rows-fine-requires-2 c κs = search needs
 
-loop-holds : tie.Need-loop-holds Inv-loop μ-loop
-loop-holds c = (omega arith, refl)
+returns : tie.Need-returns
+returns c = and-goes _ _ _ (sym (c .before .before .rows-fine .ensures) ∙ c .before .if1 .taken) (c .rows-fine2 .ensures) ∙ rows-both (c .before .before .before .before .args .channels) (c .before .before .before .before .args .cap) (c .before .before .before .before .args .channels) (c .before .before .before .before .args .state .now) (omega arith)
 
-row-at-fine-requires : tie.Need-row-at-fine-requires Inv-loop μ-loop
-row-at-fine-requires c κs = search needs
-
-add-i : tie.Need-add-i Inv-loop μ-loop
-add-i c = search needs
-
-loop-less : tie.Need-loop-less Inv-loop μ-loop
-loop-less c = search needs
-
-loop-again : tie.Need-loop-again Inv-loop μ-loop
-loop-again c = (omega arith, c .before .before .before .loop .inv .1 ∙ rows-step (c .before .before .before .before .before .args .channels) (c .before .before .before .before .before .args .cap) (c .before .before .before .loop .i) (c .before .before .before .before .before .args .state .now) (omega arith) (sym (c .before .row-at-fine .ensures) ∙ c .if1 .taken))
-
-returns : tie.Need-returns Inv-loop μ-loop
-returns c = sym (c .before .before .before .loop .inv .1 ∙ rows-stop (c .before .before .before .before .before .args .channels) (c .before .before .before .before .before .args .cap) (c .before .before .before .loop .i) (c .before .before .before .before .before .args .state .now) (omega arith) (sym (c .before .row-at-fine .ensures) ∙ c .if1 .left))
-
-returns-2 : tie.Need-returns-2 Inv-loop μ-loop
-returns-2 c = sym (c .before .loop .inv .1 ∙ rows-end (c .before .before .before .args .channels) (c .before .before .before .args .cap) (c .before .loop .i) (c .before .before .before .args .state .now) (omega arith))
+returns-2 : tie.Need-returns-2
+returns-2 c = and-stops _ _ (sym (c .before .rows-fine .ensures) ∙ c .if1 .left) ∙ rows-both (c .before .before .before .args .channels) (c .before .before .before .args .cap) (c .before .before .before .args .channels) (c .before .before .before .args .state .now) (omega arith)
 
 pub slots-fine-spec : {M : Type 1} → statement M
-slots-fine-spec =
-    tie.close
-    (tie.spec
-    Inv-loop
-    μ-loop
-    loop-holds
-    row-at-fine-requires
-    add-i
-    loop-less
-    loop-again
-    returns
-    returns-2)
+slots-fine-spec = tie.close (tie.spec rows-fine-requires rows-fine-requires-2 returns returns-2)

@@ -3,18 +3,18 @@ use Prim.Native.Nat.{_≤_, _-_}
 use native.Mathlib.Omega.{arith}
 use lib.ListN.{length, take}
 use Rattle.protocol.specs.Checksum.{sumOf}
-use Rattle.protocol.proofs.ChecksumLaws.{sum-none, sum-step, sum-all}
-use Rattle.protocol.proofs.checksum.payload_checksum.Statement.{statement}
-use Rattle.protocol.proofs.checksum.payload_checksum.Tie as tie
+use Rattle.protocol.proofs.ChecksumLaws.{sum-step, sum-all}
+use Rattle.protocol.proofs.checksum.sum_rest.Statement.{statement}
+use Rattle.protocol.proofs.checksum.sum_rest.Tie as tie
 
 abbrev Inv-loop : tie.InvT-loop
-Inv-loop payload sum₀ i₀ sum i = (i ≤ length payload) × (sum ≡ sumOf (take i payload))
+Inv-loop p from before sum₀ i₀ sum i = (i ≤ length p) × (sum ≡ sumOf (take i p))
 
 abbrev μ-loop : tie.MeasureT-loop
-μ-loop payload sum₀ i₀ sum i = length payload - i
+μ-loop p from before sum₀ i₀ sum i = length p - i
 
 loop-holds : tie.Need-loop-holds Inv-loop μ-loop
-loop-holds c = (omega arith, sum-none (c .before .args .payload .now))
+loop-holds c = (omega arith, c .before .pre .1)
 
 shared-slice-read-wide : tie.Need-shared-slice-read-wide Inv-loop μ-loop
 shared-slice-read-wide c = omega arith
@@ -33,15 +33,13 @@ loop-less c = omega arith
 
 loop-again : tie.Need-loop-again Inv-loop μ-loop
 loop-again c =
-    let p = c .before .before .before .before .before .before .args .payload .now in
-    let b = c .before .before .before .before .loop in
-    (omega arith, cc (sum-step p (b .i) (omega arith), c .wrapping-add-u32 .ensures, c .before .wide .ensures))
+    (omega arith, cc (sum-step (c .before .before .before .before .before .before .args .p .now) (c .before .before .before .before .loop .i) (omega arith), c .wrapping-add-u32 .ensures, c .before .wide .ensures .0))
 
 returns : tie.Need-returns Inv-loop μ-loop
-returns c = c .before .loop .inv .1 ∙ sum-all (c .before .before .before .args .payload .now) (c .before .loop .i) (omega arith)
+returns c = c .before .loop .inv .1 ∙ sum-all (c .before .before .before .args .p .now) (c .before .loop .i) (omega arith)
 
-pub payload-checksum-spec : {M : Type 1} → statement M
-payload-checksum-spec =
+pub sum-rest-spec : {M : Type 1} → statement M
+sum-rest-spec =
     tie.close
     (tie.spec
     Inv-loop
