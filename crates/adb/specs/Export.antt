@@ -1,5 +1,5 @@
--- What the exported functions leave (docs/ARCHITECTURE.md, "C interface"), in the terms of the definitions of the calls and of
--- the theorems over lists of them. Assumes nothing.
+-- What the exported functions leave (docs/ARCHITECTURE.md, "The C interface"), in the terms of the calls' definitions and of
+-- the theorems over lists of calls. Assumes nothing.
 use Prim.Native.Nat.{ℕ}
 use mathlib.Core.Path.{_≡_}
 use mathlib.Core.Bool.{Bool, cond, _||_}

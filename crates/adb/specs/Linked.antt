@@ -15,7 +15,7 @@ use Rattle.history.specs.Queue.{Queues}
 use Rattle.history.specs.Run.{Call, openCall, dispatchCall, settleCall, takeCall, readCall, writeCall, closeCall, frontTaken, World, afterAll, made}
 use Rattle.adb.specs.Export.{worldOf, isShort, exported, Does, isYes, MakesState}
 
--- the outgoing buffer, and the reader's buffer, that a call is lent
+-- the outgoing buffer that a call is lent
 unfoldable pub outIn : Call → List ℕ
 outIn (openCall out destination received) = out
 outIn (dispatchCall out received) = out
@@ -26,6 +26,7 @@ outIn (writeCall out ch bytes received) = out
 outIn (closeCall out ch) = out
 outIn frontTaken = []
 
+-- the reader's buffer that it is lent
 unfoldable pub bufIn : Call → List ℕ
 bufIn (openCall out destination received) = []
 bufIn (dispatchCall out received) = []
@@ -57,8 +58,8 @@ pub record MadeBy (c : ConnectionConfig) (a b host device : ℕ) (state left : L
   pub makes : MakesState (makeIn c a b (isYes host) (isYes device) state) number left
   pub done : number ≡ 0
 
--- a list of calls through the exported functions is a list of the definitions' calls: limits are kept, the state is long enough,
--- and what is left is what the definitions leave. So each theorem over lists of calls is one of these functions
+-- a list of calls through the exported functions is a list of the definitions' calls: limits are kept, the state is long
+-- enough, and what is left is what the definitions leave. So each theorem over lists of calls is one of these functions
 abbrev pub LinkedRuns : Type 0
 LinkedRuns =
     (c : ConnectionConfig) (a b host device : ℕ) (state left rx store : List ℕ) → MadeBy c a b host device state left

@@ -10,11 +10,11 @@ use connection::Answer;
 use connection::Refusal;
 use opening::open::open;
 use reading::read::read;
-use reading::transfer::settle;
-use reading::transfer::take;
 use slot::PendingAck;
 use slot::ids::LocalId;
 use table::ChannelId;
+use transfer::settle;
+use transfer::take;
 use writing::write::write;
 ghost use mathlib.Core.Path.{_≡_};
 ghost use mathlib.Core.List.{[]};
@@ -59,7 +59,7 @@ fn refusal_word(refusal: Refusal) -> u64
     ensures { λ r. ⌜ r ≡ refusalWord refusal ⌝ }
 {
     match refusal {
-        Refusal::InvalidCommand(word) => word as u64,
+        Refusal::InvalidCommand(word) => word,
         Refusal::InvalidMagic => 0,
         Refusal::PayloadTooLarge => 0,
         Refusal::InvalidChecksum => 0,
@@ -155,7 +155,7 @@ pub extern "C" fn adb_open(
     answered(answer, reply)
 }
 
-// One packet that no open, read or write waits for.
+// Takes one packet, whatever channel it is for.
 #[no_mangle]
 pub extern "C" fn adb_dispatch(
     state: &mut [u8],

@@ -1,16 +1,20 @@
 // What a script does beside the calls: the number of channels in use, the next number set, a channel's budget set.
 use crate::drive::channel;
+use calls::admit::Found;
 use calls::admit::drop_waiting;
-use calls::admit::is_there;
-use script::text::number_at;
-use script::text::put;
-use script::text::put_number;
-use script::text::signed_at;
+use calls::admit::get;
+use script::words::number_at;
+use script::words::signed_at;
 use state::header_of;
 use state::put_header;
 use state::put_slot;
-use state::slot_at;
 use table::ChannelId;
+
+pub enum Aided {
+    InUse(usize),
+    Set,
+    NoChannel,
+}
 
 pub fn is_aid(kind: u8) -> bool {
     if kind == b'i' {
@@ -22,12 +26,11 @@ pub fn is_aid(kind: u8) -> bool {
     kind == b'b'
 }
 
-fn in_use(state: &[u8]) {
+fn in_use(state: &[u8]) -> Aided {
     if state.len() < 4730 {
-        return;
+        return Aided::NoChannel;
     }
-    put(b"in_use n=");
-    put_number(table::in_use(state, 64) as u64);
+    Aided::InUse(table::in_use(state, 64))
 }
 
 // An open that waits is dropped.
@@ -39,41 +42,38 @@ fn drop_open(state: &mut [u8]) {
     put_header(state, h);
 }
 
-fn set_next_local(state: &mut [u8], n: u32) {
+fn set_next_local(state: &mut [u8], n: u32) -> Aided {
     if state.len() < 4730 {
-        return;
+        return Aided::NoChannel;
     }
     let mut h = drop_waiting(header_of(state));
     h.next_local = n;
     put_header(state, h);
-    put(b"set");
+    Aided::Set
 }
 
-fn set_budget(state: &mut [u8], ch: ChannelId, budget: i64) {
+fn set_budget(state: &mut [u8], ch: ChannelId, budget: i64) -> Aided {
     let place = ch.slot;
     if state.len() >= 4730 {
         if place < 64 {
-            if is_there(state, 64, ch) {
-                let mut s = slot_at(state, place);
-                s.send_budget = budget;
-                put_slot(state, place, s);
-                put(b"set");
-                return;
+            if let Found::Slot(s) = get(state, 64, ch) {
+                let mut changed = s;
+                changed.send_budget = budget;
+                put_slot(state, place, changed);
+                return Aided::Set;
             }
         }
     }
-    put(b"refused 10");
+    Aided::NoChannel
 }
 
-pub fn aid(kind: u8, line: &[u8], state: &mut [u8]) {
+pub fn aid(kind: u8, line: &[u8], state: &mut [u8]) -> Aided {
     if kind == b'i' {
-        in_use(state);
-        return;
+        return in_use(state);
     }
     if kind == b'n' {
-        set_next_local(state, number_at(line, 1));
-        return;
+        return set_next_local(state, number_at(line, 1));
     }
     drop_open(state);
-    set_budget(state, channel(line), signed_at(line, 3));
+    set_budget(state, channel(line), signed_at(line, 3))
 }

@@ -8,13 +8,13 @@ use config::ConnectionConfig;
 use connection::Answer;
 use opening::open::open;
 use reading::read::read;
-use reading::transfer::settle;
-use reading::transfer::take;
-use script::text::bytes_at;
-use script::text::number_at;
-use script::text::size_at;
+use script::words::bytes_at;
+use script::words::number_at;
+use script::words::size_at;
 use slot::ids::LocalId;
 use table::ChannelId;
+use transfer::settle;
+use transfer::take;
 use writing::write::write;
 ghost use Prim.Native.Nat.{_≤_};
 ghost use lib.ListN.{length};
@@ -51,94 +51,124 @@ fn make_from(line: &[u8], state: &mut [u8]) -> Answer {
     make(state, config, version, max_payload, host, device)
 }
 
-// A call that hands bytes to a reader: read or take.
+fn takes(line: &[u8], state: &mut [u8], rx: &mut [u8], opens: &mut [u8], buf: &mut [u8]) -> Reply {
+    let n = fitting(size_at(line, 3), buf);
+    take(state, rx, opens, channel(line), &mut buf[0..n])
+}
+
 fn reads(
-    kind: u8,
     line: &[u8],
     state: &mut [u8],
     rx: &mut [u8],
     opens: &mut [u8],
-    received: &mut [u8],
     out: &mut [u8],
     buf: &mut [u8],
 ) -> Reply {
-    let ch = channel(line);
+    let mut received = io::large_buffer();
     let n = fitting(size_at(line, 3), buf);
-    if kind == b't' {
-        return take(state, rx, opens, ch, &mut buf[0..n]);
-    }
-    let r = bytes_at(line, 4, received);
-    read(state, rx, opens, ch, &received[..r], out, &mut buf[0..n])
+    let r = bytes_at(line, 4, &mut received);
+    read(
+        state,
+        rx,
+        opens,
+        channel(line),
+        &received[..r],
+        out,
+        &mut buf[0..n],
+    )
 }
 
-// A call on a channel: write, settle or close.
-fn on_channel(
-    kind: u8,
+fn writes(line: &[u8], state: &mut [u8], rx: &mut [u8], opens: &mut [u8], out: &mut [u8]) -> Reply {
+    let mut data = io::large_buffer();
+    let mut received = io::large_buffer();
+    let d = bytes_at(line, 3, &mut data);
+    let r = bytes_at(line, 4, &mut received);
+    write(
+        state,
+        rx,
+        opens,
+        channel(line),
+        &data[..d],
+        &received[..r],
+        out,
+    )
+}
+
+fn opens_one(
     line: &[u8],
     state: &mut [u8],
     rx: &mut [u8],
     opens: &mut [u8],
-    data: &mut [u8],
-    received: &mut [u8],
     out: &mut [u8],
 ) -> Reply {
-    let ch = channel(line);
-    if kind == b'w' {
-        let d = bytes_at(line, 3, data);
-        let r = bytes_at(line, 4, received);
-        return write(state, rx, opens, ch, &data[..d], &received[..r], out);
-    }
-    if kind == b's' {
-        return settle(state, rx, opens, ch, size_at(line, 3), out);
-    }
-    close(state, rx, opens, ch, out)
+    let mut data = io::large_buffer();
+    let mut received = io::large_buffer();
+    let d = bytes_at(line, 1, &mut data);
+    let r = bytes_at(line, 2, &mut received);
+    open(state, rx, opens, &data[..d], &received[..r], out)
 }
 
-// A call that names no channel: make, open, dispatch or take_front.
+fn dispatches(
+    line: &[u8],
+    state: &mut [u8],
+    rx: &mut [u8],
+    opens: &mut [u8],
+    out: &mut [u8],
+) -> Reply {
+    let mut received = io::large_buffer();
+    let r = bytes_at(line, 1, &mut received);
+    dispatch(state, rx, opens, &received[..r], out)
+}
+
+fn makes(line: &[u8], state: &mut [u8]) -> Reply {
+    let answer = make_from(line, state);
+    Reply {
+        answer,
+        used: 0,
+        written: 0,
+    }
+}
+
+// A call that names no channel: make, take_front, open or dispatch.
 fn on_connection(
     kind: u8,
     line: &[u8],
     state: &mut [u8],
     rx: &mut [u8],
     opens: &mut [u8],
-    data: &mut [u8],
-    received: &mut [u8],
     out: &mut [u8],
 ) -> Reply {
     if kind == b'm' {
-        return Reply {
-            answer: make_from(line, state),
-            used: 0,
-            written: 0,
-        };
+        return makes(line, state);
+    }
+    if kind == b'f' {
+        return take_front(state, rx, opens);
     }
     if kind == b'o' {
-        let d = bytes_at(line, 1, data);
-        let r = bytes_at(line, 2, received);
-        return open(state, rx, opens, &data[..d], &received[..r], out);
+        return opens_one(line, state, rx, opens, out);
     }
-    if kind == b'd' {
-        let r = bytes_at(line, 1, received);
-        return dispatch(state, rx, opens, &received[..r], out);
-    }
-    take_front(state, rx, opens)
+    dispatches(line, state, rx, opens, out)
 }
 
-fn is_reader(kind: u8) -> bool {
-    if kind == b't' {
-        return true;
-    }
-    kind == b'r'
-}
-
-fn names_channel(kind: u8) -> bool {
+// A call that sends: write, settle or close, or one that names no channel.
+fn sends(
+    kind: u8,
+    line: &[u8],
+    state: &mut [u8],
+    rx: &mut [u8],
+    opens: &mut [u8],
+    out: &mut [u8],
+) -> Reply {
     if kind == b'w' {
-        return true;
+        return writes(line, state, rx, opens, out);
     }
     if kind == b's' {
-        return true;
+        return settle(state, rx, opens, channel(line), size_at(line, 3), out);
     }
-    kind == b'c'
+    if kind == b'c' {
+        return close(state, rx, opens, channel(line), out);
+    }
+    on_connection(kind, line, state, rx, opens, out)
 }
 
 pub fn call(
@@ -147,16 +177,14 @@ pub fn call(
     state: &mut [u8],
     rx: &mut [u8],
     opens: &mut [u8],
-    data: &mut [u8],
-    received: &mut [u8],
     out: &mut [u8],
     buf: &mut [u8],
 ) -> Reply {
-    if is_reader(kind) {
-        return reads(kind, line, state, rx, opens, received, out, buf);
+    if kind == b't' {
+        return takes(line, state, rx, opens, buf);
     }
-    if names_channel(kind) {
-        return on_channel(kind, line, state, rx, opens, data, received, out);
+    if kind == b'r' {
+        return reads(line, state, rx, opens, out, buf);
     }
-    on_connection(kind, line, state, rx, opens, data, received, out)
+    sends(kind, line, state, rx, opens, out)
 }

@@ -18,41 +18,30 @@ fn letter(line: &[u8]) -> u8 {
     line[0]
 }
 
-// One call, and its line.
-fn answer(
-    line: &[u8],
-    state: &mut [u8],
-    rx: &mut [u8],
-    opens: &mut [u8],
-    data: &mut [u8],
-    received: &mut [u8],
-    out: &mut [u8],
-    buf: &mut [u8],
-) {
+// One call, and how long its line is.
+fn call(line: &[u8], state: &mut [u8], rx: &mut [u8], opens: &mut [u8], text: &mut [u8]) -> usize {
     let kind = letter(line);
     if aids::is_aid(kind) {
-        aids::aid(kind, line, state);
-        script::text::put(b" used=0 out=- got=-\n");
-        return;
+        return answers::put_aided(text, aids::aid(kind, line, state));
     }
-    let reply = drive::call(kind, line, state, rx, opens, data, received, out, buf);
-    answers::put_reply(kind, reply, opens, out, buf);
+    let mut out = io::large_buffer();
+    let mut buf = io::large_buffer();
+    let reply = drive::call(kind, line, state, rx, opens, &mut out, &mut buf);
+    answers::put_reply(text, kind, reply, opens, &out, &buf)
 }
 
-fn replay(
-    script: &[u8],
-    state: &mut [u8],
-    rx: &mut [u8],
-    opens: &mut [u8],
-    data: &mut [u8],
-    received: &mut [u8],
-    out: &mut [u8],
-    buf: &mut [u8],
-) {
+// A line that does not fit has no end, so that it is seen.
+fn answer(line: &[u8], state: &mut [u8], rx: &mut [u8], opens: &mut [u8]) {
+    let mut text = io::large_buffer();
+    let end = call(line, state, rx, opens, &mut text);
+    io::write_all(1, script::text::written(&text, end));
+}
+
+fn replay(script: &[u8], state: &mut [u8], rx: &mut [u8], opens: &mut [u8]) {
     let mut at = 0;
     while at < script.len() {
         let end = bytes::scan::find(script, at, script.len(), b'\n');
-        answer(&script[at..end], state, rx, opens, data, received, out, buf);
+        answer(&script[at..end], state, rx, opens);
         if end == script.len() {
             return;
         }
@@ -62,26 +51,13 @@ fn replay(
 
 fn run(script: &[u8]) {
     let mut state = [0u8; 4730];
-    let mut rx = [0u8; 65536];
+    let mut rx = io::large_buffer();
     let mut opens = [0u8; 16384];
-    let mut data = [0u8; 16384];
-    let mut received = [0u8; 16384];
-    let mut out = [0u8; 16384];
-    let mut buf = [0u8; 16384];
-    replay(
-        script,
-        &mut state,
-        &mut rx,
-        &mut opens,
-        &mut data,
-        &mut received,
-        &mut out,
-        &mut buf,
-    );
+    replay(script, &mut state, &mut rx, &mut opens);
 }
 
 fn main() {
-    let mut script = [0u8; 524288];
+    let mut script = script::space();
     let n = io::read_full(0, &mut script);
     run(&script[..n]);
 }

@@ -4,9 +4,9 @@ use mathlib.Core.Bool.{Bool, true, false, cond}
 use mathlib.Core.List.{List, [], _∷_, _++_, append-assoc, append-nil}
 use Prim.Native.Nat.{ℕ, _+_, _*_, _/_, _%_, _≤_, _<_}
 use native.Mathlib.Omega.{arith}
-use lib.ListN.{length, take, drop, length-append, take-append-drop}
+use lib.ListN.{length, length-append}
 use Rattle.le.specs.Le.{bytesOf, put}
-use Rattle.le.proofs.Parts.{put-put}
+use Rattle.le.proofs.Parts.{put-none}
 use Rattle.config.specs.declared.negotiated.Negotiated.{Negotiated}
 use Rattle.protocol.specs.declared.checksum.Checksum.{Checksum}
 use Rattle.protocol.specs.Packet.{Puts}
@@ -24,13 +24,6 @@ use Rattle.connection.specs.Calls.{ackFrames, idsIn}
 use Rattle.connection.specs.Frames.{Frame, okayFrame, closeFrame, frameBytes, framesBytes}
 
 -- ---- bytes
-
--- no bytes put
-pub put-none : (d : List ℕ) (at : ℕ) → put d at [] ≡ d
-unfolding put
-put-none d at =
-    let e : at + 0 ≡ at = omega arith in
-    rw (e, append-nil (take at d)) (take-append-drop at d)
 
 bytes-low : (r q : ℕ) → r < 4294967296 → bytesOf 4 r ≡ bytesOf 4 (r + 4294967296 * q)
 unfolding bytesOf

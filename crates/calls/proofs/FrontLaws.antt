@@ -27,8 +27,7 @@ use Rattle.connection.specs.Frames.{framesBytes}
 use Rattle.calls.specs.Promise.{lentOf, agreedIn, Leaves, Admits}
 use Rattle.calls.proofs.AdmitLaws.{admits-dropped}
 use Rattle.calls.proofs.FrameLaws.{puts-none}
-use Rattle.calls.proofs.LeaveLaws.{did-begun, did-then, did-stops}
-use Rattle.calls.proofs.ThereLaws.{stops-leaves}
+use Rattle.calls.proofs.LeaveLaws.{did-begun, did-then, did-stops, stops-leaves}
 
 -- ---- the queue's front
 

@@ -1,7 +1,8 @@
 -- From what a call has done so far to what it leaves. Assumes nothing.
---     did-begun, did-then, did-acted, did-ends   the steps of a call, as the definitions have them
---     leaves-on                                  what goes on behind some work leaves what the whole does
---     refused-leaves, goes-on                    the refusals ahead of every step
+--     did-begun, did-slot, did-frames, did-acted, did-ends   the steps of a call, as the definitions have them
+--     stops-leaves                                           a call that only stores a header
+--     leaves-on                                              what goes on behind some work leaves what the whole does
+--     refused-leaves, goes-on                                the refusals ahead of every step
 use mathlib.Core.Path.{_≡_, refl, sym, ap, subst, _∙_}
 use mathlib.Core.Bool.{Bool, true, false, true≢false}
 use mathlib.Core.List.{List, [], _∷_, _++_, append-nil}
@@ -11,7 +12,7 @@ use lib.Dec.{ltb}
 use lib.ListN.{length, length-append}
 use borrow.Author.Tests.{ltb-false}
 use Rattle.le.specs.Le.{put, Bytes}
-use Rattle.le.proofs.Parts.{length-put, put-put}
+use Rattle.le.proofs.Parts.{length-put, put-none, put-put}
 use Rattle.config.specs.declared.negotiated.Negotiated.{Negotiated}
 use Rattle.config.specs.Config.{storesFit}
 use Rattle.protocol.specs.Packet.{Puts}
@@ -36,7 +37,7 @@ use Rattle.connection.specs.Calls.{Lent, Outcome, writtenBy, untouched, Work, b
 use Rattle.connection.specs.Frames.{Frame, framesBytes}
 use Rattle.calls.specs.Promise.{lentOf, agreedIn, Leaves, admitted, Admits, ActsOn}
 use Rattle.calls.proofs.AdmitLaws.{whole-long}
-use Rattle.calls.proofs.FrameLaws.{put-none, puts-none, frames-append}
+use Rattle.calls.proofs.FrameLaws.{puts-none, frames-append}
 
 -- changes after others
 pub put-append : (b : List ℕ) (xs ys : List Change) → putAll b (xs ++ ys) ≡ putAll (putAll b xs) ys
@@ -144,6 +145,15 @@ module _ (n : Negotiated) (at : ℕ) (state out : List ℕ) where
     pub did-stops : (buf state₂ : List ℕ) (h : Header) (a : Answer) (used : ℕ) (r : Reply) → h ≡ w .header → state₂ ≡ putHeader state₁ h
         → r ≡ record { answer = a; used = used; written = end } → Leaves n (ends w a used []) at state out buf r state₂ rx store out₁ buf
     did-stops buf state₂ h a used r i s e = did-ends buf buf state₂ h a used [] r i s e (sym (put-none buf 0)) (omega arith)
+
+-- a call that only stores a header
+pub stops-leaves : {x : Header} (state rx store : List ℕ) (h : Header) → h ≡ x → (out buf : List ℕ) (o : Outcome) (a : Answer) (used : ℕ) (r : Reply) (state' : List ℕ)
+    → o ≡ ends (begun x (lentOf state rx store)) a used [] → state' ≡ putHeader state h → r ≡ record { answer = a; used = used; written = 0 }
+    → Leaves (agreedIn state) o 0 state out buf r state' rx store out buf
+stops-leaves {x} state rx store h i out buf o a used r state' e s q =
+    let w = did-begun (agreedIn state) 0 state out x (lentOf state rx store) (omega arith) in
+    subst (λ (v : Outcome). Leaves (agreedIn state) v 0 state out buf r state' rx store out buf) (sym e)
+    (did-stops (agreedIn state) 0 state out _ _ _ _ _ _ w buf state' h a used r i s q)
 
 -- ---- what goes on behind some work
 

@@ -9,7 +9,7 @@ use lib.ListN.{length, take, drop, replicate, length-append, length-take, length
 use lib.Seq.{take-append-le, take-take, drop-at}
 use borrow.Author.Tests.{lt-ltb, le-ltb}
 use Rattle.le.specs.Le.{put}
-use Rattle.le.proofs.Parts.{put-put}
+use Rattle.le.proofs.Parts.{put-put, put-none}
 use Rattle.config.specs.declared.ConnectionConfig.{ConnectionConfig}
 use Rattle.config.specs.declared.negotiated.Negotiated.{Negotiated}
 use Rattle.config.specs.Config.{withinLimits}
@@ -29,7 +29,6 @@ use Rattle.connection.specs.declared.Answer.the-variants.{Done, Refused}
 use Rattle.connection.specs.declared.Refusal.the-variants.{BadConfig, StoreShort}
 use Rattle.connection.specs.Calls.{Made, fresh, makeOf}
 use Rattle.calls.specs.Promise.{emptySlots, emptyOpens, makeIn, Makes}
-use Rattle.calls.proofs.FrameLaws.{put-none}
 
 -- ---- the same record, put again and again
 

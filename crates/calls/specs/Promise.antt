@@ -28,6 +28,8 @@ use Rattle.calls.specs.declared.Reply.{Reply}
 use Rattle.calls.specs.declared.act.ActedOn.{ActedOn}
 use Rattle.calls.specs.declared.admit.Admitted.{Admitted}
 use Rattle.calls.specs.declared.admit.Admitted.the-variants.{Yes, No}
+use Rattle.calls.specs.declared.admit.Found.{Found}
+use Rattle.calls.specs.declared.admit.Found.the-variants.{Slot, Nothing}
 use Rattle.connection.specs.declared.Refusal.the-variants.{StoreShort, OutShort, BrokenState}
 use Rattle.connection.specs.Act.{Acted}
 use Rattle.connection.specs.Calls.{Lent, Outcome, writtenBy, Made, makeOf}
@@ -75,6 +77,10 @@ pub record Admits (state rx store : List ℕ) (out : ℕ) : Type 0 where
 abbrev pub thereIn : ℕ → List ChannelSlot → ChannelId → Bool
 thereIn n ss ch = ltb (ch .slot) n && wantedBy (Local (ch .local)) (slotIn ss (ch .slot))
 
+-- its slot, if it is
+unfoldable pub foundIn : ℕ → List ChannelSlot → ChannelId → Found
+foundIn n ss ch = cond (thereIn n ss ch) (Slot (slotIn ss (ch .slot))) Nothing
+
 -- the channel that an open waits for
 abbrev pub waitedFor : Header → ChannelId
 waitedFor h = record { slot = h .waiting .slot; local = h .waiting .local }
@@ -99,10 +105,11 @@ pub record ActsOn (n : Negotiated) (a : Acted) (at : ℕ) (state out : List ℕ)
 
 -- ---- making a state
 
--- the bytes of n slots with no channel, and of n places where no open waits
+-- the bytes of n slots with no channel
 unfoldable pub emptySlots : ℕ → List ℕ
 emptySlots n = flat slotBytes (replicate n emptySlot)
 
+-- the bytes of n places where no open waits
 unfoldable pub emptyOpens : ℕ → List ℕ
 emptyOpens n = flat openBytes (replicate n noOpen)
 
@@ -110,6 +117,7 @@ emptyOpens n = flat openBytes (replicate n noOpen)
 unfoldable pub makeIn : ConnectionConfig → ℕ → ℕ → Bool → Bool → List ℕ → Made
 makeIn c a b host device state = cond (ltb (length state) 4730) (record { answer = Refused StoreShort; state = state }) (makeOf c a b host device state)
 
+-- what `make` promises: the answer, and every byte of the state
 pub record Makes (m : Made) (r : Answer) (state : List ℕ) : Type 0 where
   pub answer-is : r ≡ m .answer
   pub state-is : state ≡ m .state

@@ -2,6 +2,7 @@
 use crate::Reply;
 use connection::Answer;
 use connection::Refusal;
+use slot::ChannelSlot;
 use state::Header;
 use state::Waiting;
 use state::header_of;
@@ -15,11 +16,16 @@ ghost use lib.ListN.{length};
 ghost use Rattle.state.specs.State.{stateOf};
 ghost use Rattle.connection.specs.declared.Answer.the-variants.{Refused};
 ghost use Rattle.connection.specs.Calls.{dropped};
-ghost use Rattle.calls.specs.Promise.{admitted, thereIn};
+ghost use Rattle.calls.specs.Promise.{admitted, foundIn};
 
 pub enum Admitted {
     Yes(Header),
     No(Refusal),
+}
+
+pub enum Found {
+    Slot(ChannelSlot),
+    Nothing,
 }
 
 // Refusals 13, 8, and 9 for 56 bytes, by the stores' and the outgoing buffer's lengths.
@@ -57,16 +63,20 @@ pub fn drop_waiting(h: Header) -> Header
     kept
 }
 
-// Whether a channel is in the table: its place is one of n, filled, and has its number.
-pub fn is_there(state: &[u8], n: usize, ch: ChannelId) -> bool
+// The slot of a channel, if it is in the table: its place is below n, filled, and has its number.
+pub fn get(state: &[u8], n: usize, ch: ChannelId) -> Found
     requires { ⌜ (n ≤ 64) × (4730 ≤ length (now state)) ⌝ }
-    ensures { λ r. ⌜ r ≡ thereIn n (stateOf (now (state .entry)) .slots) ch ⌝ }
+    ensures { λ r. ⌜ r ≡ foundIn n (stateOf (now (state .entry)) .slots) ch ⌝ }
 {
-    let local = ch.local;
     if ch.slot < n {
-        return has_local(slot_at(state, ch.slot), local);
+        let s = slot_at(state, ch.slot);
+        let local = ch.local;
+        if has_local(s, local) {
+            return Found::Slot(s);
+        }
+        return Found::Nothing;
     }
-    false
+    Found::Nothing
 }
 
 // A refusal that changes nothing.

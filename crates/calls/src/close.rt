@@ -1,42 +1,27 @@
 // Closing a channel.
 use crate::Reply;
 use crate::admit::Admitted;
+use crate::admit::Found;
 use crate::admit::admit;
 use crate::admit::drop_waiting;
-use crate::admit::is_there;
+use crate::admit::get;
 use crate::admit::refused;
 use crate::frames::ids_in;
 use crate::frames::put_close;
+use crate::store::store_slot;
 use connection::Answer;
 use connection::Refusal;
 use slot::ChannelSlot;
 use state::Header;
 use state::put_header;
-use state::put_slot;
-use state::slot_at;
 use table::ChannelId;
 ghost use mathlib.Core.Path.{_≡_};
-ghost use mathlib.Core.Bool.{_&&_};
 ghost use mathlib.Core.List.{[]};
-ghost use Prim.Native.Nat.{_≤_};
 ghost use lib.ListN.{length};
 ghost use Rattle.state.specs.State.{stateOf};
 ghost use Rattle.state.specs.Valid.{isWhole};
-ghost use Rattle.table.specs.Dispatch.{slotIn};
 ghost use Rattle.connection.specs.Calls.{dropped, closeStep, closeOf};
-ghost use Rattle.calls.specs.Promise.{lentOf, agreedIn, thereIn, Leaves, Admits};
-
-// Whether a channel is in the table, with the device's number for it.
-fn is_joined(state: &[u8], n: usize, ch: ChannelId) -> bool
-    requires { ⌜ (n ≤ 64) × (4730 ≤ length (now state)) ⌝ }
-    ensures { λ r. ⌜ r ≡ (thereIn n (stateOf (now (state .entry)) .slots) ch && slotIn (stateOf (now (state .entry)) .slots) (ch .slot) .«has_remote») ⌝ }
-{
-    if is_there(state, n, ch) {
-        let s = slot_at(state, ch.slot);
-        return s.has_remote;
-    }
-    false
-}
+ghost use Rattle.calls.specs.Promise.{lentOf, agreedIn, Leaves, Admits};
 
 fn close_step(
     state: &mut [u8],
@@ -51,20 +36,23 @@ fn close_step(
 {
     let n = h.negotiated;
     let config = n.config;
-    if is_joined(state, config.channels, ch) {
-        let s = slot_at(state, ch.slot);
-        let gone = ChannelSlot::empty();
-        let end = put_close(out, 0, n, ids_in(s));
-        put_slot(state, ch.slot, gone);
-        put_header(state, h);
-        return Reply {
-            answer: Answer::Done,
-            used: 0,
-            written: end,
-        };
+    let found = get(state, config.channels, ch);
+    match found {
+        Found::Slot(s) => {
+            let end = put_close(out, 0, n, ids_in(s));
+            let gone = ChannelSlot::empty();
+            store_slot(state, ch.slot, gone, h);
+            Reply {
+                answer: Answer::Done,
+                used: 0,
+                written: end,
+            }
+        }
+        Found::Nothing => {
+            put_header(state, h);
+            refused(Refusal::ChannelClosed)
+        }
     }
-    put_header(state, h);
-    refused(Refusal::ChannelClosed)
 }
 
 // The device is told by a CLSE, and the channel's slot is empty at once.

@@ -1,13 +1,13 @@
 // Frames of a connection: their mode and check are what was negotiated.
 use config::negotiated::Negotiated;
-use protocol::command::Command;
-use protocol::packet::Packet;
 use slot::ChannelSlot;
 use slot::PendingAck;
 use slot::ids::ChannelIds;
 use slot::ids::LocalId;
 use wire::send_close;
 use wire::send_okay;
+use wire::send_open;
+use wire::send_write;
 ghost use mathlib.Core.Path.{_≡_};
 ghost use mathlib.Core.Bool.{true};
 ghost use Prim.Native.Nat.{_+_, _≤_, _%_};
@@ -34,7 +34,7 @@ fn word(n: usize) -> u32
     (n % 0x1_0000_0000) as u32
 }
 
-// An OKAY. A length past 32 bits is one that is not sent.
+// An OKAY. A length past 32 bits comes only where acknowledgements are not delayed, and there it is not sent.
 pub fn put_okay(out: &mut [u8], at: usize, n: Negotiated, ids: ChannelIds, len: usize) -> usize
     requires { ⌜ at + 28 ≤ length (now out) ⌝ }
     ensures { λ r. ⌜ Puts (now (out .entry)) at (frameBytes n (okayFrame ids len)) r (now (out .exit)) ⌝ }
@@ -60,11 +60,10 @@ pub fn put_open(
     requires { ⌜ Within (n .config) × Room (now out) at (now destination) ⌝ }
     ensures { λ r. ⌜ Puts (now (out .entry)) at (frameBytes n (openFrame local (creditOf n) (now (destination .entry)))) r (now (out .exit)) ⌝ }
 {
-    Packet::put_at(
+    send_open(
         out,
         at,
-        Command::Open,
-        local.0,
+        local,
         n.advertised_credit(),
         destination,
         n.checksum(),
@@ -87,15 +86,5 @@ pub fn put_write(out: &mut [u8], at: usize, n: Negotiated, ids: ChannelIds, byte
     requires { ⌜ (at + 24 + length (now bytes) ≤ length (now out)) × (length (now bytes) ≤ 1_048_576) ⌝ }
     ensures { λ r. ⌜ Puts (now (out .entry)) at (frameBytes n (writeFrame ids (now (bytes .entry)))) r (now (out .exit)) ⌝ }
 {
-    let local = ids.local;
-    let remote = ids.remote;
-    Packet::put_at(
-        out,
-        at,
-        Command::Write,
-        local.0,
-        remote.0,
-        bytes,
-        n.checksum(),
-    )
+    send_write(out, at, ids, bytes, n.checksum())
 }

@@ -8,6 +8,7 @@ pub mod dispatch;
 pub mod frames;
 pub mod make;
 pub mod recv;
+pub mod store;
 
 use connection::Answer;
 

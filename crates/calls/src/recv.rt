@@ -8,7 +8,10 @@ use protocol::packet::Packet;
 use slot::ChannelError;
 use slot::ChannelFault;
 use slot::Failed;
+use slot::ids::LocalId;
 ghost use mathlib.Core.Path.{_≡_};
+ghost use mathlib.Core.Bool.{_&&_};
+ghost use lib.Dec.{eqb};
 ghost use Rattle.protocol.specs.Packet.{decodeOf};
 ghost use Rattle.connection.specs.Calls.{receivedBy, faultRefusal, errorRefusal, unlessFault, isWrite, isReady};
 
@@ -19,10 +22,10 @@ pub fn recv_pkt(received: &[u8], max_payload: u32) -> Received
     let decoded = Packet::decode(received, max_payload);
     match decoded {
         Decoded::Waiting => Received::Stop(Answer::Waiting, 0),
-        Decoded::InvalidCommand(word) => Received::Stop(
-            Answer::Refused(Refusal::InvalidCommand(word)),
-            0,
-        ),
+        Decoded::InvalidCommand(word) => {
+            let wide = word as u64;
+            Received::Stop(Answer::Refused(Refusal::InvalidCommand(wide)), 0)
+        }
         Decoded::InvalidMagic => Received::Stop(Answer::Refused(Refusal::InvalidMagic), 0),
         Decoded::PayloadTooLarge => Received::Stop(Answer::Refused(Refusal::PayloadTooLarge), 0),
         Decoded::InvalidChecksum { used } => Received::Stop(
@@ -90,4 +93,14 @@ pub fn is_ready(command: Command) -> bool
         Command::Auth => false,
         Command::StartTls => false,
     }
+}
+
+// Whether a packet passed a test on its command and names our number.
+pub fn is_own(test: bool, arg1: u32, local: LocalId) -> bool
+    ensures { λ r. ⌜ r ≡ (test && eqb arg1 (local .0)) ⌝ }
+{
+    if test {
+        return arg1 == local.0;
+    }
+    false
 }

@@ -66,6 +66,7 @@ actedBy h opens payload store d Unmatched = tabled No h store d []
 unfoldable pub tableOf : Header → List ChannelSlot → List ℕ → Packet → List ℕ → Dispatched
 tableOf h ss rx p payload = dispatchOf (policyOf (h .negotiated)) (h .negotiated .config .channels) ss p payload rx
 
+-- `act_on`: the table's part, then what its answer asks for
 unfoldable pub actOn : Header → List ChannelSlot → List PendingOpen → List ℕ → List ℕ → Packet → List ℕ → Acted
 actOn h ss opens rx store p payload =
     actedBy h opens payload store (tableOf h ss rx p payload) (tableOf h ss rx p payload .step .result)

@@ -95,6 +95,7 @@ pub record Work : Type 0 where
   pub store : List ℕ
   pub frames : List Frame
 
+-- nothing is done yet
 abbrev pub begun : Header → Lent → Work
 begun h l = record { header = h; changes = []; rx = l .rx; store = l .store; frames = [] }
 
@@ -106,6 +107,7 @@ then w xs fs = record { header = w .header; changes = w .changes ++ xs; rx = w .
 abbrev pub thenActed : Work → Acted → Work
 thenActed w a = record { header = a .header; changes = w .changes ++ a .changes; rx = a .rx; store = a .store; frames = w .frames ++ a .frames }
 
+-- another header to store
 abbrev pub withHeader : Work → Header → Work
 withHeader w h = record { header = h; changes = w .changes; rx = w .rx; store = w .store; frames = w .frames }
 
@@ -131,15 +133,19 @@ checkedOut whole l out o = checked whole l (cond (ltb out 56) (untouched l OutSh
 abbrev pub notWaiting : WaitingOpen → WaitingOpen
 notWaiting w = record { on = false; slot = w .slot; local = w .local }
 
+-- a header in which no open of ours waits
 abbrev pub dropped : Header → Header
 dropped h = record { negotiated = h .negotiated; «next_local» = h .«next_local»; waiting = notWaiting (h .waiting); queued = h .queued }
 
+-- a header in which an open waits for its OKAY
 abbrev pub waitingFor : Header → ChannelId → Header
 waitingFor h ch = record { negotiated = h .negotiated; «next_local» = h .«next_local»; waiting = record { on = true; slot = ch .slot; local = ch .local }; queued = h .queued }
 
+-- the receive policy, the same for every channel
 abbrev pub policy : Lent → RxPolicy
 policy l = policyOf (l .state .header .negotiated)
 
+-- a slot's two numbers
 abbrev pub idsIn : ChannelSlot → ChannelIds
 idsIn s = record { local = s .local; remote = s .remote }
 
@@ -147,6 +153,7 @@ idsIn s = record { local = s .local; remote = s .remote }
 unfoldable pub isThere : Lent → ChannelId → Bool
 isThere l ch = ltb (ch .slot) (l .state .header .negotiated .config .channels) && wantedBy (Local (ch .local)) (slotIn (l .state .slots) (ch .slot))
 
+-- the slot at a channel's place
 unfoldable pub slotFor : Lent → ChannelId → ChannelSlot
 slotFor l ch = slotIn (l .state .slots) (ch .slot)
 
@@ -161,6 +168,7 @@ faultRefusal RxOverflow = ChannelRxOverflow
 faultRefusal CreditShort = ShortReadyPayload
 faultRefusal WriteEarly = UnexpectedCommand
 
+-- why a channel can be read or written no more, as a refusal
 unfoldable pub errorRefusal : ChannelError → Refusal
 errorRefusal ErrorClosed = ChannelClosed
 errorRefusal (Fault f) = faultRefusal f
@@ -179,16 +187,19 @@ receivedBy LengthTooLarge = Stop (Refused PayloadTooLarge) 0
 receivedBy (SumInvalid used) = Stop (Refused InvalidChecksum) used
 receivedBy (Accepted p) = PacketIs p
 
+-- the packet that received bytes begin with, or the answer where there is none
 unfoldable pub receivedOf : Lent → List ℕ → Received
 receivedOf l received = receivedBy (decodeOf received (l .state .header .negotiated .config .«max_payload»))
 
--- a packet's payload, and the bytes that it uses
+-- a packet's payload
 abbrev pub bodyOf : List ℕ → Packet → List ℕ
 bodyOf received p = payloadOf received (p .«data_length»)
 
+-- the bytes that a packet uses
 abbrev pub frameLen : Packet → ℕ
 frameLen p = 24 + p .«data_length»
 
+-- a WRTE
 unfoldable pub isWrite : Command → Bool
 isWrite Sync = false
 isWrite Connect = false
@@ -199,6 +210,7 @@ isWrite Write = true
 isWrite Auth = false
 isWrite StartTls = false
 
+-- an OKAY
 unfoldable pub isReady : Command → Bool
 isReady Sync = false
 isReady Connect = false
@@ -220,6 +232,7 @@ fresh n =
       opens = replicate 64 noOpen;
     }
 
+-- the answer, and the state's bytes
 pub record Made : Type 0 where
   pub answer : Answer
   pub state : List ℕ
@@ -233,20 +246,24 @@ makeOf c a b host device state =
 
 -- ---- dispatch (one turn of `accept_incoming`'s loop)
 
+-- no packet: its answer; else the packet is dispatched
 unfoldable pub dispatchBy : Lent → Header → List ℕ → Received → Outcome
 dispatchBy l h received (Stop a used) = ends (begun h l) a used []
 dispatchBy l h received (PacketIs p) =
     let a = actOn h (l .state .slots) (l .state .opens) (l .rx) (l .store) p (bodyOf received p) in
     ends (thenActed (begun h l) a) (unlessFault (a .fault) Done) (frameLen p) []
 
+-- an open that waits is dropped, then one packet is looked at
 unfoldable pub dispatchStep : Lent → List ℕ → Outcome
 dispatchStep l received = dispatchBy l (dropped (l .state .header)) received (receivedOf l received)
 
 -- ---- settle and take (the two halves of `take_buffered`)
 
+-- the settled slot is stored, and the OKAY that is due is written
 unfoldable pub settledAs : Lent → ChannelId → SettledSlot → Outcome
 settledAs l ch s = ends (then (begun (dropped (l .state .header)) l) (slotTo (ch .slot) (s .slot) ∷ []) (ackFrames (s .slot) (s .ack))) (Settled (s .ack)) 0 []
 
+-- 10 where the channel is not in the table
 unfoldable pub settleStep : Lent → ChannelId → ℕ → Outcome
 settleStep l ch want =
     cond (isThere l ch) (settledAs l ch (settledOf (slotFor l ch) (policy l) want)) (ends (begun (dropped (l .state .header)) l) (Refused ChannelClosed) 0 [])
@@ -275,6 +292,7 @@ reread ch cap used fault w s (Data t n) = ends (then w (slotTo (ch .slot) t ∷ 
 reread ch cap used fault w s NothingTaken = ends (then w (slotTo (ch .slot) s ∷ []) []) (unlessFault fault Waiting) used []
 reread ch cap used fault w s (ClosedTaken e) = ends (then w (slotTo (ch .slot) s ∷ []) []) (unlessFault fault (Refused (errorRefusal e))) used []
 
+-- the second settling's OKAY, then the second taking
 unfoldable pub readSettled : Lent → ChannelId → ℕ → ℕ → Failed → Work → SettledSlot → Outcome
 readSettled l ch room used fault w s =
     reread ch (policy l .«rx_cap») used fault (then w [] (ackFrames (s .slot) (s .ack))) (s .slot) (takenOf (s .slot) room)
@@ -293,6 +311,7 @@ isDirect s room p = isWrite (p .command) && eqb (p .arg1) (s .local .0) && leb (
 unfoldable pub readDirect : ChannelId → ℕ → Work → List ℕ → SettledSlot → Outcome
 readDirect ch used w payload d = ends (then w (slotTo (ch .slot) (d .slot) ∷ []) (ackFrames (d .slot) (d .ack))) (Read (length payload)) used payload
 
+-- no packet: its answer; else the channel's own WRTE, its CLSE (10), or any other
 unfoldable pub readBy : Lent → ChannelId → ℕ → Work → ChannelSlot → List ℕ → Received → Outcome
 readBy l ch room w s received (Stop a used) = ends (then w (slotTo (ch .slot) s ∷ []) []) a used []
 readBy l ch room w s received (PacketIs p) =
@@ -308,10 +327,12 @@ readTaken l ch room w s received NothingTaken =
     cond (s .«has_remote») (readBy l ch room w s received (receivedOf l received)) (ends (then w (slotTo (ch .slot) s ∷ []) []) (Refused ChannelClosed) 0 [])
 readTaken l ch room w s received (ClosedTaken e) = ends (then w (slotTo (ch .slot) s ∷ []) []) (Refused (errorRefusal e)) 0 []
 
+-- the first settling's OKAY, then the first taking
 unfoldable pub readFirst : Lent → ChannelId → ℕ → List ℕ → SettledSlot → Outcome
 readFirst l ch room received s =
     readTaken l ch room (then (begun (dropped (l .state .header)) l) [] (ackFrames (s .slot) (s .ack))) (s .slot) received (takenOf (s .slot) room)
 
+-- 10 where the channel is not in the table
 unfoldable pub readStep : Lent → ChannelId → ℕ → List ℕ → Outcome
 readStep l ch room received =
     cond (isThere l ch) (readFirst l ch room received (settledOf (slotFor l ch) (policy l) room))
@@ -329,28 +350,33 @@ sendSome l ch out bytes used w s n =
     cond (ltb out (length (framesBytes (w .header .negotiated) (w .frames)) + 24 + n)) (untouched l OutShort)
     (ends (then w (slotTo (ch .slot) (spentOf s (policy l) n) ∷ []) (writeFrame (idsIn s) (take n bytes) ∷ [])) (Written n) used [])
 
--- the turn of the loop after a packet: closed, sent, or waiting again
+-- by the budget: sent, or waiting again
 unfoldable pub sendBy : Lent → ChannelId → ℕ → List ℕ → ℕ → Work → ChannelSlot → Budget → Outcome
 sendBy l ch out bytes used w s (Bytes most) = sendSome l ch out bytes used w s (sendLen l bytes most)
 sendBy l ch out bytes used w s NoBudget = ends (then w (slotTo (ch .slot) s ∷ []) []) Waiting used []
 
+-- the turn of the loop after a packet: closed, sent, or waiting again
 unfoldable pub sendAgain : Lent → ChannelId → ℕ → List ℕ → ℕ → Work → ChannelSlot → Outcome
 sendAgain l ch out bytes used w s =
     cond (isClosed (s .state)) (ends (then w (slotTo (ch .slot) s ∷ []) []) (Refused ChannelClosed) used [])
     (sendBy l ch out bytes used w s (budgetOf s (policy l)))
 
+-- the channel's own OKAY: its credit is used at once, or it is short (5)
 unfoldable pub writeReadied : Lent → ChannelId → ℕ → List ℕ → ℕ → Work → ChannelSlot → Readied → Outcome
 writeReadied l ch out bytes used w s (Slot t) = sendAgain l ch out bytes used w t
 writeReadied l ch out bytes used w s Short = ends w (Refused ShortReadyPayload) used []
 
+-- a packet that was dispatched: its fault, or the next turn of the loop
 unfoldable pub writeActed : Lent → ChannelId → ℕ → List ℕ → ℕ → Work → Acted → Failed → Outcome
 writeActed l ch out bytes used w a (By f) = ends (thenActed w a) (Refused (faultRefusal f)) used []
 writeActed l ch out bytes used w a No =
     sendAgain l ch out bytes used (thenActed w a) (slotIn (changedAll (l .state) (w .changes ++ a .changes) .slots) (ch .slot))
 
+-- any other packet: dispatched
 unfoldable pub writeAct : Lent → ChannelId → ℕ → List ℕ → ℕ → Work → Acted → Outcome
 writeAct l ch out bytes used w a = writeActed l ch out bytes used w a (a .fault)
 
+-- no packet: its answer; else the channel's own OKAY, its CLSE (10), or any other
 unfoldable pub writeBy : Lent → ChannelId → ℕ → List ℕ → Work → ChannelSlot → List ℕ → Received → Outcome
 writeBy l ch out bytes w s received (Stop a used) = ends w a used []
 writeBy l ch out bytes w s received (PacketIs p) =
@@ -359,12 +385,13 @@ writeBy l ch out bytes w s received (PacketIs p) =
     (writeAct l ch out bytes (frameLen p) w
     (actOn (w .header) (l .state .slots) (l .state .opens) (l .rx) (l .store) p (bodyOf received p))))
 
--- the first turn: closed, sent at once, or a packet is looked at
+-- by the budget: sent at once, or a packet is looked at
 unfoldable pub writeFirst : Lent → ChannelId → ℕ → List ℕ → List ℕ → Work → ChannelSlot → Budget → Outcome
 writeFirst l ch out bytes received w s (Bytes most) = sendSome l ch out bytes 0 w s (sendLen l bytes most)
 writeFirst l ch out bytes received w s NoBudget =
     cond (s .«has_remote») (writeBy l ch out bytes w s received (receivedOf l received)) (ends w (Refused ChannelClosed) 0 [])
 
+-- the first turn: closed, sent at once, or a packet is looked at
 unfoldable pub writeOn : Lent → ChannelId → ℕ → List ℕ → List ℕ → Work → ChannelSlot → Outcome
 writeOn l ch out bytes received w s =
     cond (isClosed (s .state)) (ends w (Refused ChannelClosed) 0 []) (writeFirst l ch out bytes received w s (budgetOf s (policy l)))
@@ -378,6 +405,7 @@ writeStep l ch out bytes received =
 
 -- ---- close (`close_channel`)
 
+-- a CLSE is written and the slot is emptied; 10 where the channel is not in the table
 unfoldable pub closeStep : Lent → ChannelId → Outcome
 closeStep l ch =
     cond (isThere l ch && slotFor l ch .«has_remote»)
@@ -386,11 +414,13 @@ closeStep l ch =
 
 -- ---- take_front (`try_accept_incoming`, without a verdict)
 
+-- the first that waits and the place of its destination, or none
 unfoldable pub frontBy : Lent → Header → List Change → Front → Outcome
 frontBy l h xs (FrontOpen q less) =
     ends (then (begun less l) xs []) (FrontIs (q .remote) (q .credit) (q .share * h .negotiated .config .«max_payload») (q .length)) 0 []
 frontBy l h xs NoFront = ends (begun h l) Nothing 0 []
 
+-- an open of ours that waits is dropped, then the first is taken off the queue
 unfoldable pub frontStep : Lent → Outcome
 frontStep l =
     let h = dropped (l .state .header) in
@@ -431,6 +461,7 @@ openActed l used a =
     let w = thenActed (begun (l .state .header) l) a in
     ends (withHeader w (stillWaits (unlessFault (a .fault) Waiting) (a .header))) (unlessFault (a .fault) Waiting) used []
 
+-- no packet: its answer; else the open's own OKAY, WRTE (6) or CLSE (10), or any other
 unfoldable pub openBy : Lent → ChannelId → List ℕ → Received → Outcome
 openBy l ch received (Stop a used) = ends (begun (stillWaits a (l .state .header)) l) a used []
 openBy l ch received (PacketIs p) =
@@ -451,26 +482,34 @@ openStep l out destination received =
 
 -- ---- the calls, with the refusals ahead of them
 
+-- open; out: the outgoing buffer's length
 unfoldable pub openOf : Bool → Lent → ℕ → List ℕ → List ℕ → Outcome
 openOf whole l out destination received = checkedOut whole l out (openStep l out destination received)
 
+-- dispatch
 unfoldable pub dispatchOf : Bool → Lent → ℕ → List ℕ → Outcome
 dispatchOf whole l out received = checkedOut whole l out (dispatchStep l received)
 
+-- settle
 unfoldable pub settleOf : Bool → Lent → ℕ → ChannelId → ℕ → Outcome
 settleOf whole l out ch want = checkedOut whole l out (settleStep l ch want)
 
+-- take: it is lent no outgoing buffer
 unfoldable pub takeOf : Bool → Lent → ChannelId → ℕ → Outcome
 takeOf whole l ch room = checked whole l (takeStep l ch room)
 
+-- read; room: the reader's buffer's length
 unfoldable pub readOf : Bool → Lent → ℕ → ChannelId → ℕ → List ℕ → Outcome
 readOf whole l out ch room received = checkedOut whole l out (readStep l ch room received)
 
+-- write
 unfoldable pub writeOf : Bool → Lent → ℕ → ChannelId → List ℕ → List ℕ → Outcome
 writeOf whole l out ch bytes received = checkedOut whole l out (writeStep l ch out bytes received)
 
+-- close
 unfoldable pub closeOf : Bool → Lent → ℕ → ChannelId → Outcome
 closeOf whole l out ch = checkedOut whole l out (closeStep l ch)
 
+-- take_front: it is lent no outgoing buffer
 unfoldable pub frontCall : Bool → Lent → Outcome
 frontCall whole l = checked whole l (frontStep l)

@@ -3,13 +3,11 @@ use Prim.Native.Nat.{ℕ}
 use mathlib.Core.List.{List}
 use Rattle.config.specs.declared.negotiated.Negotiated.{Negotiated}
 use Rattle.protocol.specs.declared.command.Command.{Command}
-use Rattle.protocol.specs.declared.command.Command.the-variants.{Open, Write}
 use Rattle.protocol.specs.Checksum.{policyFor}
-use Rattle.protocol.specs.Packet.{frameFor}
 use Rattle.slot.specs.declared.ids.ChannelIds.{ChannelIds}
 use Rattle.slot.specs.declared.ids.LocalId.{LocalId}
 use Rattle.state.specs.Rows.{flat}
-use Rattle.wire.specs.Wire.{okayBytes, closeBytes}
+use Rattle.wire.specs.Wire.{okayBytes, closeBytes, openBytes, writeBytes}
 
 -- an OKAY with the length acknowledged, a CLSE, an OPEN with its credit and destination, a WRTE
 pub data Frame : Type 0 where
@@ -29,8 +27,8 @@ pub record Sent : Type 0 where
 unfoldable pub frameBytes : Negotiated → Frame → List ℕ
 frameBytes n (okayFrame ids len) = okayBytes ids (n .«delayed_ack») len (policyFor (n .«protocol_version»))
 frameBytes n (closeFrame ids) = closeBytes ids (policyFor (n .«protocol_version»))
-frameBytes n (openFrame local credit destination) = frameFor Open (local .0) credit destination (policyFor (n .«protocol_version»))
-frameBytes n (writeFrame ids bytes) = frameFor Write (ids .local .0) (ids .remote .0) bytes (policyFor (n .«protocol_version»))
+frameBytes n (openFrame local credit destination) = openBytes local credit destination (policyFor (n .«protocol_version»))
+frameBytes n (writeFrame ids bytes) = writeBytes ids bytes (policyFor (n .«protocol_version»))
 
 -- all of them
 unfoldable pub framesBytes : Negotiated → List Frame → List ℕ

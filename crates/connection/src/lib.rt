@@ -1,4 +1,5 @@
-// A connection's calls: what they answer. The definitions are in specs/; the code is in calls, reading, writing and opening.
+// What a connection's calls answer. The calls are defined in specs/; their code is in calls, transfer, reading, writing and
+// opening.
 use protocol::packet::Packet;
 use slot::PendingAck;
 use slot::ids::RemoteId;
@@ -8,8 +9,9 @@ ghost use Rattle.connection.specs.Answer.{refusalNumber, numberOf};
 
 // The scope document's refusals.
 pub enum Refusal {
-    // With the word that names no command.
-    InvalidCommand(u32),
+    // With the word that names no command, in 64 bits as the other values of answers: an answer is loaded in words of 64
+    // bits, and the processor does not forward a store of 32 to such a load.
+    InvalidCommand(u64),
     InvalidMagic,
     PayloadTooLarge,
     InvalidChecksum,

@@ -43,8 +43,9 @@ use Rattle.connection.specs.Frames.{Frame, closeFrame, openFrame, frameBytes}
 use Rattle.calls.specs.Promise.{lentOf, agreedIn, waitedFor, Leaves, Admits, ActRoom, ActsOn}
 use Rattle.calls.proofs.AdmitLaws.{act-room, admits-facts, admits-stores}
 use Rattle.connection.proofs.Decoding.{PacketRoom, packet-room}
+use Rattle.calls.proofs.CallLaws.{received-is, own-is as test-is}
 use Rattle.calls.proofs.FrameLaws.{close-short, one-frame, puts-one}
-use Rattle.calls.proofs.LeaveLaws.{Did, did-begun, did-slot, did-frames, did-acted, did-stops, untouched-leaves}
+use Rattle.calls.proofs.LeaveLaws.{Did, did-begun, did-slot, did-frames, did-acted, did-stops, stops-leaves, untouched-leaves}
 use Rattle.connection.proofs.WholeWork.{Long}
 
 -- an OPEN has its destination behind the 24 bytes
@@ -58,14 +59,6 @@ module _ (state rx store out : List ℕ) (h : Header) (i : h ≡ stateOf state .
 
   abbrev head : Header
   head = stateOf state .header
-
-  -- only a header is stored
-  stops : (o : Outcome) (x y : Header) (a : Answer) (used : ℕ) (r : Reply) (state' : List ℕ) → o ≡ ends (begun x lent) a used [] → y ≡ x → state' ≡ putHeader state y
-      → r ≡ record { answer = a; used = used; written = 0 } → Leaves (agreedIn state) o 0 state out [] r state' rx store out []
-  stops o x y a used r state' e j s q =
-      let w = did-begun (agreedIn state) 0 state out x lent (omega arith) in
-      subst (λ (v : Outcome). Leaves (agreedIn state) v 0 state out [] r state' rx store out []) (sym e)
-      (did-stops (agreedIn state) 0 state out _ _ _ _ _ _ w [] state' y a used r j s q)
 
   -- a frame is written, and a header stored
   writes : (o : Outcome) (x y : Header) (f : Frame) (a : Answer) (used : ℕ) (r : Reply) (end : ℕ) (out' state' : List ℕ) → o ≡ ends (then (begun x lent) [] (f ∷ [])) a used []
@@ -91,14 +84,15 @@ module _ (state rx store out : List ℕ) (h : Header) (i : h ≡ stateOf state .
     pub open-none : (r : Reply) (state' : List ℕ) → found ≡ NoFree → state' ≡ putHeader state h → r ≡ record { answer = Refused NoFreeChannels; used = 0; written = 0 }
         → Leaves (agreedIn state) began 0 state out [] r state' rx store out []
     unfolding openOn
-    open-none r state' f s q = stops _ head h (Refused NoFreeChannels) 0 r state' (found-is NoFree f) i s q
+    open-none r state' f s q = stops-leaves state rx store h i out [] _ (Refused NoFreeChannels) 0 r state' (found-is NoFree f) s q
 
     module _ (ch : ChannelId) (f : found ≡ Channel ch) where
       pub open-large : (moved : Header) (r : Reply) (state' : List ℕ) → maxPayload < length destination → moved ≡ numbered h → state' ≡ putHeader state moved
           → r ≡ record { answer = Refused PayloadTooLarge; used = 0; written = 0 } → Leaves (agreedIn state) began 0 state out [] r state' rx store out []
       unfolding openOn
       open-large moved r state' t m s q =
-          stops _ (numbered head) moved (Refused PayloadTooLarge) 0 r state' (found-is (Channel ch) f ∙ cond-true (ltb maxPayload (length destination)) _ _ (lt-ltb maxPayload (length destination) t)) (m ∙ ap numbered i) s q
+          stops-leaves state rx store moved (m ∙ ap numbered i) out [] _ (Refused PayloadTooLarge) 0 r state'
+          (found-is (Channel ch) f ∙ cond-true (ltb maxPayload (length destination)) _ _ (lt-ltb maxPayload (length destination) t)) s q
 
       module _ (t : length destination ≤ maxPayload) where
         small : ltb maxPayload (length destination) ≡ false
@@ -126,12 +120,11 @@ module _ (state rx store out : List ℕ) (h : Header) (i : h ≡ stateOf state .
   -- ---- what its steps are asked
 
   -- the packet that it looks at
-  pub received-is : (received : List ℕ) (r : Received) → r ≡ receivedBy (decodeOf received (h .negotiated .config .«max_payload»)) → r ≡ receivedOf lent received
-  unfolding receivedOf
-  received-is received r e = e ∙ ap (λ (x : Header). receivedBy (decodeOf received (x .negotiated .config .«max_payload»))) i
+  looked-at : (received : List ℕ) (r : Received) → r ≡ receivedBy (decodeOf received (h .negotiated .config .«max_payload»)) → r ≡ receivedOf lent received
+  looked-at received r e = received-is state rx store h (ap (λ (x : Header). x .negotiated) i) received r e
 
   pub packet-fits : (received : List ℕ) (p : Packet) → receivedOf lent received ≡ PacketIs p → PacketRoom received (h .negotiated .config .«max_payload») p
-  packet-fits received p e = packet-room received (h .negotiated .config .«max_payload») (receivedBy (decodeOf received (h .negotiated .config .«max_payload»))) p refl (received-is received _ refl ∙ e)
+  packet-fits received p e = packet-room received (h .negotiated .config .«max_payload») (receivedBy (decodeOf received (h .negotiated .config .«max_payload»))) p refl (looked-at received _ refl ∙ e)
 
   module _ (g : Admits state rx store (length out)) where
     facts : Whole (h .negotiated) h (stateOf state .slots) (stateOf state .opens)
@@ -231,7 +224,7 @@ module _ (state rx store out : List ℕ) (h : Header) (i : h ≡ stateOf state .
 
     -- the test of a packet's own command
     pub own-is : (t x y : Bool) (ch : ChannelId) → ch ≡ waitedFor h → x ≡ y → t ≡ (x && eqb (p .arg1) (ch .local .0)) → t ≡ mine y
-    own-is t x y ch c d e = e ∙ ap (λ (z : Bool). z && eqb (p .arg1) (ch .local .0)) d ∙ ap (λ (z : ChannelId). y && eqb (p .arg1) (z .local .0)) c
+    own-is t x y ch c d e = test-is x t y (p .arg1) (ch .local .0) d e ∙ ap (λ (z : ChannelId). y && eqb (p .arg1) (z .local .0)) c
 
     abbrev taken : Outcome
     taken = openBy lent (waitedFor h) received (PacketIs p)
@@ -268,20 +261,20 @@ module _ (state rx store out : List ℕ) (h : Header) (i : h ≡ stateOf state .
         → Leaves (agreedIn state) taken 0 state out [] r state' rx store out []
     unfolding openBy
     packet-closes less r state' t u v j s q =
-        stops _ (dropped head) less (Refused ChannelClosed) (frameLen p) r state'
-        (cond-false (mine (isReady (p .command))) _ _ t ∙ cond-false (mine (isWrite (p .command))) _ _ u ∙ cond-true (mine (isClose (p .command))) _ _ v) (j ∙ ap dropped i) s q
+        stops-leaves state rx store less (j ∙ ap dropped i) out [] _ (Refused ChannelClosed) (frameLen p) r state'
+        (cond-false (mine (isReady (p .command))) _ _ t ∙ cond-false (mine (isWrite (p .command))) _ _ u ∙ cond-true (mine (isClose (p .command))) _ _ v) s q
 
   -- ---- an open goes on
 
   module _ (received : List ℕ) (found : Received) (e : found ≡ receivedBy (decodeOf received (h .negotiated .config .«max_payload»))) where
     pub await-packet : (p : Packet) → found ≡ PacketIs p → receivedOf lent received ≡ PacketIs p
-    await-packet p f = sym (received-is received found e) ∙ f
+    await-packet p f = sym (looked-at received found e) ∙ f
 
     pub await-stops : (a : Answer) (used : ℕ) (later : Header) (r : Reply) (state' : List ℕ) → found ≡ Stop a used → later ≡ stillWaits a h → state' ≡ putHeader state later
         → r ≡ record { answer = a; used = used; written = 0 } → Leaves (agreedIn state) (openBy lent (waitedFor h) received (receivedOf lent received)) 0 state out [] r state' rx store out []
     unfolding openBy
     await-stops a used later r state' f j s q =
-        stops _ (stillWaits a head) later a used r state' (ap (openBy lent (waitedFor h) received) (sym (received-is received found e) ∙ f)) (j ∙ ap (stillWaits a) i) s q
+        stops-leaves state rx store later (j ∙ ap (stillWaits a) i) out [] _ a used r state' (ap (openBy lent (waitedFor h) received) (sym (looked-at received found e) ∙ f)) s q
 
     pub await-goes : (p : Packet) (r : Reply) (state' rx' store' out' : List ℕ) → found ≡ PacketIs p
         → Leaves (agreedIn state) (openBy lent (waitedFor h) received (PacketIs p)) 0 state out [] r state' rx' store' out' []

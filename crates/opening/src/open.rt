@@ -7,15 +7,16 @@ use calls::admit::drop_waiting;
 use calls::admit::refused;
 use calls::frames::put_close;
 use calls::frames::put_open;
+use calls::recv::is_own;
 use calls::recv::is_ready;
 use calls::recv::is_write;
 use calls::recv::recv_pkt;
 use calls::recv::unless_fault;
+use calls::store::store_slot;
 use connection::Answer;
 use connection::Received;
 use connection::Refusal;
 use protocol::packet::Packet;
-use reading::transfer::store_slot;
 use slot::ChannelSlot;
 use slot::Readied;
 use slot::ids::ChannelIds;
@@ -30,10 +31,9 @@ use table::ChannelId;
 use table::allocate;
 use table::numbered;
 ghost use mathlib.Core.Path.{_≡_};
-ghost use mathlib.Core.Bool.{true, _&&_};
+ghost use mathlib.Core.Bool.{true};
 ghost use mathlib.Core.List.{[]};
 ghost use Prim.Native.Nat.{_≤_};
-ghost use lib.Dec.{eqb};
 ghost use lib.ListN.{length};
 ghost use Rattle.protocol.specs.Packet.{Puts};
 ghost use Rattle.slot.specs.Slot.{openingSlot, openedOf};
@@ -76,16 +76,6 @@ fn still_waits(answer: Answer, h: Header) -> Header
         Answer::Front(_, _, _, _) => drop_waiting(h),
         Answer::Refused(_) => drop_waiting(h),
     }
-}
-
-// Whether a packet that passed a test on its command names our number.
-fn is_own(test: bool, arg1: u32, local: LocalId) -> bool
-    ensures { λ r. ⌜ r ≡ (test && eqb arg1 (local .0)) ⌝ }
-{
-    if test {
-        return arg1 == local.0;
-    }
-    false
 }
 
 // The channel that an open waits for.

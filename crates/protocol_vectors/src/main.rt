@@ -3,135 +3,130 @@
 use protocol::command::Command;
 use protocol::packet::Decoded;
 use protocol::packet::Packet;
-use script::number;
-use script::put_hex;
-use script::unhex;
-use script::word_end;
+use script::text::put;
+use script::text::put_field;
+use script::text::put_hex;
+use script::text::written;
+use script::words::bytes_at;
+use script::words::number_at;
 
-fn put(s: &[u8]) {
-    io::write_all(1, s);
-}
-
-fn put_number(n: u64) {
-    io::print_decimal(1, n);
-}
-
-fn put_command(c: Command) {
+fn put_command(out: &mut [u8], at: usize, c: Command) -> usize {
     match c {
-        Command::Sync => put(b"SYNC"),
-        Command::Connect => put(b"CNXN"),
-        Command::Open => put(b"OPEN"),
-        Command::Ready => put(b"OKAY"),
-        Command::Close => put(b"CLSE"),
-        Command::Write => put(b"WRTE"),
-        Command::Auth => put(b"AUTH"),
-        Command::StartTls => put(b"STLS"),
+        Command::Sync => put(out, at, b"SYNC"),
+        Command::Connect => put(out, at, b"CNXN"),
+        Command::Open => put(out, at, b"OPEN"),
+        Command::Ready => put(out, at, b"OKAY"),
+        Command::Close => put(out, at, b"CLSE"),
+        Command::Write => put(out, at, b"WRTE"),
+        Command::Auth => put(out, at, b"AUTH"),
+        Command::StartTls => put(out, at, b"STLS"),
     }
 }
 
-fn put_used(n: u64) {
-    put(b" used=");
-    put_number(n);
-    put(b"\n");
+// A line's end.
+fn put_used(out: &mut [u8], at: usize, used: usize) -> usize {
+    let end = put_field(out, at, b" used=", used as u64);
+    put(out, end, b"\n")
 }
 
-// A refusal's number.
-fn put_refused(n: u32) {
-    put(b"refused ");
-    put_number(n as u64);
+fn waiting(out: &mut [u8]) -> usize {
+    let end = put(out, 0, b"waiting");
+    put_used(out, end, 0)
 }
 
-fn put_packet(p: Packet, received: &[u8]) {
-    put(b"decoded command=");
-    let command = p.command;
-    put_command(command);
-    put(b" arg0=");
-    put_number(p.arg0 as u64);
-    put(b" arg1=");
-    put_number(p.arg1 as u64);
-    put(b" payload=");
-    let n = p.data_length;
+fn refused(out: &mut [u8], number: u32, used: usize) -> usize {
+    let end = put_field(out, 0, b"refused ", number as u64);
+    put_used(out, end, used)
+}
+
+fn no_command(out: &mut [u8], number: u32, word: u32) -> usize {
+    let end = put_field(out, 0, b"refused ", number as u64);
+    let end = put_field(out, end, b" word=", word as u64);
+    put_used(out, end, 0)
+}
+
+fn put_payload(out: &mut [u8], at: usize, received: &[u8], n: usize) -> usize {
     if n <= 1_048_576 {
         if 24 + n <= received.len() {
-            put_hex(Packet::payload(received, n));
-            put_used((24 + n) as u64);
+            let end = put_hex(out, at, Packet::payload(received, n));
+            return put_used(out, end, 24 + n);
         }
     }
+    at
 }
 
-fn decode(limit: u32, received: &[u8]) {
+fn accepted(out: &mut [u8], p: Packet, received: &[u8]) -> usize {
+    let command = p.command;
+    let end = put(out, 0, b"decoded command=");
+    let end = put_command(out, end, command);
+    let end = put_field(out, end, b" arg0=", p.arg0 as u64);
+    let end = put_field(out, end, b" arg1=", p.arg1 as u64);
+    let end = put(out, end, b" payload=");
+    put_payload(out, end, received, p.data_length)
+}
+
+fn decode(out: &mut [u8], limit: u32, received: &[u8]) -> usize {
     let answer = Packet::decode(received, limit);
-    let refusal = answer.number();
+    let number = answer.number();
     match answer {
-        Decoded::Waiting => {
-            put(b"waiting");
-            put_used(0);
-        }
-        Decoded::InvalidCommand(word) => {
-            put_refused(refusal);
-            put(b" word=");
-            put_number(word as u64);
-            put_used(0);
-        }
-        Decoded::InvalidMagic => {
-            put_refused(refusal);
-            put_used(0);
-        }
-        Decoded::PayloadTooLarge => {
-            put_refused(refusal);
-            put_used(0);
-        }
-        Decoded::InvalidChecksum { used } => {
-            put_refused(refusal);
-            put_used(used as u64);
-        }
-        Decoded::Accepted(packet) => put_packet(packet, received),
+        Decoded::Waiting => waiting(out),
+        Decoded::InvalidCommand(word) => no_command(out, number, word),
+        Decoded::InvalidMagic => refused(out, number, 0),
+        Decoded::PayloadTooLarge => refused(out, number, 0),
+        Decoded::InvalidChecksum { used } => refused(out, number, used),
+        Decoded::Accepted(packet) => accepted(out, packet, received),
     }
 }
 
-fn missing(received: &[u8]) {
-    put(b"missing n=");
-    put_number(Packet::missing(received) as u64);
-    put_used(0);
+fn missing(out: &mut [u8], received: &[u8]) -> usize {
+    let end = put_field(out, 0, b"missing n=", Packet::missing(received) as u64);
+    put_used(out, end, 0)
 }
 
-fn has_feature(banner: &[u8], feature: &[u8]) {
-    if protocol::features::has_feature(banner, feature) {
-        put(b"feature yes");
-    } else {
-        put(b"feature no");
+fn put_answer(out: &mut [u8], yes: bool) -> usize {
+    if yes {
+        return put(out, 0, b"feature yes");
     }
-    put_used(0);
+    put(out, 0, b"feature no")
 }
 
-// One call: a word, then one or two arguments, a space between.
-fn call(line: &[u8], first: &mut [u8], second: &mut [u8]) {
+fn has_feature(out: &mut [u8], banner: &[u8], feature: &[u8]) -> usize {
+    let end = put_answer(out, protocol::features::has_feature(banner, feature));
+    put_used(out, end, 0)
+}
+
+// One call: a word, then one or two arguments. Answers how long its line is.
+fn call(line: &[u8], first: &mut [u8], second: &mut [u8], out: &mut [u8]) -> usize {
     if line.len() == 0 {
-        return;
+        return 0;
     }
     let kind = line[0];
-    let a = word_end(line, 0);
-    let b = word_end(line, a);
-    let c = word_end(line, b);
     if kind == b'd' {
-        let n = unhex(&line[b..c], first);
-        decode(number(&line[a..b]), &first[..n]);
-        return;
+        let n = bytes_at(line, 2, first);
+        return decode(out, number_at(line, 1), &first[..n]);
     }
-    let n = unhex(&line[a..b], first);
+    let n = bytes_at(line, 1, first);
     if kind == b'm' {
-        missing(&first[..n]);
-        return;
+        return missing(out, &first[..n]);
     }
-    let m = unhex(&line[b..c], second);
-    has_feature(&first[..n], &second[..m]);
+    let m = bytes_at(line, 2, second);
+    has_feature(out, &first[..n], &second[..m])
 }
 
-fn replay(script: &[u8], first: &mut [u8], second: &mut [u8]) {
+// A line of `out` has two digits for each byte of `first`, and some words.
+fn answer(line: &[u8]) {
+    let mut first = io::large_buffer();
+    let mut second = io::buffer();
+    let mut out = script::space();
+    let end = call(line, &mut first, &mut second, &mut out);
+    io::write_all(1, written(&out, end));
+}
+
+fn replay(script: &[u8]) {
     let mut at = 0;
     while at < script.len() {
         let end = bytes::scan::find(script, at, script.len(), b'\n');
-        call(&script[at..end], first, second);
+        answer(&script[at..end]);
         if end == script.len() {
             return;
         }
@@ -140,9 +135,7 @@ fn replay(script: &[u8], first: &mut [u8], second: &mut [u8]) {
 }
 
 fn main() {
-    let mut script = [0u8; 524288];
-    let mut first = [0u8; 65536];
-    let mut second = [0u8; 4096];
+    let mut script = script::space();
     let n = io::read_full(0, &mut script);
-    replay(&script[..n], &mut first, &mut second);
+    replay(&script[..n]);
 }

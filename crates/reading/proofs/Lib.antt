@@ -1,4 +1,3 @@
 pub mod LookLaws
 pub mod ReadLaws
 pub mod ReadSteps
-pub mod TransferLaws

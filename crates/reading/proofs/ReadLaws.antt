@@ -38,7 +38,7 @@ use Rattle.calls.specs.Promise.{lentOf, Leaves}
 use Rattle.reading.specs.Reading.{againOf, TakeRoom, isNothing, Empty, Tries}
 use Rattle.connection.proofs.Decoding.{PacketRoom}
 use Rattle.calls.proofs.FrameLaws.{ack-room}
-use Rattle.reading.proofs.TransferLaws.{front-short}
+use Rattle.transfer.proofs.TransferLaws.{front-short}
 use Rattle.calls.proofs.LeaveLaws.{Did, did-begun, did-then, did-frames, did-slot, did-ends, did-stops}
 
 -- ---- settling and taking

@@ -88,7 +88,7 @@ module _ (l : Lent) (ch : ChannelId) (room : ℕ) (h : Header) (fs : List Frame)
 module _ (state rx store out : List ℕ) (h : Header) (ch : ChannelId) (s : ChannelSlot) (room at : ℕ) (a : Admits state rx store (length out)) (k : Looks (lentOf state rx store) h ch s room at)
     (received : List ℕ) (found : Received) (e : found ≡ receivedBy (decodeOf received (h .negotiated .config .«max_payload»))) where
   pub found-is : (x : Received) → found ≡ x → receivedOf (lentOf state rx store) received ≡ x
-  found-is x f = sym (received-is state rx store out h (k .header-is) received found e) ∙ f
+  found-is x f = sym (received-is state rx store h (ap (λ (y : Header). y .negotiated) (k .header-is)) received found e) ∙ f
 
   pub look-stops : (ans : Answer) (used : ℕ) (buf : List ℕ) (rep : Reply) (state' : List ℕ) → found ≡ Stop ans used → state' ≡ putHeader (putSlot state (ch .slot) s) h
       → rep ≡ record { answer = ans; used = used; written = at }

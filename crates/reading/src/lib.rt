@@ -1,3 +1,2 @@
-// Reading a channel: settle and take, the two halves, and read.
+// Reading a channel.
 pub mod read;
-pub mod transfer;

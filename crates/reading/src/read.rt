@@ -1,19 +1,20 @@
 // Reading: what is buffered, or what one packet brings.
-use crate::transfer::hand_over;
-use crate::transfer::store_slot;
 use calls::Reply;
 use calls::act::act_on;
 use calls::admit::Admitted;
+use calls::admit::Found;
 use calls::admit::admit;
 use calls::admit::drop_waiting;
-use calls::admit::is_there;
+use calls::admit::get;
 use calls::admit::refused;
 use calls::frames::ids_in;
 use calls::frames::put_ack;
 use calls::recv::error_refusal;
+use calls::recv::is_own;
 use calls::recv::is_write;
 use calls::recv::recv_pkt;
 use calls::recv::unless_fault;
+use calls::store::store_slot;
 use connection::Answer;
 use connection::Received;
 use connection::Refusal;
@@ -26,6 +27,7 @@ use state::put_header;
 use state::put_slot;
 use state::slot_at;
 use table::ChannelId;
+use transfer::hand_over;
 ghost use mathlib.Core.Path.{_≡_};
 ghost use mathlib.Core.Bool.{true, _&&_};
 ghost use mathlib.Core.List.{List, [], _∷_};
@@ -57,6 +59,7 @@ fn take_buffered(
     state: &mut [u8],
     rx: &[u8],
     ch: ChannelId,
+    slot: ChannelSlot,
     out: &mut [u8],
     at: usize,
     buf: &mut [u8],
@@ -64,13 +67,13 @@ fn take_buffered(
     used: usize,
     fault: Failed,
 ) -> Tried
-    requires { ⌜ TakeRoom (h .negotiated) (now state) (now rx) (now out) (ch .slot) at (length (now buf)) ⌝ }
+    requires { ⌜ TakeRoom (h .negotiated) (now state) (now rx) (now out) (ch .slot) at (length (now buf)) × (slot ≡ slotAt (now state) (ch .slot)) ⌝ }
     ensures { λ r. ⌜ ((store : List ℕ) → Tries (lentOf (now (state .entry)) (now (rx .entry)) store) h ch (length (now (buf .entry))) used fault (settledOf (slotAt (now (state .entry)) (ch .slot)) (policyOf (h .negotiated)) (length (now (buf .entry)))) at (now (state .entry)) (now (out .entry)) (now (buf .entry)) r (now (state .exit)) (now (out .exit)) (now (buf .exit))) ⌝ }
 {
     let n = h.negotiated;
     let policy = n.rx_policy();
     let i = ch.slot;
-    let settled = slot_at(state, i).settle_take(buf.len(), policy);
+    let settled = slot.settle_take(buf.len(), policy);
     let s = settled.slot;
     let ack = settled.ack;
     let end = put_ack(out, at, n, s, ack);
@@ -112,7 +115,8 @@ fn read_again(
     requires { ⌜ TakeRoom (h .negotiated) (now state) (now rx) (now out) (ch .slot) at (length (now buf)) ⌝ }
     ensures { λ r. ⌜ ((store : List ℕ) → Leaves (h .negotiated) (againOf (lentOf (now (state .entry)) (now (rx .entry)) store) h ch (length (now (buf .entry))) used fault (settledOf (slotAt (now (state .entry)) (ch .slot)) (policyOf (h .negotiated)) (length (now (buf .entry))))) at (now (state .entry)) (now (out .entry)) (now (buf .entry)) r (now (state .exit)) (now (rx .entry)) store (now (out .exit)) (now (buf .exit))) ⌝ }
 {
-    let tried = take_buffered(state, rx, ch, out, at, buf, h, used, fault);
+    let slot = slot_at(state, ch.slot);
+    let tried = take_buffered(state, rx, ch, slot, out, at, buf, h, used, fault);
     match tried {
         Tried::Replied(reply) => reply,
         Tried::Nothing(s, end) => {
@@ -132,16 +136,13 @@ fn is_direct(s: ChannelSlot, room: usize, packet: Packet) -> bool
 {
     let command = packet.command;
     let local = s.local;
-    if is_write(command) {
-        if packet.arg1 == local.0 {
-            return packet.data_length <= room;
-        }
-        return false;
+    if is_own(is_write(command), packet.arg1, local) {
+        return packet.data_length <= room;
     }
     false
 }
 
-// It goes straight to the reader, and never was unacknowledged.
+// Such a WRTE goes straight to the reader, and is never counted as unacknowledged.
 fn read_direct(
     state: &mut [u8],
     ch: ChannelId,
@@ -281,15 +282,16 @@ fn read_channel(
     rx: &mut [u8],
     store: &mut [u8],
     ch: ChannelId,
+    slot: ChannelSlot,
     received: &[u8],
     out: &mut [u8],
     buf: &mut [u8],
     h: Header,
 ) -> Reply
-    requires { ⌜ Admits (now state) (now rx) (now store) (length (now out)) × (h ≡ dropped (stateOf (now state) .header)) × (isThere (lentOf (now state) (now rx) (now store)) ch ≡ true) ⌝ }
+    requires { ⌜ Admits (now state) (now rx) (now store) (length (now out)) × (h ≡ dropped (stateOf (now state) .header)) × (isThere (lentOf (now state) (now rx) (now store)) ch ≡ true) × (slot ≡ slotFor (lentOf (now state) (now rx) (now store)) ch) ⌝ }
     ensures { λ r. ⌜ Leaves (agreedIn (now (state .entry))) (readFirst (lentOf (now (state .entry)) (now (rx .entry)) (now (store .entry))) ch (length (now (buf .entry))) (now (received .entry)) (settledOf (slotFor (lentOf (now (state .entry)) (now (rx .entry)) (now (store .entry))) ch) (policyOf (agreedIn (now (state .entry)))) (length (now (buf .entry))))) 0 (now (state .entry)) (now (out .entry)) (now (buf .entry)) r (now (state .exit)) (now (rx .exit)) (now (store .exit)) (now (out .exit)) (now (buf .exit)) ⌝ }
 {
-    let tried = take_buffered(state, rx, ch, out, 0, buf, h, 0, Failed::No);
+    let tried = take_buffered(state, rx, ch, slot, out, 0, buf, h, 0, Failed::No);
     match tried {
         Tried::Replied(reply) => reply,
         Tried::Nothing(s, at) => read_more(state, rx, store, ch, s, received, out, at, buf, h),
@@ -311,11 +313,14 @@ fn read_step(
 {
     let n = h.negotiated;
     let config = n.config;
-    if is_there(state, config.channels, ch) {
-        return read_channel(state, rx, store, ch, received, out, buf, h);
+    let found = get(state, config.channels, ch);
+    match found {
+        Found::Slot(slot) => read_channel(state, rx, store, ch, slot, received, out, buf, h),
+        Found::Nothing => {
+            put_header(state, h);
+            refused(Refusal::ChannelClosed)
+        }
     }
-    put_header(state, h);
-    refused(Refusal::ChannelClosed)
 }
 
 // Bytes of a channel for its reader: what is buffered, or what one packet brings.

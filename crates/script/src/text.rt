@@ -1,112 +1,104 @@
-// The words of a line, read as numbers and bytes, and numbers written as text.
-use crate::word_end;
-ghost use Prim.Native.Nat.{_≤_};
-ghost use lib.ListN.{length};
-ghost use Rattle.io.specs.Counts.{Counts};
+// A line, built in lent bytes. Each writer puts as much of its text as fits from `at` on, and answers where it ends.
+ghost use mathlib.Core.Path.{_≡_};
+ghost use mathlib.Core.List.{_++_};
+ghost use Prim.Native.Nat.{_<_};
+ghost use lib.ListN.{take};
+ghost use Rattle.io.specs.Digits.{digits};
+ghost use Rattle.io.specs.Digits.{glyph as Digits·glyph};
+ghost use Rattle.script.specs.Text.{Puts, decimalOf, signedText, flagText, hexOf, hexText};
 
-pub fn put(s: &[u8]) {
-    io::write_all(1, s);
-}
-
-pub fn put_number(n: u64) {
-    io::print_decimal(1, n);
-}
-
-pub fn put_flag(b: bool) {
-    if b {
-        put_number(1);
-        return;
+pub fn put(line: &mut [u8], at: usize, s: &[u8]) -> usize
+    ensures { λ r. ⌜ Puts (now (line .entry)) at (now (s .entry)) (now (line .exit)) r ⌝ }
+{
+    if at > line.len() {
+        return at;
     }
-    put_number(0);
+    let n = saturate::least(line.len() - at, s.len());
+    le::copy_at(line, at, &s[0..n]);
+    at + n
+}
+
+// A number in decimal.
+pub fn put_number(line: &mut [u8], at: usize, n: u64) -> usize
+    ensures { λ r. ⌜ Puts (now (line .entry)) at (decimalOf n) (now (line .exit)) r ⌝ }
+{
+    let mut text = [0u8; 20];
+    let k = io::decimal(n, &mut text);
+    put(line, at, &text[..k])
+}
+
+// A number behind its name.
+pub fn put_field(line: &mut [u8], at: usize, name: &[u8], n: u64) -> usize
+    ensures { λ r. ⌜ Puts (now (line .entry)) at (now (name .entry) ++ decimalOf n) (now (line .exit)) r ⌝ }
+{
+    let end = put(line, at, name);
+    put_number(line, end, n)
 }
 
 // A number with its sign.
-pub fn put_signed(z: i64) {
+pub fn put_signed(line: &mut [u8], at: usize, z: i64) -> usize
+    ensures { λ r. ⌜ Puts (now (line .entry)) at (signedText z) (now (line .exit)) r ⌝ }
+{
     let bits = le::bits_of_i64(z);
     if bits < 0x8000_0000_0000_0000 {
-        put_number(bits);
-        return;
+        return put_number(line, at, bits);
     }
-    put(b"-");
-    put_number(std::num::wrapping_sub_u64(0, bits));
+    let end = put(line, at, b"-");
+    put_number(line, end, 0xffff_ffff_ffff_ffff - bits + 1)
 }
 
-// Where word k begins, with the space before it: word 0 is the call's name.
-fn word_start(line: &[u8], k: usize) -> usize
-    ensures { λ r. ⌜ r ≤ length (now (line .entry)) ⌝ }
+pub fn put_flag(line: &mut [u8], at: usize, b: bool) -> usize
+    ensures { λ r. ⌜ Puts (now (line .entry)) at (flagText b) (now (line .exit)) r ⌝ }
 {
-    let mut at = 0;
-    let mut i = 0;
-    while i < k {
-        at = word_end(line, at);
-        i += 1;
+    if b {
+        return put(line, at, b"1");
     }
-    at
+    put(line, at, b"0")
 }
 
-// Whether a minus is among these bytes.
-fn has_minus(s: &[u8]) -> bool {
-    bytes::scan::find(s, 0, s.len(), b'-') < s.len()
-}
-
-fn digit(b: u8) -> u64
-    ensures { λ r. ⌜ r ≤ 9 ⌝ }
+fn glyph(d: u8) -> u8
+    requires { ⌜ d < 16 ⌝ }
+    ensures { λ r. ⌜ r ≡ Digits·glyph d ⌝ }
 {
-    (b % 16 % 10) as u64
+    if d < 10 {
+        return 48 + d;
+    }
+    87 + d
 }
 
-fn more(n: u64, b: u8) -> u64 {
-    if b < b'0' {
-        return n;
-    }
-    if n > 1844674407370955160 {
-        return 0xffff_ffff_ffff_ffff;
-    }
-    n * 10 + digit(b)
+fn put_byte(line: &mut [u8], at: usize, b: u8) -> usize
+    ensures { λ r. ⌜ Puts (now (line .entry)) at (digits 16 2 b) (now (line .exit)) r ⌝ }
+{
+    let pair = [glyph(b / 16), glyph(b % 16)];
+    put(line, at, &pair)
 }
 
-// The number that decimal digits spell, to 64 bits; other bytes are passed over.
-fn magnitude(s: &[u8]) -> u64 {
-    let mut n: u64 = 0;
+fn put_bytes(line: &mut [u8], at: usize, s: &[u8]) -> usize
+    ensures { λ r. ⌜ Puts (now (line .entry)) at (hexOf (now (s .entry))) (now (line .exit)) r ⌝ }
+{
+    let mut end = at;
     let mut i = 0;
     while i < s.len() {
-        n = more(n, s[i]);
+        end = put_byte(line, end, s[i]);
         i += 1;
     }
-    n
+    end
 }
 
-fn signed(s: &[u8]) -> i64 {
-    let n = magnitude(s);
-    if has_minus(s) {
-        return le::signed_of_u64(std::num::wrapping_sub_u64(0, n));
-    }
-    le::signed_of_u64(n)
-}
-
-pub fn number_at(line: &[u8], k: usize) -> u32 {
-    let a = word_start(line, k);
-    let e = word_end(line, a);
-    crate::number(&line[a..e])
-}
-
-pub fn size_at(line: &[u8], k: usize) -> usize {
-    let a = word_start(line, k);
-    let e = word_end(line, a);
-    magnitude(&line[a..e]) as usize
-}
-
-pub fn signed_at(line: &[u8], k: usize) -> i64 {
-    let a = word_start(line, k);
-    let e = word_end(line, a);
-    signed(&line[a..e])
-}
-
-// The bytes that word k spells, at the start of out, and how many they are.
-pub fn bytes_at(line: &[u8], k: usize, out: &mut [u8]) -> usize
-    ensures { λ r. ⌜ Counts r (now (out .exit)) ⌝ }
+// Bytes in hexadecimal, "-" for none.
+pub fn put_hex(line: &mut [u8], at: usize, s: &[u8]) -> usize
+    ensures { λ r. ⌜ Puts (now (line .entry)) at (hexText (now (s .entry))) (now (line .exit)) r ⌝ }
 {
-    let a = word_start(line, k);
-    let e = word_end(line, a);
-    crate::unhex(&line[a..e], out)
+    if s.len() == 0 {
+        return put(line, at, b"-");
+    }
+    put_bytes(line, at, s)
+}
+
+// What was put before `end`.
+pub fn written(line: &[u8], end: usize) -> &[u8]
+    ensures { λ r. ⌜ now r ≡ take end (now (line .entry)) ⌝ }
+{
+    let n = saturate::least(end, line.len());
+    &line[0..n]
 }

@@ -1,41 +1,48 @@
 // The calls of a script that bring no frame.
-use crate::packets::await_open;
+use crate::state::Did;
+use crate::state::Said;
 use crate::state::State;
+use crate::state::Terms;
+use crate::state::only;
 use crate::state::sound;
 use config::ConnectionConfig;
 use config::negotiated::Negotiated;
-use script::text::number_at;
-use script::text::put;
-use script::text::put_flag;
-use script::text::put_number;
-use script::text::size_at;
+use config::negotiated::RxPolicy;
+use script::words::number_at;
+use script::words::size_at;
 use slot::Budget;
 use slot::ChannelSlot;
-use slot::ChannelState;
-use slot::PendingAck;
 use slot::Taken;
 ghost use Rattle.config.specs.Config.{Within};
 
-fn made(n: Negotiated) -> State
+// What a make agrees on, and what it shows.
+pub struct Agreed {
+    pub state: State,
+    pub said: Said,
+}
+
+fn terms(n: Negotiated) -> Terms
     requires { ⌜ Within (n .config) ⌝ }
 {
     let config = n.config;
-    let policy = n.rx_policy();
-    put(b"made cap=");
-    put_number(config.rx_cap() as u64);
-    put(b" ceiling=");
-    put_number(config.rx_ceiling() as u64);
-    put(b" watermark=");
-    put_number(config.rx_watermark() as u64);
-    put(b" credit=");
-    put_number(n.advertised_credit() as u64);
-    put(b" max=");
-    put_number(n.max_payload as u64);
-    put(b" version=");
-    put_number(n.protocol_version as u64);
-    put(b" delayed=");
-    put_flag(n.delayed_ack);
-    State::fresh(config.max_payload, n.max_payload, policy)
+    Terms {
+        cap: config.rx_cap(),
+        ceiling: config.rx_ceiling(),
+        watermark: config.rx_watermark(),
+        credit: n.advertised_credit(),
+        max: n.max_payload,
+        version: n.protocol_version,
+        delayed: n.delayed_ack,
+    }
+}
+
+fn made(n: Negotiated) -> Agreed
+    requires { ⌜ Within (n .config) ⌝ }
+{
+    let config = n.config;
+    let state = State::fresh(config.max_payload, n.max_payload, n.rx_policy());
+    let said = Said::Made(terms(n));
+    Agreed { state, said }
 }
 
 fn agree(
@@ -45,15 +52,15 @@ fn agree(
     device: bool,
     arg0: u32,
     arg1: u32,
-) -> State {
+) -> Agreed {
     if config.within_limits() {
         return made(Negotiated::new(host, device, arg0, arg1, config));
     }
-    put(b"broken");
-    s
+    let said = Said::Broken;
+    Agreed { state: s, said }
 }
 
-pub fn make(s: State, line: &[u8]) -> State {
+pub fn make(s: State, line: &[u8]) -> Agreed {
     let config = ConnectionConfig {
         channels: size_at(line, 1),
         max_payload: number_at(line, 2),
@@ -67,57 +74,24 @@ pub fn make(s: State, line: &[u8]) -> State {
     agree(s, config, host, device, arg0, arg1)
 }
 
-// Numbers start again at 1.
-fn following(local: u32) -> u32 {
-    if local == 0xffff_ffff {
-        return 1;
-    }
-    local + 1
-}
-
-pub fn open(s: State, received: &[u8]) -> State {
-    let slot = s.slot;
-    if slot.filled {
-        put(b"refused 12");
-        return s;
-    }
-    if s.opening == 0 {
-        put(b"waiting");
-        return s.with_opening(s.next).with_next(following(s.next));
-    }
-    await_open(s, received)
-}
-
-pub fn settle(s: State, want: usize) -> State {
-    let slot = s.slot;
-    let policy = s.policy;
+pub fn settle(slot: ChannelSlot, policy: RxPolicy, want: usize) -> Did {
     let settled = slot.settle_take(want, policy);
     let ack = settled.ack;
-    let after = settled.slot;
-    put(b"settled ack=");
-    match ack {
-        PendingAck::Len(n) => put_number(n as u64),
-        PendingAck::Nothing => put(b"none"),
-    }
-    s.with_slot(after)
+    only(settled.slot, Said::Settled(ack))
 }
 
 // n bytes of the run, handed to the reader.
-fn hand(s: State, after: ChannelSlot, n: usize, share: &[u8], room: &mut [u8]) -> State {
-    let slot = s.slot;
+fn hand(slot: ChannelSlot, after: ChannelSlot, n: usize, share: &[u8], room: &mut [u8]) -> Did {
     let head = slot.head;
     if n <= room.len() {
         if head <= share.len() {
             if n <= share.len() - head {
                 rx_store::take(share, head, n, room);
-                put(b"taken n=");
-                put_number(n as u64);
-                return s.with_slot(after).with_got(n);
+                return only(after, Said::Taken(n));
             }
         }
     }
-    put(b"broken");
-    s
+    only(slot, Said::Broken)
 }
 
 // What a read finds, if the slot's numbers are what is asked for.
@@ -133,31 +107,14 @@ fn try_take(slot: ChannelSlot, want: usize, cap: usize) -> Tried {
     Tried::Broken
 }
 
-pub fn take(s: State, want: usize, share: &[u8], room: &mut [u8]) -> State {
-    let slot = s.slot;
-    let policy = s.policy;
-    let Tried::Done(taken) = try_take(slot, want, policy.rx_cap) else {
-        put(b"broken");
-        return s;
+pub fn take(slot: ChannelSlot, cap: usize, want: usize, share: &[u8], room: &mut [u8]) -> Did {
+    let Tried::Done(taken) = try_take(slot, want, cap) else {
+        return only(slot, Said::Broken);
     };
     match taken {
-        Taken::Data(after, n) => hand(s, after, n, share, room),
-        Taken::Nothing => {
-            put(b"none");
-            s
-        }
-        Taken::Closed(_) => {
-            put(b"refused 10");
-            s
-        }
-    }
-}
-
-fn is_closed(state: ChannelState) -> bool {
-    match state {
-        ChannelState::Opening => false,
-        ChannelState::Open => false,
-        ChannelState::Closed => true,
+        Taken::Data(after, n) => hand(slot, after, n, share, room),
+        Taken::Nothing => only(slot, Said::Nothing),
+        Taken::Closed(_) => only(slot, Said::Refused(10)),
     }
 }
 
@@ -169,33 +126,29 @@ fn one_frame(len: usize, max_payload: u32) -> usize {
     saturate::least(len, max_payload as usize)
 }
 
-pub fn send(s: State, len: usize) -> State {
-    let slot = s.slot;
-    let policy = s.policy;
+fn spend(slot: ChannelSlot, policy: RxPolicy, n: usize) -> Did {
+    only(slot.spend(n, policy), Said::Written(n))
+}
+
+pub fn send(slot: ChannelSlot, policy: RxPolicy, max_payload: u32, len: usize) -> Did {
     let state = slot.state;
-    if is_closed(state) {
-        put(b"refused 10");
-        return s;
+    if slot::is_closed(state) {
+        return only(slot, Said::Refused(10));
     }
     let budget = slot.budget(policy);
     match budget {
-        Budget::Nothing => {
-            put(b"waiting");
-            s
-        }
-        Budget::Bytes(most) => {
-            let n = saturate::least(one_frame(len, s.max_payload), most);
-            put(b"written n=");
-            put_number(n as u64);
-            s.with_slot(slot.spend(n, policy))
-        }
+        Budget::Nothing => only(slot, Said::Waiting),
+        Budget::Bytes(most) => spend(
+            slot,
+            policy,
+            saturate::least(one_frame(len, max_payload), most),
+        ),
     }
 }
 
 // A test aid.
-pub fn set_budget(s: State, budget: i64) -> State {
-    let mut slot = s.slot;
-    slot.send_budget = budget;
-    put(b"set");
-    s.with_slot(slot)
+pub fn set_budget(slot: ChannelSlot, budget: i64) -> Did {
+    let mut after = slot;
+    after.send_budget = budget;
+    only(after, Said::Set)
 }

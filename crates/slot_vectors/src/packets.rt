@@ -1,19 +1,20 @@
 // What a received frame does: to the channel, or to an open that waits.
-use crate::state::State;
-use crate::state::share_of;
+use crate::state::Did;
+use crate::state::Said;
+use crate::state::has;
+use crate::state::only;
 use crate::state::sound;
 use config::negotiated::RxPolicy;
 use protocol::command::Command;
 use protocol::packet::Decoded;
 use protocol::packet::Packet;
-use script::text::put;
-use script::text::put_number;
 use slot::AckDecision;
 use slot::ChannelSlot;
 use slot::Readied;
 use slot::Wrote;
 use slot::ids::LocalId;
 use slot::ids::RemoteId;
+use slot::ids::is_close;
 
 enum Kind {
     Ready,
@@ -35,13 +36,11 @@ fn kind_of(c: Command) -> Kind {
     }
 }
 
-fn put_undecoded(answer: Decoded) {
-    if answer.number() == 100 {
-        put(b"waiting");
-        return;
+fn undecoded(number: u32) -> Said {
+    if number == 100 {
+        return Said::Waiting;
     }
-    put(b"refused ");
-    put_number(answer.number() as u64);
+    Said::Refused(number)
 }
 
 // What a WRTE of n bytes does, if the slot's numbers are what is asked for.
@@ -55,6 +54,22 @@ fn try_write(slot: ChannelSlot, n: usize, policy: RxPolicy) -> Tried {
         return Tried::Done(slot.apply_write(n, policy));
     }
     Tried::Broken
+}
+
+fn said_of(decision: AckDecision) -> Said {
+    match decision {
+        AckDecision::Now(_) => Said::Handled,
+        AckDecision::Hold => Said::Handled,
+        AckDecision::Overflow => Said::Refused(11),
+        AckDecision::Early => Said::Early,
+    }
+}
+
+fn is_handled(said: Said) -> bool {
+    if let Said::Handled = said {
+        return true;
+    }
+    false
 }
 
 // Puts a payload behind the run in the first `len` bytes. Answers where the run begins, or `len` where it has no room.
@@ -71,220 +86,177 @@ fn append(share: &mut [u8], len: usize, head: usize, buffered: usize, payload: &
     len
 }
 
-// The slot after a WRTE's payload was put behind the buffered bytes.
-fn keep(s: State, after: ChannelSlot, payload: &[u8], share: &mut [u8]) -> State {
-    let slot = s.slot;
-    let policy = s.policy;
-    let at = append(
-        share,
-        share_of(policy.rx_cap),
-        slot.head,
-        slot.buffered,
-        payload,
-    );
+// The slot after a WRTE's payload was put behind the buffered bytes of a share, which has 2 times cap bytes.
+fn keep(
+    slot: ChannelSlot,
+    after: ChannelSlot,
+    cap: usize,
+    payload: &[u8],
+    share: &mut [u8],
+) -> Did {
+    let len = saturate::sat_sum(cap, cap);
+    let at = append(share, len, slot.head, slot.buffered, payload);
     if at == after.head {
-        put(b"handled");
-        return s.with_slot(after);
+        return only(after, Said::Handled);
     }
-    put(b"broken");
-    s
+    only(slot, Said::Broken)
 }
 
-fn write(s: State, payload: &[u8], share: &mut [u8]) -> State {
-    let slot = s.slot;
-    let policy = s.policy;
+fn write(slot: ChannelSlot, policy: RxPolicy, payload: &[u8], share: &mut [u8]) -> Did {
     let Tried::Done(wrote) = try_write(slot, payload.len(), policy) else {
-        put(b"broken");
-        return s;
+        return only(slot, Said::Broken);
     };
     let decision = wrote.decision;
-    let after = wrote.slot;
-    match decision {
-        AckDecision::Now(_) => keep(s, after, payload, share),
-        AckDecision::Hold => keep(s, after, payload, share),
-        AckDecision::Overflow => {
-            put(b"refused 11");
-            s
-        }
-        AckDecision::Early => {
-            put(b"refused 6 command=WRTE");
-            s
-        }
+    let said = said_of(decision);
+    if is_handled(said) {
+        return keep(slot, wrote.slot, policy.rx_cap, payload, share);
     }
+    only(slot, said)
 }
 
-fn ready(s: State, payload: &[u8]) -> State {
-    let slot = s.slot;
-    let policy = s.policy;
+fn ready(slot: ChannelSlot, policy: RxPolicy, payload: &[u8]) -> Did {
     let readied = slot.apply_ready(payload, policy);
     match readied {
-        Readied::Slot(after) => {
-            put(b"handled");
-            s.with_slot(after)
-        }
-        Readied::Short => {
-            put(b"refused 5");
-            s
-        }
+        Readied::Slot(after) => only(after, Said::Handled),
+        Readied::Short => only(slot, Said::Refused(5)),
     }
 }
 
-fn close(s: State) -> State {
-    let slot = s.slot;
-    s.with_slot(slot.apply_close())
+fn close(slot: ChannelSlot) -> Did {
+    only(slot.apply_close(), Said::Handled)
 }
 
-// A CLSE that leaves our number out names the channel by the device's.
-fn close_remote(s: State, remote: u32) -> State {
-    let slot = s.slot;
+// Whether a CLSE that leaves our number out names the channel by the device's.
+fn closes_remote(slot: ChannelSlot, remote: u32) -> bool {
     let known = slot.remote;
-    put(b"handled");
     if remote == 0 {
-        return s;
+        return false;
     }
     if slot.has_remote {
-        if known.0 == remote {
-            return close(s);
-        }
+        return known.0 == remote;
     }
-    s
+    false
 }
 
 // A frame for the channel.
-fn act(s: State, p: Packet, payload: &[u8], share: &mut [u8]) -> State {
-    let command = p.command;
+fn act(
+    slot: ChannelSlot,
+    policy: RxPolicy,
+    command: Command,
+    payload: &[u8],
+    share: &mut [u8],
+) -> Did {
     let kind = kind_of(command);
     match kind {
-        Kind::Ready => ready(s, payload),
-        Kind::Write => write(s, payload, share),
-        Kind::Close => {
-            put(b"handled");
-            close(s)
-        }
-        Kind::Other => {
-            put(b"handled");
-            s
-        }
+        Kind::Ready => ready(slot, policy, payload),
+        Kind::Write => write(slot, policy, payload, share),
+        Kind::Close => close(slot),
+        Kind::Other => only(slot, Said::Handled),
     }
 }
 
-fn is_close(c: Command) -> bool {
-    let kind = kind_of(c);
-    match kind {
-        Kind::Ready => false,
-        Kind::Write => false,
-        Kind::Close => true,
-        Kind::Other => false,
-    }
-}
-
-fn route(s: State, p: Packet, payload: &[u8], share: &mut [u8]) -> State {
+// A CLSE without our number.
+fn is_unnamed_close(p: Packet) -> bool {
     let command = p.command;
     if p.arg1 == 0 {
-        if is_close(command) {
-            return close_remote(s, p.arg0);
+        return is_close(command);
+    }
+    false
+}
+
+fn close_remote(slot: ChannelSlot, remote: u32) -> Did {
+    if closes_remote(slot, remote) {
+        return close(slot);
+    }
+    only(slot, Said::Handled)
+}
+
+fn route(slot: ChannelSlot, policy: RxPolicy, p: Packet, payload: &[u8], share: &mut [u8]) -> Did {
+    let command = p.command;
+    if is_unnamed_close(p) {
+        return close_remote(slot, p.arg0);
+    }
+    if has(slot, 0, p.arg1) {
+        return act(slot, policy, command, payload, share);
+    }
+    only(slot, Said::Handled)
+}
+
+pub fn dispatch(
+    slot: ChannelSlot,
+    policy: RxPolicy,
+    limit: u32,
+    received: &[u8],
+    share: &mut [u8],
+) -> Did {
+    let answer = Packet::decode(received, limit);
+    let Decoded::Accepted(packet) = answer else {
+        return only(slot, undecoded(answer.number()));
+    };
+    let n = packet.data_length;
+    if n <= 1_048_576 {
+        if 24 + n <= received.len() {
+            return route(slot, policy, packet, Packet::payload(received, n), share);
         }
     }
-    if s.has(0, p.arg1) {
-        return act(s, p, payload, share);
-    }
-    put(b"handled");
-    s
+    only(slot, Said::Broken)
 }
 
-pub fn dispatch(s: State, received: &[u8], share: &mut [u8]) -> State {
-    let answer = Packet::decode(received, s.limit);
-    if let Decoded::Accepted(packet) = answer {
-        let n = packet.data_length;
-        if n <= 1_048_576 {
-            if 24 + n <= received.len() {
-                return route(s, packet, Packet::payload(received, n), share);
-            }
-        }
-        put(b"broken");
-        return s;
-    }
-    put_undecoded(answer);
-    s
-}
-
-fn put_opened(local: u32) {
-    put(b"opened slot=0 local=");
-    put_number(local as u64);
-}
-
-fn opened(s: State, remote: RemoteId, payload: &[u8]) -> State {
-    let local = s.opening;
-    let policy = s.policy;
-    let done = s.with_opening(0);
+fn opened(
+    slot: ChannelSlot,
+    policy: RxPolicy,
+    local: u32,
+    remote: RemoteId,
+    payload: &[u8],
+) -> Did {
     let readied = ChannelSlot::opening(LocalId(local)).accept_open_ready(remote, payload, policy);
     match readied {
-        Readied::Slot(after) => {
-            put_opened(local);
-            done.with_slot(after)
-        }
-        Readied::Short => {
-            put(b"refused 5");
-            done
-        }
+        Readied::Slot(after) => only(after, Said::Opened(local)),
+        Readied::Short => only(slot, Said::Refused(5)),
     }
 }
 
 // A WRTE before the OKAY.
-fn early(s: State, n: usize) -> State {
-    let slot = ChannelSlot::opening(LocalId(s.opening));
-    let policy = s.policy;
-    let Tried::Done(wrote) = try_write(slot, n, policy) else {
-        put(b"broken");
-        return s;
+fn early(policy: RxPolicy, local: u32, n: usize) -> Said {
+    let Tried::Done(wrote) = try_write(ChannelSlot::opening(LocalId(local)), n, policy) else {
+        return Said::Broken;
     };
     let decision = wrote.decision;
-    if let AckDecision::Early = decision {
-        put(b"refused 6 command=WRTE");
-        return s.with_opening(0);
-    }
-    put(b"broken");
-    s
+    said_of(decision)
 }
 
 // A frame for the open that waits.
-fn answer_open(s: State, p: Packet, payload: &[u8]) -> State {
+fn answer_open(slot: ChannelSlot, policy: RxPolicy, local: u32, p: Packet, payload: &[u8]) -> Did {
     let command = p.command;
     let kind = kind_of(command);
     match kind {
-        Kind::Ready => opened(s, RemoteId(p.arg0), payload),
-        Kind::Write => early(s, payload.len()),
-        Kind::Close => {
-            put(b"refused 10");
-            s.with_opening(0)
-        }
-        Kind::Other => {
-            put(b"waiting");
-            s
-        }
+        Kind::Ready => opened(slot, policy, local, RemoteId(p.arg0), payload),
+        Kind::Write => only(slot, early(policy, local, payload.len())),
+        Kind::Close => only(slot, Said::Refused(10)),
+        Kind::Other => only(slot, Said::Waiting),
     }
 }
 
 // Goes on with an open.
-pub fn await_open(s: State, received: &[u8]) -> State {
-    let answer = Packet::decode(received, s.limit);
-    if let Decoded::Accepted(packet) = answer {
-        let n = packet.data_length;
-        if packet.arg1 != s.opening {
-            put(b"waiting");
-            return s;
-        }
-        if n <= 1_048_576 {
-            if 24 + n <= received.len() {
-                return answer_open(s, packet, Packet::payload(received, n));
-            }
-        }
-        put(b"broken");
-        return s;
+pub fn await_open(
+    slot: ChannelSlot,
+    policy: RxPolicy,
+    limit: u32,
+    local: u32,
+    received: &[u8],
+) -> Did {
+    let answer = Packet::decode(received, limit);
+    let Decoded::Accepted(packet) = answer else {
+        return only(slot, undecoded(answer.number()));
+    };
+    let n = packet.data_length;
+    if packet.arg1 != local {
+        return only(slot, Said::Waiting);
     }
-    put_undecoded(answer);
-    if answer.number() == 100 {
-        return s;
+    if n <= 1_048_576 {
+        if 24 + n <= received.len() {
+            return answer_open(slot, policy, local, packet, Packet::payload(received, n));
+        }
     }
-    s.with_opening(0)
+    only(slot, Said::Broken)
 }

@@ -1,6 +1,5 @@
 -- Laws of outgoing frames. Assumes nothing.
---     comes-back   what is put at a place is decoded to the frame that was meant, and so with okay-, close-, refuse-back
---     open-back    what is sent is, too, and so with write-back
+--     comes-back   what is put at a place is decoded to the frame that was meant; okay-back, close-back: an OKAY, a CLSE
 --     okay-credit  the credit of a delayed OKAY is the length
 --     behind       a frame right behind another leaves it; first-back: which is decoded as before
 use mathlib.Core.Path.{_≡_, refl, ap, _∙_}
@@ -15,17 +14,14 @@ use Rattle.le.proofs.Laws.{length-bytesOf, write-read}
 use Rattle.le.proofs.Parts.{length-put, put-put, part-put-same, part-put-below}
 use Rattle.protocol.specs.declared.checksum.Checksum.{Checksum}
 use Rattle.protocol.specs.declared.command.Command.{Command}
-use Rattle.protocol.specs.declared.command.Command.the-variants.{Open, Ready, Close, Write}
+use Rattle.protocol.specs.declared.command.Command.the-variants.{Ready, Close}
 use Rattle.protocol.specs.Checksum.{checkFor}
-use Rattle.protocol.specs.declared.packet.Encoded.the-variants.{Written}
 use Rattle.protocol.specs.Packet.{maxPayload, payloadOf, frameFor, Puts}
 use Rattle.protocol.proofs.PacketLaws.{frame-length}
 use Rattle.protocol.proofs.ChecksumLaws.{check-small}
-use Rattle.protocol.proofs.RoundTrip.{frame-payload, not-refused, own-check, encode-decode, Comes-back}
-use Rattle.slot.specs.declared.ids.LocalId.{LocalId}
-use Rattle.slot.specs.declared.ids.RemoteId.{RemoteId}
+use Rattle.protocol.proofs.RoundTrip.{frame-payload, not-refused, own-check, Comes-back}
 use Rattle.slot.specs.declared.ids.ChannelIds.{ChannelIds}
-use Rattle.wire.specs.Wire.{creditBytes, okayBytes, closeBytes, refuseBytes, openSent, writeSent}
+use Rattle.wire.specs.Wire.{creditBytes, okayBytes, closeBytes}
 
 -- ---- lengths
 
@@ -49,11 +45,6 @@ okay-length ids false n k = frame-length Ready (ids .local .0) (ids .remote .0) 
 pub close-length : (ids : ChannelIds) (k : Checksum) → length (closeBytes ids k) ≡ 24
 unfolding closeBytes
 close-length ids k = frame-length Close (ids .local .0) (ids .remote .0) [] (checkFor k [])
-
--- and so is a refusal
-pub refuse-length : (remote : RemoteId) (k : Checksum) → length (refuseBytes remote k) ≡ 24
-unfolding refuseBytes
-refuse-length remote k = frame-length Close 0 (remote .0) [] (checkFor k [])
 
 -- ---- what the functions cite
 
@@ -104,20 +95,6 @@ module _ (c : Command) (a b : ℕ) (payload : List ℕ) (k : Checksum) (limit : 
       let r = drop (at + length (f ++ g)) out in
       rw (put-put out at f (at + length f) g refl h, drop-put out at (f ++ g) (omega arith), append-assoc f g r) (back (g ++ r))
 
--- an OPEN that was sent
-pub open-back : (local : LocalId) (credit : ℕ) (destination : List ℕ) (k : Checksum) (out : List ℕ) (limit n : ℕ) → local .0 < 2 ^ 32 → credit < 2 ^ 32
-    → length destination ≤ limit → openSent local credit destination k out .result ≡ Written n
-    → Comes-back Open (local .0) credit destination limit n (openSent local credit destination k out .out)
-unfolding openSent
-open-back local credit destination k out limit n = encode-decode Open (local .0) credit destination k out limit n
-
--- a WRTE that was sent
-pub write-back : (ids : ChannelIds) (bytes : List ℕ) (k : Checksum) (out : List ℕ) (limit n : ℕ) → ids .local .0 < 2 ^ 32 → ids .remote .0 < 2 ^ 32
-    → length bytes ≤ limit → writeSent ids bytes k out .result ≡ Written n
-    → Comes-back Write (ids .local .0) (ids .remote .0) bytes limit n (writeSent ids bytes k out .out)
-unfolding writeSent
-write-back ids bytes k out limit n = encode-decode Write (ids .local .0) (ids .remote .0) bytes k out limit n
-
 module _ (ids : ChannelIds) (k : Checksum) (limit : ℕ) (out : List ℕ) (at : ℕ) (hl : ids .local .0 < 2 ^ 32) (hr : ids .remote .0 < 2 ^ 32) where
   -- an OKAY put at a place, with its credit or without
   pub okay-back : (delayed : Bool) (n : ℕ) → length (creditBytes delayed n) ≤ limit → at + 24 + length (creditBytes delayed n) ≤ length out
@@ -132,12 +109,6 @@ module _ (ids : ChannelIds) (k : Checksum) (limit : ℕ) (out : List ℕ) (at : 
       → Comes-back Close (ids .local .0) (ids .remote .0) [] limit (length (closeBytes ids k)) (drop at (put out at (closeBytes ids k)))
   unfolding closeBytes
   close-back room = comes-back Close (ids .local .0) (ids .remote .0) [] k limit hl hr (omega arith) out at (omega arith)
-
--- a refusal put at a place
-pub refuse-back : (remote : RemoteId) (k : Checksum) (limit : ℕ) (out : List ℕ) (at : ℕ) → remote .0 < 2 ^ 32 → at + 24 ≤ length out
-    → Comes-back Close 0 (remote .0) [] limit (length (refuseBytes remote k)) (drop at (put out at (refuseBytes remote k)))
-unfolding refuseBytes
-refuse-back remote k limit out at hr room = comes-back Close 0 (remote .0) [] k limit (omega arith) hr (omega arith) out at (omega arith)
 
 -- the credit of a delayed OKAY is the length
 pub okay-credit : (ids : ChannelIds) (k : Checksum) (out : List ℕ) (at n : ℕ) → n < 2 ^ 32 → at + 28 ≤ length out

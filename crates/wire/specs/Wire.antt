@@ -5,9 +5,8 @@ use mathlib.Core.List.{List, []}
 use Rattle.le.specs.Le.{bytesOf}
 use Rattle.protocol.specs.declared.checksum.Checksum.{Checksum}
 use Rattle.protocol.specs.declared.command.Command.the-variants.{Open, Ready, Close, Write}
-use Rattle.protocol.specs.Packet.{frameFor, Outcome, encodeOf}
+use Rattle.protocol.specs.Packet.{frameFor}
 use Rattle.slot.specs.declared.ids.LocalId.{LocalId}
-use Rattle.slot.specs.declared.ids.RemoteId.{RemoteId}
 use Rattle.slot.specs.declared.ids.ChannelIds.{ChannelIds}
 
 -- an OKAY's payload: the acknowledged length where acknowledgements are delayed, nothing otherwise
@@ -22,14 +21,10 @@ okayBytes ids delayed n k = frameFor Ready (ids .local .0) (ids .remote .0) (cre
 unfoldable pub closeBytes : ChannelIds → Checksum → List ℕ
 closeBytes ids k = frameFor Close (ids .local .0) (ids .remote .0) [] k
 
--- the CLSE of an OPEN that is not taken: our number is left out
-unfoldable pub refuseBytes : RemoteId → Checksum → List ℕ
-refuseBytes remote k = frameFor Close 0 (remote .0) [] k
+-- an OPEN, with our credit for the device
+abbrev pub openBytes : LocalId → ℕ → List ℕ → Checksum → List ℕ
+openBytes local credit destination k = frameFor Open (local .0) credit destination k
 
--- what sending an OPEN gives, with our credit for the device
-unfoldable pub openSent : LocalId → ℕ → List ℕ → Checksum → List ℕ → Outcome
-openSent local credit destination k out = encodeOf Open (local .0) credit destination k out
-
--- what sending a WRTE of a channel gives
-unfoldable pub writeSent : ChannelIds → List ℕ → Checksum → List ℕ → Outcome
-writeSent ids bytes k out = encodeOf Write (ids .local .0) (ids .remote .0) bytes k out
+-- a WRTE of a channel
+abbrev pub writeBytes : ChannelIds → List ℕ → Checksum → List ℕ
+writeBytes ids bytes k = frameFor Write (ids .local .0) (ids .remote .0) bytes k

@@ -1,17 +1,15 @@
 // Outgoing frames, written into a buffer that the caller lends, at a place of it.
 use protocol::checksum::Checksum;
 use protocol::command::Command;
-use protocol::packet::Encoded;
 use protocol::packet::Packet;
 use slot::ids::ChannelIds;
 use slot::ids::LocalId;
-use slot::ids::RemoteId;
 ghost use mathlib.Core.Path.{_≡_};
 ghost use mathlib.Core.List.{[]};
 ghost use Prim.Native.Nat.{_+_, _≤_};
 ghost use lib.ListN.{length};
-ghost use Rattle.protocol.specs.Packet.{frameFor, Puts, Encodes};
-ghost use Rattle.wire.specs.Wire.{okayBytes, closeBytes, refuseBytes, openSent, writeSent};
+ghost use Rattle.protocol.specs.Packet.{frameFor, Room, Puts};
+ghost use Rattle.wire.specs.Wire.{okayBytes, closeBytes, openBytes, writeBytes};
 
 // A frame with no payload.
 fn put_empty(
@@ -68,32 +66,41 @@ pub fn send_close(out: &mut [u8], at: usize, ids: ChannelIds, checksum: Checksum
     put_empty(out, at, Command::Close, local.0, remote.0, checksum)
 }
 
-// A CLSE for an OPEN that we don't take: our number is left out.
-pub fn send_refuse(out: &mut [u8], at: usize, remote: RemoteId, checksum: Checksum) -> usize
-    requires { ⌜ at + 24 ≤ length (now out) ⌝ }
-    ensures { λ r. ⌜ Puts (now (out .entry)) at (refuseBytes remote checksum) r (now (out .exit)) ⌝ }
-{
-    put_empty(out, at, Command::Close, 0, remote.0, checksum)
-}
-
 // An OPEN, with the credit that we give the device.
 pub fn send_open(
     out: &mut [u8],
+    at: usize,
     local: LocalId,
     credit: u32,
     destination: &[u8],
     checksum: Checksum,
-) -> Encoded
-    ensures { λ r. ⌜ Encodes (openSent local credit (now (destination .entry)) checksum (now (out .entry))) r (now (out .exit)) ⌝ }
+) -> usize
+    requires { ⌜ Room (now out) at (now destination) ⌝ }
+    ensures { λ r. ⌜ Puts (now (out .entry)) at (openBytes local credit (now (destination .entry)) checksum) r (now (out .exit)) ⌝ }
 {
-    Packet::encode(Command::Open, local.0, credit, destination, checksum, out)
+    Packet::put_at(
+        out,
+        at,
+        Command::Open,
+        local.0,
+        credit,
+        destination,
+        checksum,
+    )
 }
 
 // A WRTE of some bytes of a channel.
-pub fn send_write(out: &mut [u8], ids: ChannelIds, data: &[u8], checksum: Checksum) -> Encoded
-    ensures { λ r. ⌜ Encodes (writeSent ids (now («data» .entry)) checksum (now (out .entry))) r (now (out .exit)) ⌝ }
+pub fn send_write(
+    out: &mut [u8],
+    at: usize,
+    ids: ChannelIds,
+    bytes: &[u8],
+    checksum: Checksum,
+) -> usize
+    requires { ⌜ Room (now out) at (now bytes) ⌝ }
+    ensures { λ r. ⌜ Puts (now (out .entry)) at (writeBytes ids (now (bytes .entry)) checksum) r (now (out .exit)) ⌝ }
 {
     let local = ids.local;
     let remote = ids.remote;
-    Packet::encode(Command::Write, local.0, remote.0, data, checksum, out)
+    Packet::put_at(out, at, Command::Write, local.0, remote.0, bytes, checksum)
 }

@@ -24,17 +24,16 @@ use Rattle.slot.specs.declared.ChannelSlot.{ChannelSlot}
 use Rattle.slot.specs.declared.Failed.{Failed}
 use Rattle.slot.specs.declared.Failed.the-variants.{No, By}
 use Rattle.slot.specs.declared.Readied.{Readied}
-use Rattle.slot.specs.declared.Readied.the-variants.{Slot, Short}
+use Rattle.slot.specs.declared.Readied.the-variants.{Slot as ReadySlot, Short}
 use Rattle.slot.specs.declared.ids.ChannelIds.{ChannelIds}
 use Rattle.slot.specs.Ids.{closedBy}
-use Rattle.slot.specs.Slot.{emptySlot, isClosed, readyOf, budgetOf, spentOf, closedSlot}
+use Rattle.slot.specs.Slot.{isClosed, readyOf, budgetOf, spentOf, closedSlot}
 use Rattle.slot.proofs.Laws.{cond-true, cond-false}
 use Rattle.state.specs.declared.Header.{Header}
 use Rattle.state.specs.Change.{slotTo, changedAll}
 use Rattle.state.specs.Rows.{flat}
-use Rattle.state.specs.State.{stateOf, isState, slotAt, putSlot, putHeader}
+use Rattle.state.specs.State.{stateOf, isState, putSlot, putHeader}
 use Rattle.state.specs.Valid.{isWhole}
-use Rattle.state.proofs.StateLaws.{slot-in}
 use Rattle.table.specs.declared.ChannelId.{ChannelId}
 use Rattle.table.specs.Dispatch.{slotIn}
 use Rattle.connection.specs.declared.Answer.{Answer}
@@ -43,17 +42,20 @@ use Rattle.connection.specs.declared.Received.{Received}
 use Rattle.connection.specs.declared.Received.the-variants.{Packet as PacketIs, Stop}
 use Rattle.connection.specs.declared.Refusal.the-variants.{ShortReadyPayload, OutShort, ChannelClosed}
 use Rattle.calls.specs.declared.Reply.{Reply}
+use Rattle.calls.specs.declared.admit.Found.{Found}
+use Rattle.calls.specs.declared.admit.Found.the-variants.{Slot, Nothing}
 use Rattle.calls.specs.declared.act.ActedOn.{ActedOn}
 use Rattle.connection.specs.Act.{Acted, actOn}
 use Rattle.connection.specs.Calls.{Lent, Outcome, then, thenActed, ends, dropped, policy, idsIn, isThere, slotFor, unlessFault, receivedBy, receivedOf, bodyOf, frameLen, isReady, sendLen, sendSome, sendBy, sendAgain, writeReadied, writeActed, writeAct, writeBy, writeFirst, writeOn, writeStep}
 use Rattle.connection.specs.Frames.{writeFrame, frameBytes, framesBytes}
-use Rattle.calls.specs.Promise.{lentOf, agreedIn, Leaves, Admits, thereIn, ActsOn}
+use Rattle.calls.specs.Promise.{lentOf, agreedIn, foundIn, Leaves, Admits, ActsOn}
 use Rattle.writing.specs.Writing.{starts, Sends, Finds, Waits}
 use Rattle.calls.proofs.AdmitLaws.{admits-facts, admits-dropped, admits-stores}
 use Rattle.calls.proofs.CallLaws.{received-is}
 use Rattle.connection.proofs.Decoding.{PacketRoom, packet-room, ReceivedFits, received-fits}
 use Rattle.calls.proofs.FrameLaws.{puts-one, one-frame}
-use Rattle.calls.proofs.LeaveLaws.{Did, did-begun, did-then, did-slot, did-acted, did-stops, untouched-leaves}
+use Rattle.calls.proofs.LeaveLaws.{Did, did-begun, did-then, did-slot, did-acted, did-stops, stops-leaves, untouched-leaves}
+use Rattle.calls.proofs.ThereLaws.{found-none, found-there, found-slot}
 use Rattle.writing.proofs.RestLaws.{Rests, rests-budget, rest-act, put-back}
 use Rattle.connection.proofs.Slots.{slots-by}
 use Rattle.connection.proofs.WholeAct.{ActedKeeps, acted-keeps}
@@ -64,23 +66,15 @@ use Rattle.connection.proofs.WholeWork.{there-live}
 pub part-first : (len : ℕ) (b : List ℕ) → take (len - 0) b ≡ take len b
 part-first len b = let e : len - 0 ≡ len = omega arith in ap (λ (k : ℕ). take k b) e
 
--- ---- calls that only store their header
+-- ---- a call that stores a slot and its header
 
-module _ (state rx store out : List ℕ) (h : Header) (i : h ≡ dropped (stateOf state .header)) where
-  -- an answer with nothing done
-  pub stops : (a : Answer) (used : ℕ) (r : Reply) (state' : List ℕ) → state' ≡ putHeader state h → r ≡ record { answer = a; used = used; written = 0 }
-      → Leaves (agreedIn state) (ends (starts state rx store) a used []) 0 state out [] r state' rx store out []
-  stops a used r state' s q =
-      did-stops (agreedIn state) 0 state out _ _ _ _ _ _ (did-begun (agreedIn state) 0 state out (dropped (stateOf state .header)) (lentOf state rx store) (omega arith)) [] state' h a used r i s q
-
-  -- with a slot stored
-  pub stores : (place : ℕ) (s : ChannelSlot) (a : Answer) (used : ℕ) (r : Reply) (state₁ state₂ : List ℕ) → state₁ ≡ putSlot state place s → state₂ ≡ putHeader state₁ h
-      → r ≡ record { answer = a; used = used; written = 0 }
-      → Leaves (agreedIn state) (ends (then (starts state rx store) (slotTo place s ∷ []) []) a used []) 0 state out [] r state₂ rx store out []
-  stores place s a used r state₁ state₂ e f q =
-      let n = agreedIn state in
-      let w = did-begun n 0 state out (dropped (stateOf state .header)) (lentOf state rx store) (omega arith) in
-      did-stops n 0 state out _ _ _ _ _ _ (did-slot n 0 state out _ _ _ _ _ _ w place s state₁ e) [] state₂ h a used r i f q
+stores : (state rx store out : List ℕ) (h : Header) → h ≡ dropped (stateOf state .header) → (place : ℕ) (s : ChannelSlot) (a : Answer) (used : ℕ) (r : Reply) (state' : List ℕ)
+    → state' ≡ putHeader (putSlot state place s) h → r ≡ record { answer = a; used = used; written = 0 }
+    → Leaves (agreedIn state) (ends (then (starts state rx store) (slotTo place s ∷ []) []) a used []) 0 state out [] r state' rx store out []
+stores state rx store out h i place s a used r state' f q =
+    let n = agreedIn state in
+    let w = did-begun n 0 state out (dropped (stateOf state .header)) (lentOf state rx store) (omega arith) in
+    did-stops n 0 state out _ _ _ _ _ _ (did-slot n 0 state out _ _ _ _ _ _ w place s (putSlot state place s) refl) [] state' h a used r i f q
 
 -- ---- sending
 
@@ -112,12 +106,12 @@ module _ (state out bytes : List ℕ) (ch : ChannelId) (h : Header) (g : Sends s
         (untouched-leaves agreed lent OutShort state out [] r q))
 
     -- it does
-    pub send-sent : (part : List ℕ) (ids : ChannelIds) (p : RxPolicy) (t : ChannelSlot) (end : ℕ) (r : Reply) (out' state₁ state₂ : List ℕ) → 24 + len ≤ length out → part ≡ take len bytes
+    pub send-sent : (part : List ℕ) (ids : ChannelIds) (p : RxPolicy) (t : ChannelSlot) (end : ℕ) (r : Reply) (out' state₂ : List ℕ) → 24 + len ≤ length out → part ≡ take len bytes
         → ids ≡ idsIn s → Puts out 0 (frameBytes (h .negotiated) (writeFrame ids part)) end out' → p ≡ policyOf (h .negotiated) → t ≡ spentOf s p len
-        → state₁ ≡ putSlot state (ch .slot) t → state₂ ≡ putHeader state₁ h → r ≡ record { answer = Written len; used = used; written = end }
+        → state₂ ≡ putHeader (putSlot state (ch .slot) t) h → r ≡ record { answer = Written len; used = used; written = end }
         → Leaves agreed (sendSome lent ch (length out) bytes used (starts state rx store) s (sendLen lent bytes most)) 0 state out [] r state₂ rx store out' []
     unfolding sendSome framesBytes flat frameBytes
-    send-sent part ids p t end r out' state₁ state₂ k c d u x y z f q =
+    send-sent part ids p t end r out' state₂ k c d u x y f q =
         let hd = dropped (stateOf state .header) in
         let w = did-begun agreed 0 state out hd lent (omega arith) in
         let frame = writeFrame (idsIn s) (take len bytes) in
@@ -129,7 +123,7 @@ module _ (state out bytes : List ℕ) (ch : ChannelId) (h : Header) (g : Sends s
         let j = length-take len bytes in
         let o = ap (λ (b : List ℕ). length b) (one-frame agreed frame) in
         let spent : t ≡ spentOf s (policyOf agreed) len = y ∙ ap (λ (a : RxPolicy). spentOf s a len) (x ∙ ap (λ (a : Header). policyOf (a .negotiated)) (g .header)) in
-        let w₁ = did-then agreed 0 state out _ _ _ _ _ _ w (slotTo (ch .slot) (spentOf s (policyOf agreed) len) ∷ []) (frame ∷ []) state₁ out' end (z ∙ ap (putSlot state (ch .slot)) spent)
+        let w₁ = did-then agreed 0 state out _ _ _ _ _ _ w (slotTo (ch .slot) (spentOf s (policyOf agreed) len) ∷ []) (frame ∷ []) (putSlot state (ch .slot) t) out' end (ap (putSlot state (ch .slot)) spent)
         (puts-one agreed frame out out' 0 end u₁) (omega arith) in
         by-len r state₂ out'
         (subst (λ (a : Outcome). Leaves agreed a 0 state out [] r state₂ rx store out' []) (sym (cond-false _ _ _ (le-ltb (length out) (0 + 24 + len) (omega arith))))
@@ -142,13 +136,13 @@ module _ (state out bytes : List ℕ) (ch : ChannelId) (h : Header) (g : Sends s
   -- ---- the turn after an OKAY
 
   module _ (closed : Bool) (c : closed ≡ isClosed (s .state)) (rx store : List ℕ) where
-    pub again-closed : (r : Reply) (state₁ state₂ : List ℕ) → closed ≡ true → state₁ ≡ putSlot state (ch .slot) s → state₂ ≡ putHeader state₁ h
+    pub again-closed : (r : Reply) (state₂ : List ℕ) → closed ≡ true → state₂ ≡ putHeader (putSlot state (ch .slot) s) h
         → r ≡ record { answer = Refused ChannelClosed; used = used; written = 0 }
         → Leaves agreed (sendAgain (lentOf state rx store) ch (length out) bytes used (starts state rx store) s) 0 state out [] r state₂ rx store out []
     unfolding sendAgain
-    again-closed r state₁ state₂ t e f q =
+    again-closed r state₂ t f q =
         subst (λ (o : Outcome). Leaves agreed o 0 state out [] r state₂ rx store out []) (sym (cond-true _ _ _ (sym c ∙ t)))
-        (stores state rx store out h (g .header) (ch .slot) s (Refused ChannelClosed) used r state₁ state₂ e f q)
+        (stores state rx store out h (g .header) (ch .slot) s (Refused ChannelClosed) used r state₂ f q)
 
     module _ (t : closed ≡ false) (b : Budget) (p : RxPolicy) (y : p ≡ policyOf (h .negotiated)) (u : b ≡ budgetOf s p) where
       again-by : (x : Budget) → b ≡ x → sendAgain (lentOf state rx store) ch (length out) bytes used (starts state rx store) s ≡ sendBy (lentOf state rx store) ch (length out) bytes used (starts state rx store) s x
@@ -161,13 +155,13 @@ module _ (state out bytes : List ℕ) (ch : ChannelId) (h : Header) (g : Sends s
       unfolding sendBy
       again-sends most r state' out' m = subst (λ (o : Outcome). Leaves agreed o 0 state out [] r state' rx store out' []) (sym (again-by (Most most) m))
 
-      pub again-waits : (r : Reply) (state₁ state₂ : List ℕ) → b ≡ NoBudget → state₁ ≡ putSlot state (ch .slot) s → state₂ ≡ putHeader state₁ h
+      pub again-waits : (r : Reply) (state₂ : List ℕ) → b ≡ NoBudget → state₂ ≡ putHeader (putSlot state (ch .slot) s) h
           → r ≡ record { answer = Waiting; used = used; written = 0 }
           → Leaves agreed (sendAgain (lentOf state rx store) ch (length out) bytes used (starts state rx store) s) 0 state out [] r state₂ rx store out []
       unfolding sendBy
-      again-waits r state₁ state₂ m e f q =
+      again-waits r state₂ m f q =
           subst (λ (o : Outcome). Leaves agreed o 0 state out [] r state₂ rx store out []) (sym (again-by NoBudget m))
-          (stores state rx store out h (g .header) (ch .slot) s Waiting used r state₁ state₂ e f q)
+          (stores state rx store out h (g .header) (ch .slot) s Waiting used r state₂ f q)
 
   -- ---- the channel's own OKAY
 
@@ -175,19 +169,19 @@ module _ (state out bytes : List ℕ) (ch : ChannelId) (h : Header) (g : Sends s
     readied-is : (z : Readied) → x ≡ z → z ≡ readyOf s payload (policyOf agreed)
     readied-is z f = sym f ∙ e ∙ ap (λ (a : RxPolicy). readyOf s payload a) (y ∙ ap (λ (a : Header). policyOf (a .negotiated)) (g .header))
 
-    pub ready-again : (t : ChannelSlot) (r : Reply) (state' out' : List ℕ) → x ≡ Slot t
+    pub ready-again : (t : ChannelSlot) (r : Reply) (state' out' : List ℕ) → x ≡ ReadySlot t
         → Leaves agreed (sendAgain (lentOf state rx store) ch (length out) bytes used (starts state rx store) t) 0 state out [] r state' rx store out' []
         → Leaves agreed (writeReadied (lentOf state rx store) ch (length out) bytes used (starts state rx store) s (readyOf s payload (policy (lentOf state rx store)))) 0 state out [] r state' rx store out' []
     unfolding writeReadied
     ready-again t r state' out' f =
-        subst (λ (z : Readied). Leaves agreed (writeReadied (lentOf state rx store) ch (length out) bytes used (starts state rx store) s z) 0 state out [] r state' rx store out' []) (readied-is (Slot t) f)
+        subst (λ (z : Readied). Leaves agreed (writeReadied (lentOf state rx store) ch (length out) bytes used (starts state rx store) s z) 0 state out [] r state' rx store out' []) (readied-is (ReadySlot t) f)
 
     pub ready-short : (r : Reply) (state' : List ℕ) → x ≡ Short → state' ≡ putHeader state h → r ≡ record { answer = Refused ShortReadyPayload; used = used; written = 0 }
         → Leaves agreed (writeReadied (lentOf state rx store) ch (length out) bytes used (starts state rx store) s (readyOf s payload (policy (lentOf state rx store)))) 0 state out [] r state' rx store out []
     unfolding writeReadied
     ready-short r state' f d q =
         subst (λ (z : Readied). Leaves agreed (writeReadied (lentOf state rx store) ch (length out) bytes used (starts state rx store) s z) 0 state out [] r state' rx store out []) (readied-is Short f)
-        (stops state rx store out h (g .header) (Refused ShortReadyPayload) used r state' d q)
+        (stops-leaves state rx store h (g .header) out [] _ (Refused ShortReadyPayload) used r state' refl d q)
 
 -- ---- a channel that was found
 
@@ -247,12 +241,12 @@ module _ (state rx store out received bytes : List ℕ) (ch : ChannelId) (h : He
       closed-is = c ∙ ap (λ (x : ChannelIds). closedBy x p) d
 
       -- a CLSE that names it
-      pub packet-closes : (t : ChannelSlot) (r : Reply) (state₁ state₂ : List ℕ) → closed ≡ true → t ≡ closedSlot s → state₁ ≡ putSlot state (ch .slot) t → state₂ ≡ putHeader state₁ h
+      pub packet-closes : (t : ChannelSlot) (r : Reply) (state₂ : List ℕ) → closed ≡ true → t ≡ closedSlot s → state₂ ≡ putHeader (putSlot state (ch .slot) t) h
           → r ≡ record { answer = Refused ChannelClosed; used = frameLen p; written = 0 } → ended r state₂ rx store out whole
       unfolding writeBy
-      packet-closes t r state₁ state₂ u z a e b =
+      packet-closes t r state₂ u z e b =
           subst (ended r state₂ rx store out) (sym (cond-false _ _ _ (sym o ∙ f) ∙ cond-true _ _ _ (sym closed-is ∙ u)))
-          (stores state rx store out h (k .finds .header) (ch .slot) (closedSlot s) (Refused ChannelClosed) (frameLen p) r state₁ state₂ (a ∙ ap (putSlot state (ch .slot)) z) e b)
+          (stores state rx store out h (k .finds .header) (ch .slot) (closedSlot s) (Refused ChannelClosed) (frameLen p) r state₂ (e ∙ ap (λ (x : ChannelSlot). putHeader (putSlot state (ch .slot) x) h) z) b)
 
       -- any other
       module _ (v : closed ≡ false) (y : Bytes received) where
@@ -343,24 +337,24 @@ module _ (state rx store out received bytes : List ℕ) (ch : ChannelId) (h : He
   unfolding writeFirst
   wait-gone r state' t e q =
       subst (λ (o : Outcome). Leaves (agreedIn state) o 0 state out [] r state' rx store out []) (sym (cond-false (s .«has_remote») _ _ t))
-      (stops state rx store out h i (Refused ChannelClosed) 0 r state' e q)
+      (stops-leaves state rx store h i out [] _ (Refused ChannelClosed) 0 r state' refl e q)
 
   module _ (got : Received) (d : got ≡ receivedBy (decodeOf received (h .negotiated .config .«max_payload»))) where
     pub wait-received : (p : Packet) → got ≡ PacketIs p → receivedOf (lentOf state rx store) received ≡ PacketIs p
-    wait-received p f = sym (received-is state rx store out h i received got d) ∙ f
+    wait-received p f = sym (received-is state rx store h (ap (λ (x : Header). x .negotiated) i) received got d) ∙ f
 
     first-by : (x : Received) → s .«has_remote» ≡ true → got ≡ x → first ≡ writeBy (lentOf state rx store) ch (length out) bytes (starts state rx store) s received x
     unfolding writeFirst
     first-by x t f =
         cond-true (s .«has_remote») _ _ t
-        ∙ ap (writeBy (lentOf state rx store) ch (length out) bytes (starts state rx store) s received) (sym (received-is state rx store out h i received got d) ∙ f)
+        ∙ ap (writeBy (lentOf state rx store) ch (length out) bytes (starts state rx store) s received) (sym (received-is state rx store h (ap (λ (x : Header). x .negotiated) i) received got d) ∙ f)
 
     pub wait-stops : (a : Answer) (used : ℕ) (r : Reply) (state' : List ℕ) → s .«has_remote» ≡ true → got ≡ Stop a used → state' ≡ putHeader state h
         → r ≡ record { answer = a; used = used; written = 0 } → Leaves (agreedIn state) first 0 state out [] r state' rx store out []
     unfolding writeBy
     wait-stops a used r state' t f e q =
         subst (λ (o : Outcome). Leaves (agreedIn state) o 0 state out [] r state' rx store out []) (sym (first-by (Stop a used) t f))
-        (stops state rx store out h i a used r state' e q)
+        (stops-leaves state rx store h i out [] _ a used r state' refl e q)
 
     pub wait-packet : (p : Packet) (r : Reply) (state' rx' store' out' : List ℕ) → s .«has_remote» ≡ true → got ≡ PacketIs p
         → Leaves (agreedIn state) (writeBy (lentOf state rx store) ch (length out) bytes (starts state rx store) s received (PacketIs p)) 0 state out [] r state' rx' store' out' []
@@ -380,7 +374,7 @@ module _ (state rx store out received bytes : List ℕ) (ch : ChannelId) (h : He
   unfolding writeOn
   on-closed r state' t e q =
       subst (λ (o : Outcome). Leaves (agreedIn state) o 0 state out [] r state' rx store out []) (sym (cond-true _ _ _ (sym c ∙ t)))
-      (stops state rx store out h (k .header) (Refused ChannelClosed) 0 r state' e q)
+      (stops-leaves state rx store h (k .header) out [] _ (Refused ChannelClosed) 0 r state' refl e q)
 
   module _ (t : closed ≡ false) (b : Budget) (p : RxPolicy) (y : p ≡ policyOf (h .negotiated)) (u : b ≡ budgetOf s p) where
     may-send : (x : Budget) → b ≡ x → budgetOf s (policyOf (agreedIn state)) ≡ x
@@ -415,45 +409,31 @@ module _ (state rx store out received bytes : List ℕ) (ch : ChannelId) (h : He
   unfolding writeStep
   step-none r state' z e q =
       subst (λ (o : Outcome). Leaves (agreedIn state) o 0 state out [] r state' rx store out []) (sym (cond-true _ _ _ (eq-eqb (length bytes) 0 z)))
-      (stops state rx store out h i (Written 0) 0 r state' e q)
+      (stops-leaves state rx store h i out [] _ (Written 0) 0 r state' refl e q)
 
-  pub step-most : h .negotiated .config .channels ≤ 64
-  step-most =
-      let most = admits-facts state rx store (length out) g .limits .within .most-channels in
-      subst (λ (x : Header). x .negotiated .config .channels ≤ 64) (sym i) most
-
-  module _ (there : Bool) (t : there ≡ thereIn (h .negotiated .config .channels) (stateOf state .slots) ch) where
-    there-is : isThere (lentOf state rx store) ch ≡ there
-    unfolding isThere
-    there-is = sym (t ∙ ap (λ (x : Header). thereIn (x .negotiated .config .channels) (stateOf state .slots) ch) i)
-
-    pub step-place : there ≡ true → ch .slot < 64
-    step-place u = finds-place state rx store (length out) ch h (slotFor (lentOf state rx store) ch) (record { admits = g; header = i; there = there-is ∙ u; slot = refl })
-
-    pub step-finds : (s : ChannelSlot) → there ≡ true → s ≡ slotAt state (ch .slot) → Finds state rx store (length out) ch h s
-    unfolding slotFor slotIn
-    step-finds s u e = record { admits = g; header = i; there = there-is ∙ u; slot = e ∙ sym (slot-in state (ch .slot) emptySlot (step-place u)) }
+  module _ (found : Found) (t : found ≡ foundIn (h .negotiated .config .channels) (stateOf state .slots) ch) where
+    pub step-finds : (s : ChannelSlot) → found ≡ Slot s → Finds state rx store (length out) ch h s
+    step-finds s f = record { admits = g; header = i; there = found-there state rx store h i ch found t s f; slot = found-slot state rx store h i ch found t s f }
 
     module _ (z : length bytes ≡ 0 → ⊥) where
-      step-some : (o : Outcome) → cond there (writeOn (lentOf state rx store) ch (length out) bytes received (starts state rx store) (slotFor (lentOf state rx store) ch))
-          (ends (starts state rx store) (Refused ChannelClosed) 0 []) ≡ o → step ≡ o
+      step-some : (there : Bool) → isThere (lentOf state rx store) ch ≡ there → step
+          ≡ cond there (writeOn (lentOf state rx store) ch (length out) bytes received (starts state rx store) (slotFor (lentOf state rx store) ch))
+          (ends (starts state rx store) (Refused ChannelClosed) 0 [])
       unfolding writeStep
-      step-some o e =
+      step-some there e =
           cond-false _ _ _ (ne-eqb (length bytes) 0 z)
           ∙ ap (λ (b : Bool). cond b (writeOn (lentOf state rx store) ch (length out) bytes received (starts state rx store) (slotFor (lentOf state rx store) ch))
-          (ends (starts state rx store) (Refused ChannelClosed) 0 [])) there-is ∙ e
+          (ends (starts state rx store) (Refused ChannelClosed) 0 [])) e
 
-      pub step-there : (s : ChannelSlot) (r : Reply) (state' rx' store' out' : List ℕ) → there ≡ true → s ≡ slotAt state (ch .slot)
+      pub step-there : (s : ChannelSlot) (r : Reply) (state' rx' store' out' : List ℕ) → found ≡ Slot s
           → Leaves (agreedIn state) (writeOn (lentOf state rx store) ch (length out) bytes received (starts state rx store) s) 0 state out [] r state' rx' store' out' []
           → Leaves (agreedIn state) step 0 state out [] r state' rx' store' out' []
-      step-there s r state' rx' store' out' u e k =
-          subst (λ (o : Outcome). Leaves (agreedIn state) o 0 state out [] r state' rx' store' out' [])
-          (sym (step-some _ (cond-true there _ _ u)))
+      step-there s r state' rx' store' out' f k =
+          subst (λ (o : Outcome). Leaves (agreedIn state) o 0 state out [] r state' rx' store' out' []) (sym (step-some true (step-finds s f .there)))
           (subst (λ (x : ChannelSlot). Leaves (agreedIn state) (writeOn (lentOf state rx store) ch (length out) bytes received (starts state rx store) x) 0 state out [] r state' rx' store' out' [])
-          (step-finds s u e .slot) k)
+          (step-finds s f .slot) k)
 
-      pub step-gone : (r : Reply) (state' : List ℕ) → there ≡ false → state' ≡ putHeader state h → r ≡ record { answer = Refused ChannelClosed; used = 0; written = 0 }
+      pub step-gone : (r : Reply) (state' : List ℕ) → found ≡ Nothing → state' ≡ putHeader state h → r ≡ record { answer = Refused ChannelClosed; used = 0; written = 0 }
           → Leaves (agreedIn state) step 0 state out [] r state' rx store out []
-      step-gone r state' u e q =
-          subst (λ (o : Outcome). Leaves (agreedIn state) o 0 state out [] r state' rx store out []) (sym (step-some _ (cond-false there _ _ u)))
-          (stops state rx store out h i (Refused ChannelClosed) 0 r state' e q)
+      step-gone r state' f e q =
+          stops-leaves state rx store h i out [] _ (Refused ChannelClosed) 0 r state' (step-some false (found-none state rx store h i ch found t f)) e q

@@ -2,15 +2,18 @@
 use calls::Reply;
 use calls::act::act_on;
 use calls::admit::Admitted;
+use calls::admit::Found;
 use calls::admit::admit;
 use calls::admit::drop_waiting;
-use calls::admit::is_there;
+use calls::admit::get;
 use calls::admit::refused;
 use calls::frames::ids_in;
 use calls::frames::put_write;
+use calls::recv::is_own;
 use calls::recv::is_ready;
 use calls::recv::recv_pkt;
 use calls::recv::unless_fault;
+use calls::store::store_slot;
 use connection::Answer;
 use connection::Received;
 use connection::Refusal;
@@ -18,25 +21,20 @@ use protocol::packet::Packet;
 use slot::Budget;
 use slot::ChannelSlot;
 use slot::Readied;
-use slot::ids::LocalId;
 use slot::is_closed;
 use state::Header;
 use state::put_header;
-use state::put_slot;
-use state::slot_at;
 use table::ChannelId;
 ghost use mathlib.Core.Path.{_≡_};
-ghost use mathlib.Core.Bool.{_&&_};
 ghost use mathlib.Core.List.{List, []};
 ghost use Prim.Native.Nat.{ℕ, min, max};
-ghost use lib.Dec.{eqb};
 ghost use lib.ListN.{length};
 ghost use Rattle.slot.specs.declared.Budget.the-variants.{Nothing as NoBudget};
 ghost use Rattle.slot.specs.Slot.{readyOf};
 ghost use Rattle.state.specs.State.{stateOf};
 ghost use Rattle.state.specs.Valid.{isWhole};
 ghost use Rattle.connection.specs.declared.Received.the-variants.{Packet as PacketIs};
-ghost use Rattle.connection.specs.Calls.{dropped, policy, isReady, receivedOf, sendLen, sendSome, sendAgain, writeReadied, writeBy, writeFirst, writeOn, writeStep, writeOf};
+ghost use Rattle.connection.specs.Calls.{dropped, policy, receivedOf, sendLen, sendSome, sendAgain, writeReadied, writeBy, writeFirst, writeOn, writeStep, writeOf};
 ghost use Rattle.calls.specs.Promise.{lentOf, agreedIn, Leaves, Admits};
 ghost use Rattle.writing.specs.Writing.{starts, Sends, Finds, Waits};
 
@@ -71,8 +69,7 @@ fn send_some(
         return refused(Refusal::OutShort);
     }
     let end = put_write(out, 0, n, ids_in(s), &bytes[0..len]);
-    put_slot(state, ch.slot, s.spend(len, n.rx_policy()));
-    put_header(state, h);
+    store_slot(state, ch.slot, s.spend(len, n.rx_policy()), h);
     Reply {
         answer: Answer::Written(len),
         used,
@@ -95,8 +92,7 @@ fn send_again(
 {
     let condition = s.state;
     if is_closed(condition) {
-        put_slot(state, ch.slot, s);
-        put_header(state, h);
+        store_slot(state, ch.slot, s, h);
         return Reply {
             answer: Answer::Refused(Refusal::ChannelClosed),
             used,
@@ -108,8 +104,7 @@ fn send_again(
     match budget {
         Budget::Bytes(most) => send_some(state, ch, s, bytes, most, used, out, h),
         Budget::Nothing => {
-            put_slot(state, ch.slot, s);
-            put_header(state, h);
+            store_slot(state, ch.slot, s, h);
             Reply {
                 answer: Answer::Waiting,
                 used,
@@ -148,17 +143,6 @@ fn write_ready(
     }
 }
 
-// Whether a packet is an OKAY of the channel with our number `local`.
-fn is_own_ready(packet: Packet, local: LocalId) -> bool
-    ensures { λ r. ⌜ r ≡ (isReady (packet .command) && eqb (packet .arg1) (local .0)) ⌝ }
-{
-    let command = packet.command;
-    if is_ready(command) {
-        return packet.arg1 == local.0;
-    }
-    false
-}
-
 // A packet that came while nothing may be sent. One that is not the channel's own leaves it so: there is no second turn.
 fn write_packet(
     state: &mut [u8],
@@ -177,13 +161,13 @@ fn write_packet(
 {
     let payload = Packet::payload(received, packet.data_length);
     let used = 24 + packet.data_length;
+    let command = packet.command;
     let local = s.local;
-    if is_own_ready(packet, local) {
+    if is_own(is_ready(command), packet.arg1, local) {
         return write_ready(state, ch, s, bytes, payload, used, out, h);
     }
     if ids_in(s).closed_by(packet) {
-        put_slot(state, ch.slot, s.apply_close());
-        put_header(state, h);
+        store_slot(state, ch.slot, s.apply_close(), h);
         return Reply {
             answer: Answer::Refused(Refusal::ChannelClosed),
             used,
@@ -306,15 +290,13 @@ fn write_step(
     }
     let n = h.negotiated;
     let config = n.config;
-    if is_there(state, config.channels, ch) {
-        let s = slot_at(state, ch.slot);
-        return write_channel(state, rx, store, ch, s, bytes, received, out, h);
-    }
-    put_header(state, h);
-    Reply {
-        answer: Answer::Refused(Refusal::ChannelClosed),
-        used: 0,
-        written: 0,
+    let found = get(state, config.channels, ch);
+    match found {
+        Found::Slot(s) => write_channel(state, rx, store, ch, s, bytes, received, out, h),
+        Found::Nothing => {
+            put_header(state, h);
+            refused(Refusal::ChannelClosed)
+        }
     }
 }
 

@@ -10,7 +10,7 @@ use Rattle.adb.proofs.adb_settle.Reads as reads
 use Rattle.adb.proofs.adb_settle.Lts as lts
 use Rattle.adb.proofs.answered.Reads as answered-reads
 use Rattle.adb.proofs.is_short.Reads as is-short-reads
-use Rattle.reading.proofs.transfer.settle.Reads as settle-reads
+use Rattle.transfer.proofs.settle.Reads as settle-reads
 
 -- src/lib.rt:191:8
 is-short-requires : tie.Need-is-short-requires

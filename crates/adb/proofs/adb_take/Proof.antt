@@ -10,7 +10,7 @@ use Rattle.adb.proofs.adb_take.Reads as reads
 use Rattle.adb.proofs.adb_take.Lts as lts
 use Rattle.adb.proofs.answered.Reads as answered-reads
 use Rattle.adb.proofs.is_short.Reads as is-short-reads
-use Rattle.reading.proofs.transfer.take.Reads as take-reads
+use Rattle.transfer.proofs.take.Reads as take-reads
 
 -- src/lib.rt:215:8
 is-short-requires : tie.Need-is-short-requires

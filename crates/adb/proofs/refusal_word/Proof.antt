@@ -9,10 +9,6 @@ use Rattle.adb.proofs.refusal_word.Lts as lts
 enum-known-refusal : tie.Need-enum-known-refusal
 enum-known-refusal c = search needs
 
--- src/lib.rt:62:42
-cast-result : tie.Need-cast-result
-cast-result c = search needs
-
 -- src/lib.rt:63:34
 enum-told : tie.Need-enum-told
 enum-told c = search needs
@@ -131,7 +127,6 @@ refusal-word-spec =
     tie.close
     (tie.spec
     enum-known-refusal
-    cast-result
     enum-told
     enum-told-2
     enum-told-3

@@ -6,12 +6,10 @@ use Rattle.call_vectors.proofs.replay.Statement.{statement}
 use Rattle.call_vectors.proofs.replay.Tie as tie
 
 abbrev Inv-loop : tie.InvT-loop
-Inv-loop script state₀ rx₀ opens₀ data₀ received₀ out₀ buf₀ at₀ state rx opens «data» received out buf at =
-    (at ≤ length script) × (length state ≡ length state₀) × (length rx ≡ length rx₀) × (length opens ≡ length opens₀) × (length «data» ≡ length data₀) × (length received ≡ length received₀) × (length out ≡ length out₀) × (length buf ≡ length buf₀)
+Inv-loop script state₀ rx₀ opens₀ at₀ state rx opens at = (at ≤ length script) × (length state ≡ length state₀) × (length rx ≡ length rx₀) × (length opens ≡ length opens₀)
 
 abbrev μ-loop : tie.MeasureT-loop
-μ-loop script state₀ rx₀ opens₀ data₀ received₀ out₀ buf₀ at₀ state rx opens «data» received out buf at =
-    length script - at
+μ-loop script state₀ rx₀ opens₀ at₀ state rx opens at = length script - at
 
 loop-holds : tie.Need-loop-holds Inv-loop μ-loop
 loop-holds c = search needs
@@ -40,18 +38,6 @@ same-length-2 c = search needs
 same-length-3 : tie.Need-same-length-3 Inv-loop μ-loop
 same-length-3 c = search needs
 
-same-length-4 : tie.Need-same-length-4 Inv-loop μ-loop
-same-length-4 c = search needs
-
-same-length-5 : tie.Need-same-length-5 Inv-loop μ-loop
-same-length-5 c = search needs
-
-same-length-6 : tie.Need-same-length-6 Inv-loop μ-loop
-same-length-6 c = search needs
-
-same-length-7 : tie.Need-same-length-7 Inv-loop μ-loop
-same-length-7 c = search needs
-
 returns : tie.Need-returns Inv-loop μ-loop
 returns c = search needs
 
@@ -64,26 +50,14 @@ loop-less c = search needs
 loop-again : tie.Need-loop-again Inv-loop μ-loop
 loop-again c = search needs
 
-same-length-8 : tie.Need-same-length-8 Inv-loop μ-loop
-same-length-8 c = search needs
+same-length-4 : tie.Need-same-length-4 Inv-loop μ-loop
+same-length-4 c = search needs
 
-same-length-9 : tie.Need-same-length-9 Inv-loop μ-loop
-same-length-9 c = search needs
+same-length-5 : tie.Need-same-length-5 Inv-loop μ-loop
+same-length-5 c = search needs
 
-same-length-10 : tie.Need-same-length-10 Inv-loop μ-loop
-same-length-10 c = search needs
-
-same-length-11 : tie.Need-same-length-11 Inv-loop μ-loop
-same-length-11 c = search needs
-
-same-length-12 : tie.Need-same-length-12 Inv-loop μ-loop
-same-length-12 c = search needs
-
-same-length-13 : tie.Need-same-length-13 Inv-loop μ-loop
-same-length-13 c = search needs
-
-same-length-14 : tie.Need-same-length-14 Inv-loop μ-loop
-same-length-14 c = search needs
+same-length-6 : tie.Need-same-length-6 Inv-loop μ-loop
+same-length-6 c = search needs
 
 returns-2 : tie.Need-returns-2 Inv-loop μ-loop
 returns-2 c = search needs
@@ -103,19 +77,11 @@ replay-spec =
     same-length
     same-length-2
     same-length-3
-    same-length-4
-    same-length-5
-    same-length-6
-    same-length-7
     returns
     add-at
     loop-less
     loop-again
-    same-length-8
-    same-length-9
-    same-length-10
-    same-length-11
-    same-length-12
-    same-length-13
-    same-length-14
+    same-length-4
+    same-length-5
+    same-length-6
     returns-2)

@@ -6,10 +6,10 @@ use Rattle.slot_vectors.proofs.replay.Statement.{statement}
 use Rattle.slot_vectors.proofs.replay.Tie as tie
 
 abbrev Inv-loop : tie.InvT-loop
-Inv-loop script share₀ received₀ room₀ s₀ at₀ share received room s at = (at ≤ length script) × (length share ≡ length share₀) × (length received ≡ length received₀) × (length room ≡ length room₀)
+Inv-loop script share₀ s₀ at₀ share s at = (at ≤ length script) × (length share ≡ length share₀)
 
 abbrev μ-loop : tie.MeasureT-loop
-μ-loop script share₀ received₀ room₀ s₀ at₀ share received room s at = length script - at
+μ-loop script share₀ s₀ at₀ share s at = length script - at
 
 loop-holds : tie.Need-loop-holds Inv-loop μ-loop
 loop-holds c = search needs
@@ -32,12 +32,6 @@ answer-requires c κs = search needs
 same-length : tie.Need-same-length Inv-loop μ-loop
 same-length c = search needs
 
-same-length-2 : tie.Need-same-length-2 Inv-loop μ-loop
-same-length-2 c = search needs
-
-same-length-3 : tie.Need-same-length-3 Inv-loop μ-loop
-same-length-3 c = search needs
-
 returns : tie.Need-returns Inv-loop μ-loop
 returns c = search needs
 
@@ -50,14 +44,8 @@ loop-less c = search needs
 loop-again : tie.Need-loop-again Inv-loop μ-loop
 loop-again c = search needs
 
-same-length-4 : tie.Need-same-length-4 Inv-loop μ-loop
-same-length-4 c = search needs
-
-same-length-5 : tie.Need-same-length-5 Inv-loop μ-loop
-same-length-5 c = search needs
-
-same-length-6 : tie.Need-same-length-6 Inv-loop μ-loop
-same-length-6 c = search needs
+same-length-2 : tie.Need-same-length-2 Inv-loop μ-loop
+same-length-2 c = search needs
 
 returns-2 : tie.Need-returns-2 Inv-loop μ-loop
 returns-2 c = search needs
@@ -75,13 +63,9 @@ replay-spec =
     part-answer-end
     answer-requires
     same-length
-    same-length-2
-    same-length-3
     returns
     add-at
     loop-less
     loop-again
-    same-length-4
-    same-length-5
-    same-length-6
+    same-length-2
     returns-2)

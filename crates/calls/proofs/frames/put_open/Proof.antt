@@ -6,7 +6,7 @@ use Rattle.calls.proofs.frames.put_open.Reads as reads
 use Rattle.calls.proofs.frames.put_open.Lts as lts
 use Rattle.config.proofs.negotiated.Negotiated.advertised_credit.Reads as advertised-credit-reads
 use Rattle.config.proofs.negotiated.Negotiated.checksum.Reads as checksum-reads
-use Rattle.protocol.proofs.packet.Packet.put_at.Reads as put-at-reads
+use Rattle.wire.proofs.send_open.Reads as send-open-reads
 
 -- src/frames.rt:74:9
 advertised-credit-requires : tie.Need-advertised-credit-requires
@@ -17,8 +17,8 @@ checksum-requires : tie.Need-checksum-requires
 checksum-requires c κs = search needs
 
 -- src/frames.rt:69:5
-put-at-requires : tie.Need-put-at-requires
-put-at-requires c κs = search needs
+send-open-requires : tie.Need-send-open-requires
+send-open-requires c κs = search needs
 
 -- src/frames.rt:59:1
 same-length : tie.Need-same-length
@@ -27,9 +27,9 @@ same-length c = search needs
 -- src/frames.rt:59:1
 returns : tie.Need-returns
 unfolding frameBytes
-returns c = rw (c .before .before .before .checksum .ensures, c .before .before .before .before .advertised-credit .ensures) at (c .before .before .put-at .ensures)
+returns c = rw (c .before .before .before .checksum .ensures, c .before .before .before .before .advertised-credit .ensures) at (c .before .before .send-open .ensures)
 
 pub put-open-spec : {M : Type 1} → statement M
 put-open-spec =
     tie.close
-    (tie.spec advertised-credit-requires checksum-requires put-at-requires same-length returns)
+    (tie.spec advertised-credit-requires checksum-requires send-open-requires same-length returns)

@@ -5,15 +5,15 @@ use Rattle.calls.proofs.frames.put_write.Tie as tie
 use Rattle.calls.proofs.frames.put_write.Reads as reads
 use Rattle.calls.proofs.frames.put_write.Lts as lts
 use Rattle.config.proofs.negotiated.Negotiated.checksum.Reads as checksum-reads
-use Rattle.protocol.proofs.packet.Packet.put_at.Reads as put-at-reads
+use Rattle.wire.proofs.send_write.Reads as send-write-reads
 
 -- src/frames.rt:85:71
 checksum-requires : tie.Need-checksum-requires
 checksum-requires c κs = search needs
 
 -- src/frames.rt:85:5
-put-at-requires : tie.Need-put-at-requires
-put-at-requires c κs = search needs
+send-write-requires : tie.Need-send-write-requires
+send-write-requires c κs = search needs
 
 -- src/frames.rt:73:1
 same-length : tie.Need-same-length
@@ -22,7 +22,7 @@ same-length c = search needs
 -- src/frames.rt:73:1
 returns : tie.Need-returns
 unfolding frameBytes
-returns c = rw (c .before .before .before .checksum .ensures) at (c .before .before .put-at .ensures)
+returns c = rw (c .before .before .before .checksum .ensures) at (c .before .before .send-write .ensures)
 
 pub put-write-spec : {M : Type 1} → statement M
-put-write-spec = tie.close (tie.spec checksum-requires put-at-requires same-length returns)
+put-write-spec = tie.close (tie.spec checksum-requires send-write-requires same-length returns)

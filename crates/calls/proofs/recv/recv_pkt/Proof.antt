@@ -19,7 +19,9 @@ enum-told c = search needs
 enum-known-decoded : tie.Need-enum-known-decoded
 enum-known-decoded c = search needs
 
--- src/recv.rt:26:65
+cast-wide : tie.Need-cast-wide
+cast-wide c = search needs
+
 enum-told-2 : tie.Need-enum-told-2
 enum-told-2 c = search needs
 
@@ -72,6 +74,7 @@ recv-pkt-spec =
     decode-requires
     enum-told
     enum-known-decoded
+    cast-wide
     enum-told-2
     enum-told-3
     enum-known-decoded-2

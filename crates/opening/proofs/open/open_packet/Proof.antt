@@ -8,7 +8,7 @@ use Rattle.opening.proofs.open.open_packet.Reads as reads
 use Rattle.opening.proofs.open.open_packet.Lts as lts
 use Rattle.calls.proofs.admit.drop_waiting.Reads as drop-waiting-reads
 use Rattle.opening.proofs.open.close_open.Reads as close-open-reads
-use Rattle.opening.proofs.open.is_own.Reads as is-own-reads
+use Rattle.calls.proofs.recv.is_own.Reads as is-own-reads
 use Rattle.opening.proofs.open.open_act.Reads as open-act-reads
 use Rattle.opening.proofs.open.open_ready.Reads as open-ready-reads
 use Rattle.opening.proofs.open.waited_for.Reads as waited-for-reads

@@ -13,7 +13,7 @@ use Rattle.config.proofs.negotiated.Negotiated.rx_policy.Reads as rx-policy-rea
 use Rattle.calls.proofs.admit.drop_waiting.Reads as drop-waiting-reads
 use Rattle.opening.proofs.open.close_open.Reads as close-open-reads
 use Rattle.opening.proofs.open.waited_for.Reads as waited-for-reads
-use Rattle.reading.proofs.transfer.store_slot.Reads as store-slot-reads
+use Rattle.calls.proofs.store.store_slot.Reads as store-slot-reads
 use Rattle.protocol.proofs.packet.Packet.payload.Reads as payload-reads
 use Rattle.slot.proofs.ChannelSlot.accept_open_ready.Reads as accept-open-ready-reads
 use Rattle.slot.proofs.ChannelSlot.opening.Reads as opening-reads

@@ -1,16 +1,20 @@
+use native.Mathlib.Omega.{arith}
 use Rattle.reading.proofs.ReadLaws.{replied, empty, again-waits}
 use borrow.Author.Needs.{needs}
 use Rattle.reading.proofs.read.read_again.Statement.{statement}
 use Rattle.reading.proofs.read.read_again.Tie as tie
 use Rattle.reading.proofs.read.read_again.Reads as reads
 use Rattle.reading.proofs.read.read_again.Lts as lts
-use Rattle.reading.proofs.transfer.store_slot.Reads as store-slot-reads
+use Rattle.calls.proofs.store.store_slot.Reads as store-slot-reads
 use Rattle.reading.proofs.read.take_buffered.Reads as take-buffered-reads
+use Rattle.state.proofs.slot_at.Reads as slot-at-reads
 use Rattle.calls.proofs.recv.unless_fault.Reads as unless-fault-reads
 
--- src/read.rt:129:9
+slot-at-requires : tie.Need-slot-at-requires
+slot-at-requires c κs = search needs
+
 take-buffered-requires : tie.Need-take-buffered-requires
-take-buffered-requires c κs = search needs
+take-buffered-requires c κs = (c .before .before .before .before .before .before .before .before .before .pre, c .before .before .before .slot-at .ensures)
 
 -- src/read.rt:131:24
 enum-known-tried : tie.Need-enum-known-tried
@@ -22,7 +26,7 @@ enum-known-tried-2 c = search needs
 
 -- src/read.rt:133:13
 store-slot-requires : tie.Need-store-slot-requires
-store-slot-requires c κs = search needs
+store-slot-requires c κs = (c .before .before .before .before .before .before .before .before .before .before .before .before .before .before .before .before .before .before .before .before .pre .place-fits, omega (arith, c .before .before .before .before .before .before .before .before .before .before .before .before .before .before .before .before .before .before .before .before .pre .state-fits, c .before .before .before .before .before .before .before .before .before .state .given))
 
 -- src/read.rt:135:25
 unless-fault-requires : tie.Need-unless-fault-requires
@@ -42,7 +46,7 @@ same-length-3 c = search needs
 
 -- src/read.rt:115:1
 returns : tie.Need-returns
-returns c = λ store. replied _ (c .before .before .before .before .before .before .before .before .before .before .before .before .before .before .before .before .before .args .h) (c .before .before .before .before .before .before .before .before .before .before .before .before .before .before .before .before .before .args .ch) _ (c .before .before .before .before .before .before .before .before .before .before .before .before .before .before .before .before .before .args .used) (c .before .before .before .before .before .before .before .before .before .before .before .before .before .before .before .before .before .args .fault) _ (c .before .before .before .before .before .before .before .before .before .before .before .before .before .before .before .before .before .args .at) _ _ _ (c .before .before .before .before .before .before .before .before .before .take-buffered .result) _ _ _ (c .before .before .before .before .before .before .before .before .before .take-buffered .ensures store) _ (c .before .tried .given .1) .1
+returns c = λ store. replied _ (c .before .before .before .before .before .before .before .before .before .before .before .before .before .before .before .before .before .before .before .args .h) (c .before .before .before .before .before .before .before .before .before .before .before .before .before .before .before .before .before .before .before .args .ch) _ (c .before .before .before .before .before .before .before .before .before .before .before .before .before .before .before .before .before .before .before .args .used) (c .before .before .before .before .before .before .before .before .before .before .before .before .before .before .before .before .before .before .before .args .fault) _ (c .before .before .before .before .before .before .before .before .before .before .before .before .before .before .before .before .before .before .before .args .at) _ _ _ (c .before .before .before .before .before .before .before .before .before .take-buffered .result) _ _ _ (c .before .before .before .before .before .before .before .before .before .take-buffered .ensures store) _ (c .before .tried .given .1) .1
 
 -- src/read.rt:115:1
 same-length-4 : tie.Need-same-length-4
@@ -58,12 +62,13 @@ same-length-6 c = search needs
 
 -- src/read.rt:115:1
 returns-2 : tie.Need-returns-2
-returns-2 c = λ store. again-waits (c .before .before .before .before .before .before .before .before .before .before .before .before .before .before .before .before .before .before .before .before .before .before .args .h) (c .before .before .before .before .before .before .before .before .before .before .before .before .before .before .before .before .before .before .before .before .before .before .args .ch) (c .before .before .before .before .before .before .before .before .before .before .before .before .before .before .before .before .before .before .before .before .before .before .args .used) (c .before .before .before .before .before .before .before .before .before .before .before .before .before .before .before .before .before .before .before .before .before .before .args .fault) (c .before .before .before .before .before .before .before .before .before .before .before .before .before .before .before .before .before .before .before .before .before .before .args .at) (c .before .before .before .before .before .before .before .before .before .before .before .before .before .before .before .before .before .before .before .before .before .before .args .state .now) (c .before .before .before .before .before .before .before .before .before .before .before .before .before .before .before .before .before .before .before .before .before .before .args .rx .now) store (c .before .before .before .before .before .before .before .before .before .before .before .before .before .before .before .before .before .before .before .before .before .before .args .out .now) (c .before .before .before .before .before .before .before .before .before .before .before .before .before .before .before .before .before .before .before .before .before .before .args .buf .now) _ _ _ (c .unless-fault .result) _ _ _ _ (empty _ (c .before .before .before .before .before .before .before .before .before .before .before .before .before .before .before .before .before .before .before .before .before .before .args .h) (c .before .before .before .before .before .before .before .before .before .before .before .before .before .before .before .before .before .before .before .before .before .before .args .ch) _ (c .before .before .before .before .before .before .before .before .before .before .before .before .before .before .before .before .before .before .before .before .before .before .args .used) (c .before .before .before .before .before .before .before .before .before .before .before .before .before .before .before .before .before .before .before .before .before .before .args .fault) _ (c .before .before .before .before .before .before .before .before .before .before .before .before .before .before .before .before .before .before .before .before .before .before .args .at) _ _ _ (c .before .before .before .before .before .before .before .before .before .before .before .before .before .before .take-buffered .result) _ _ _ (c .before .before .before .before .before .before .before .before .before .before .before .before .before .before .take-buffered .ensures store) _ _ (c .before .before .before .before .before .before .tried2 .given .1)) (c .before .before .before .store-slot .ensures) (c .unless-fault .ensures)
+returns-2 c = λ store. again-waits (c .before .before .before .before .before .before .before .before .before .before .before .before .before .before .before .before .before .before .before .before .before .before .before .before .args .h) (c .before .before .before .before .before .before .before .before .before .before .before .before .before .before .before .before .before .before .before .before .before .before .before .before .args .ch) (c .before .before .before .before .before .before .before .before .before .before .before .before .before .before .before .before .before .before .before .before .before .before .before .before .args .used) (c .before .before .before .before .before .before .before .before .before .before .before .before .before .before .before .before .before .before .before .before .before .before .before .before .args .fault) (c .before .before .before .before .before .before .before .before .before .before .before .before .before .before .before .before .before .before .before .before .before .before .before .before .args .at) (c .before .before .before .before .before .before .before .before .before .before .before .before .before .before .before .before .before .before .before .before .before .before .before .before .args .state .now) (c .before .before .before .before .before .before .before .before .before .before .before .before .before .before .before .before .before .before .before .before .before .before .before .before .args .rx .now) store (c .before .before .before .before .before .before .before .before .before .before .before .before .before .before .before .before .before .before .before .before .before .before .before .before .args .out .now) (c .before .before .before .before .before .before .before .before .before .before .before .before .before .before .before .before .before .before .before .before .before .before .before .before .args .buf .now) _ _ _ (c .unless-fault .result) _ _ _ _ (empty _ (c .before .before .before .before .before .before .before .before .before .before .before .before .before .before .before .before .before .before .before .before .before .before .before .before .args .h) (c .before .before .before .before .before .before .before .before .before .before .before .before .before .before .before .before .before .before .before .before .before .before .before .before .args .ch) _ (c .before .before .before .before .before .before .before .before .before .before .before .before .before .before .before .before .before .before .before .before .before .before .before .before .args .used) (c .before .before .before .before .before .before .before .before .before .before .before .before .before .before .before .before .before .before .before .before .before .before .before .before .args .fault) _ (c .before .before .before .before .before .before .before .before .before .before .before .before .before .before .before .before .before .before .before .before .before .before .before .before .args .at) _ _ _ (c .before .before .before .before .before .before .before .before .before .before .before .before .before .before .take-buffered .result) _ _ _ (c .before .before .before .before .before .before .before .before .before .before .before .before .before .before .take-buffered .ensures store) _ _ (c .before .before .before .before .before .before .tried2 .given .1)) (c .before .before .before .store-slot .ensures) (c .unless-fault .ensures)
 
 pub read-again-spec : {M : Type 1} → statement M
 read-again-spec =
     tie.close
     (tie.spec
+    slot-at-requires
     take-buffered-requires
     enum-known-tried
     enum-known-tried-2

@@ -6,7 +6,7 @@ use Rattle.reading.proofs.read.read_direct.Reads as reads
 use Rattle.reading.proofs.read.read_direct.Lts as lts
 use Rattle.config.proofs.negotiated.Negotiated.rx_policy.Reads as rx-policy-reads
 use Rattle.calls.proofs.frames.put_ack.Reads as put-ack-reads
-use Rattle.reading.proofs.transfer.store_slot.Reads as store-slot-reads
+use Rattle.calls.proofs.store.store_slot.Reads as store-slot-reads
 use Rattle.le.proofs.copy_at.Reads as copy-at-reads
 use Rattle.slot.proofs.ChannelSlot.deliver.Reads as deliver-reads
 

@@ -10,7 +10,7 @@ use Rattle.reading.proofs.read.read_more.Tie as tie
 use Rattle.reading.proofs.read.read_more.Reads as reads
 use Rattle.reading.proofs.read.read_more.Lts as lts
 use Rattle.reading.proofs.read.read_packet.Reads as read-packet-reads
-use Rattle.reading.proofs.transfer.store_slot.Reads as store-slot-reads
+use Rattle.calls.proofs.store.store_slot.Reads as store-slot-reads
 use Rattle.calls.proofs.recv.recv_pkt.Reads as recv-pkt-reads
 
 -- src/read.rt:265:9

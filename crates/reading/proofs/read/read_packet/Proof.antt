@@ -13,7 +13,7 @@ use Rattle.calls.proofs.frames.ids_in.Reads as ids-in-reads
 use Rattle.reading.proofs.read.is_direct.Reads as is-direct-reads
 use Rattle.reading.proofs.read.read_direct.Reads as read-direct-reads
 use Rattle.reading.proofs.read.read_other.Reads as read-other-reads
-use Rattle.reading.proofs.transfer.store_slot.Reads as store-slot-reads
+use Rattle.calls.proofs.store.store_slot.Reads as store-slot-reads
 use Rattle.protocol.proofs.packet.Packet.payload.Reads as payload-reads
 use Rattle.slot.proofs.ChannelSlot.apply_close.Reads as apply-close-reads
 use Rattle.slot.proofs.ids.ChannelIds.closed_by.Reads as closed-by-reads

@@ -1,7 +1,7 @@
 use mathlib.Core.Path.{sym, _∙_}
-use borrow.Author.Needs.{needs}
 use Rattle.config.specs.Negotiated.{negotiatedOf}
 use Rattle.config.proofs.Laws.{within}
+use borrow.Author.Needs.{needs}
 use Rattle.slot_vectors.proofs.calls.agree.Statement.{statement}
 use Rattle.slot_vectors.proofs.calls.agree.Tie as tie
 
@@ -18,23 +18,9 @@ made-requires c κs = rw (c .new .ensures) (within _ (sym (c .before .before .wi
 returns : tie.Need-returns
 returns c = search needs
 
-slice-aggregate-put : tie.Need-slice-aggregate-put
-slice-aggregate-put c = search needs
-
-put-requires : tie.Need-put-requires
-put-requires c κs = search needs
-
 returns-2 : tie.Need-returns-2
 returns-2 c = search needs
 
 pub agree-spec : {M : Type 1} → statement M
 agree-spec =
-    tie.close
-    (tie.spec
-    within-limits-requires
-    new-requires
-    made-requires
-    returns
-    slice-aggregate-put
-    put-requires
-    returns-2)
+    tie.close (tie.spec within-limits-requires new-requires made-requires returns returns-2)
