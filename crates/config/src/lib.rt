@@ -56,7 +56,7 @@ impl ConnectionConfig {
         self.max_rx_per_channel
     }
 
-    // Held bytes at which one more full payload still fits.
+    // With fewer bytes held than this, one more full payload fits.
     pub fn rx_ceiling(self) -> usize
         requires { ⌜ Within self ⌝ }
         ensures { λ r. ⌜ r ≡ ceilingOf self ⌝ }

@@ -24,6 +24,7 @@ use Rattle.connection.specs.Calls.{isReady}
 use Rattle.connection.specs.Frames.{Sent}
 use Rattle.history.specs.Run.{Call, openCall, dispatchCall, settleCall, takeCall, readCall, writeCall, closeCall, frontTaken, bytesIn, Seen}
 
+-- what is kept of one channel
 pub record Book : Type 0 where
   -- the channel is in the table: from the call that fills its slot to the one in which the Rust empties it
   pub there : Bool
@@ -46,6 +47,7 @@ pub record Book : Type 0 where
   -- a call answered 11 for one of them
   pub over : Bool
 
+-- that of a place with no channel
 abbrev pub noBook : Book
 noBook = record { there = false; local = 0; remote = 0; opening = 0; sent = 0; accepted = []; handed = []; acked = 0; aside = 0; closed = false; kept = true; over = false }
 
@@ -53,7 +55,7 @@ noBook = record { there = false; local = 0; remote = 0; opening = 0; sent = 0; a
 abbrev pub newBook : ℕ → ℕ → ℕ → Book
 newBook l r c = record { there = true; local = l; remote = r; opening = c; sent = 0; accepted = []; handed = []; acked = 0; aside = 0; closed = false; kept = true; over = false }
 
--- ---- entries
+-- ---- entries: names in B change a book, in M the marks
 
 -- the device's rule: "sent before it is below the credit in our OPEN plus acknowledged as it stood before that call"
 abbrev pub withinRule : ℕ → Book → Bool
@@ -75,12 +77,15 @@ handedB bs b = record { there = b .there; local = b .local; remote = b .remote; 
 abbrev pub ackedB : ℕ → Book → Book
 ackedB k b = record { there = b .there; local = b .local; remote = b .remote; opening = b .opening; sent = b .sent; accepted = b .accepted; handed = b .handed; acked = b .acked + k; aside = b .aside; closed = b .closed; kept = b .kept; over = b .over }
 
+-- adds to set aside
 abbrev pub asideB : ℕ → Book → Book
 asideB n b = record { there = b .there; local = b .local; remote = b .remote; opening = b .opening; sent = b .sent; accepted = b .accepted; handed = b .handed; acked = b .acked; aside = b .aside + n; closed = b .closed; kept = b .kept; over = b .over }
 
+-- closes it
 abbrev pub closedB : Book → Book
 closedB b = record { there = b .there; local = b .local; remote = b .remote; opening = b .opening; sent = b .sent; accepted = b .accepted; handed = b .handed; acked = b .acked; aside = b .aside; closed = true; kept = b .kept; over = b .over }
 
+-- notes whether the call answered 11
 abbrev pub overB : Bool → Book → Book
 overB t b = record { there = b .there; local = b .local; remote = b .remote; opening = b .opening; sent = b .sent; accepted = b .accepted; handed = b .handed; acked = b .acked; aside = b .aside; closed = b .closed; kept = b .kept; over = b .over || t }
 
@@ -92,11 +97,13 @@ bookSlot b = withNumbers (withRemote emptySlot (record { 0 = b .remote })) (leng
 unfoldable pub newAside : RxPolicy → ℕ → Book → ℕ
 newAside p want b = settledOf (bookSlot b) p want .slot .settled - b .aside
 
+-- a settling of `want` bytes
 abbrev pub settleB : RxPolicy → ℕ → Book → Book
 settleB p want b = asideB (newAside p want b) b
 
 -- ---- answers and frames
 
+-- a refusal
 abbrev pub isRefused : Answer → Bool
 isRefused Done = false
 isRefused Waiting = false
@@ -112,6 +119,7 @@ isRefused (Refused r) = true
 abbrev pub isEarly : Answer → Bool
 isEarly a = eqb (numberOf a) 8 || eqb (numberOf a) 9 || eqb (numberOf a) 13
 
+-- an OPEN
 abbrev pub isOpen : Command → Bool
 isOpen Sync = false
 isOpen Connect = false
@@ -136,16 +144,19 @@ unfoldable pub lastOpen : List Sent → ℕ → ℕ
 lastOpen [] a = a
 lastOpen (f ∷ fs) a = lastOpen fs (cond (isOpen (f .command)) (f .arg1) a)
 
--- the header and the payload of a frame that a call used
+-- the header of a frame that a call used
 abbrev pub headerAt : List ℕ → Message
 headerAt received = messageOf received
 
+-- its payload
 abbrev pub payloadAt : List ℕ → ℕ → List ℕ
 payloadAt received used = part received 24 (used - 24)
 
+-- a WRTE's header
 abbrev pub isWrte : Message → Bool
 isWrte m = eqb (m .command) (wordOf Write)
 
+-- a CLSE's header
 abbrev pub isClse : Message → Bool
 isClse m = eqb (m .command) (wordOf Close)
 
@@ -155,13 +166,16 @@ ownEnd l r m = isClse m && namedBy (record { local = record { 0 = l }; remote = 
 
 -- ---- which places hold a channel, with what remote number: from the answers of opens and closes
 
+-- whether a place holds a channel, and its remote number
 pub record Mark : Type 0 where
   pub there : Bool
   pub remote : ℕ
 
+-- the mark of a place with no channel
 abbrev pub noMark : Mark
 noMark = record { there = false; remote = 0 }
 
+-- a channel with this remote number is there
 abbrev pub hasRemote : ℕ → Mark → Bool
 hasRemote r m = m .there && eqb (m .remote) r
 
@@ -205,12 +219,14 @@ readUsedB p d i before room received o k b =
     (cond (ownEnd (b .local) (b .remote) (headerAt received)) (ackedB k (closedB b))
     (handedB (o .got) (ackedB k (settleB p room (frameB d i before (headerAt received) (payloadAt received (o .used)) (o .answer) b))))))
 
+-- a read: refused early; with no packet used; with one
 unfoldable pub readB : RxPolicy → List Mark → ℕ → ℕ → List ℕ → Seen → ℕ → Book → Book
 readB p d i room received o k b =
     cond (isEarly (o .answer)) b
     (cond (eqb (o .used) 0) (handedB (o .got) (ackedB k (settleB p room b)))
     (readUsedB p d i (b .acked) room received o k (settleB p room b)))
 
+-- a write that used a packet: damaged; its own end; or dispatched
 unfoldable pub writeB : List Mark → ℕ → List ℕ → Seen → Book → Book
 writeB d i received o b =
     cond (eqb (o .used) 0) b
@@ -224,6 +240,7 @@ writeB d i received o b =
 abbrev pub isOn : ℕ → Book → ChannelId → Bool
 isOn i b ch = eqb (ch .slot) i && eqb (b .local) (ch .local .0)
 
+-- dispatch takes no packet for itself
 abbrev pub never : Message → Bool
 never m = false
 
@@ -261,6 +278,7 @@ fillB i asked received (Written n) b = b
 fillB i asked received (Front r c p n) b = b
 fillB i asked received (Refused r) b = b
 
+-- the mark of that slot
 unfoldable pub fillM : List ℕ → Answer → List Mark → List Mark
 fillM received (Opened ch) d = set d (ch .slot) (record { there = true; remote = headerAt received .arg0 })
 fillM received Done d = d
@@ -272,6 +290,7 @@ fillM received (Written n) d = d
 fillM received (Front r c p n) d = d
 fillM received (Refused r) d = d
 
+-- the book after an open that filled the slot
 unfoldable pub openedB : ℕ → ℕ → Call → Answer → Book → Book
 openedB i asked (openCall out destination received) a b = fillB i asked (bytesIn received) a b
 openedB i asked (dispatchCall out received) a b = b
@@ -282,6 +301,7 @@ openedB i asked (writeCall out ch bytes received) a b = b
 openedB i asked (closeCall out ch) a b = b
 openedB i asked frontTaken a b = b
 
+-- the marks after a call: an open fills a place, a close empties it
 unfoldable pub marks : Call → Answer → List Mark → List Mark
 marks (openCall out destination received) a d = fillM (bytesIn received) a d
 marks (dispatchCall out received) a d = d
@@ -298,9 +318,11 @@ pub record Ledger : Type 0 where
   pub dir : List Mark
   pub book : Book
 
+-- before the first call
 abbrev pub clean : Ledger
 clean = record { asked = 0; dir = replicate 64 noMark; book = noBook }
 
+-- the ledger after call c, of which o is what its caller sees
 unfoldable pub entry : RxPolicy → ℕ → Call → Seen → Ledger → Ledger
 entry p i c o l =
     record {

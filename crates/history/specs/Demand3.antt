@@ -20,10 +20,11 @@ unfoldable pub ledgerAfter : RxPolicy → ℕ → World → Ledger → List Call
 ledgerAfter p i w l [] = l
 ledgerAfter p i w l (c ∷ cs) = ledgerAfter p i (after w c) (entry p i c (seen w c) l) cs
 
--- the slot at a place, and the bytes that its numbers name in its share of the receive store
+-- the slot at a place
 abbrev pub slotOf : World → ℕ → ChannelSlot
 slotOf w i = slotIn (stateOf (w .state) .slots) i
 
+-- the bytes that its numbers name in its share of the receive store
 unfoldable pub runOf : List ℕ → ℕ → ℕ → ChannelSlot → List ℕ
 runOf rx cap i s = part (shareOf rx cap i) (s .head) (s .buffered)
 

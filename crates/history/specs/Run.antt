@@ -41,9 +41,11 @@ pub record World : Type 0 where
   pub rx : List ℕ
   pub store : List ℕ
 
+-- the same, as a call sees them
 abbrev pub lent : World → Lent
 lent w = record { state = stateOf (w .state); rx = w .rx; store = w .store }
 
+-- a call's own definition on the lent bytes
 unfoldable pub outcome : World → Call → Outcome
 outcome w (openCall out destination received) = openOf (isWhole (w .state)) (lent w) (length out) (bytesIn destination) (bytesIn received)
 outcome w (dispatchCall out received) = dispatchOf (isWhole (w .state)) (lent w) (length out) (bytesIn received)
@@ -58,6 +60,7 @@ outcome w frontTaken = frontCall (isWhole (w .state)) (lent w)
 unfoldable pub after : World → Call → World
 after w c = record { state = putAll (w .state) (outcome w c .changes); rx = outcome w c .rx; store = outcome w c .store }
 
+-- what a list of calls leaves
 unfoldable pub afterAll : World → List Call → World
 afterAll w [] = w
 afterAll w (c ∷ cs) = afterAll (after w c) cs
@@ -96,6 +99,7 @@ seenIn n out buf o =
       got = take (length (o .handed)) (put buf 0 (o .handed));
     }
 
+-- what the caller of each call sees
 unfoldable pub seen : World → Call → Seen
 seen w (openCall out destination received) = seenIn (lent w .state .header .negotiated) out [] (outcome w (openCall out destination received))
 seen w (dispatchCall out received) = seenIn (lent w .state .header .negotiated) out [] (outcome w (dispatchCall out received))

@@ -167,6 +167,7 @@ withdrew c o =
     numberOf (o .answer) ∷ o .used ∷ flag (isClosed (slotIn (changedAll c (o .changes) .slots) 0 .state))
     ++ remotes (take (changedAll c (o .changes) .header .queued) (changedAll c (o .changes) .opens))
 
+-- M1 to M10, in order
 unfoldable pub table : List Row
 table =
     row 1 (answer (decodeOf (take 23 (okay 0)) 4096)) waiting

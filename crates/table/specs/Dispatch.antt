@@ -81,6 +81,7 @@ readyAt p i s remote payload = cond (isFailed (s .failed)) (left Unmatched) (gra
 unfoldable pub strayOf : RemoteId → LocalId → DispatchOutcome
 strayOf remote local = cond (eqb (remote .0) 0) Unmatched (cond (eqb (local .0) 0) Unmatched (StrayReady (record { local = local; remote = remote })))
 
+-- for the lowest slot with our number, or for none
 unfoldable pub grantOf : RxPolicy → ℕ → List ChannelSlot → RemoteId → LocalId → List ℕ → Step DispatchOutcome
 grantOf p n ss remote local payload =
     cond (ltb (placeOf (Local local) n ss) n)
@@ -94,6 +95,7 @@ pub record Dispatched : Type 0 where
   pub step : Step DispatchOutcome
   pub rx : List ℕ
 
+-- a step that leaves this receive store
 abbrev pub with : Step DispatchOutcome → List ℕ → Dispatched
 with s rx = record { step = s; rx = rx }
 
@@ -119,6 +121,7 @@ wroteAt p i s remote payload rx =
     cond (isFailed (s .failed)) (with (left Unmatched) rx)
     (wroteBy p i s remote payload rx (wroteOf s p (length payload) .slot) (wroteOf s p (length payload) .decision))
 
+-- for the lowest slot with our number, or for none
 unfoldable pub writeOf : RxPolicy → ℕ → List ChannelSlot → RemoteId → LocalId → List ℕ → List ℕ → Dispatched
 writeOf p n ss remote local payload rx =
     cond (ltb (placeOf (Local local) n ss) n)
