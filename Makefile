@@ -2,6 +2,7 @@
 #   make demo      forty simulated peers on one connection, in each mode (ARGS: seed, MiB)
 #   make damage    the calls on broken states and short buffers
 #   make compare   the port against libadb: SEEDS names libadb's folder libadb/src (ARGS: first and last seed, calls)
+#   make bench     the port's and libadb's time side by side: SEEDS as for compare (ARGS: repeats, ms each, rows)
 #   make header    adb.h alone, as C99 and as C++
 #   make clean     removes what these targets built, but not what is proved
 # CC, CXX and CFLAGS may be set, as CFLAGS='-O1 -g -fsanitize=address,undefined'; LIB names another static library.
@@ -12,7 +13,7 @@ WARNINGS = -Wall -Wextra -pedantic
 OUT = target/c
 LIB = target/staticlib/libadb.a
 
-.PHONY: all demo damage compare header clean
+.PHONY: all demo damage compare bench header clean
 
 all: header demo damage
 
@@ -22,9 +23,14 @@ demo: $(OUT)/demo
 damage: $(OUT)/damage
 	$(OUT)/damage $(ARGS)
 
-# compare.sh makes the default library itself.
+# compare.sh and run.sh make the default library themselves.
+OTHER_LIB = $(if $(filter-out target/staticlib/libadb.a,$(LIB)),$(abspath $(LIB)))
+
 compare:
-	CC='$(CC)' LIB='$(if $(filter-out target/staticlib/libadb.a,$(LIB)),$(abspath $(LIB)))' oracle/compare.sh $(ARGS)
+	CC='$(CC)' LIB='$(OTHER_LIB)' oracle/compare.sh $(ARGS)
+
+bench:
+	@LIB='$(OTHER_LIB)' bench/run.sh $(ARGS)
 
 header:
 	printf '#include <adb.h>\n#include <adb.h>\ntypedef int one;\n' | $(CC) -std=c99 $(WARNINGS) -Werror -Iinclude -x c -fsyntax-only -

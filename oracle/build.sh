@@ -4,6 +4,7 @@
 #   SEEDS  libadb's folder libadb/src                          (no default)
 #   BUILD  where to generate and build                         (default target/oracle of this repository)
 #   JOBS   how many compilers cargo may run at a time          (default 1)
+#   TREE_ONLY  1: generates the tree and builds nothing
 set -eu
 here=$(cd "$(dirname "$0")" && pwd)
 BUILD=${BUILD:-$here/../target/oracle}
@@ -70,6 +71,7 @@ fi
 cmp -s "$fresh/Cargo.toml" "$BUILD/Cargo.toml" || cp "$fresh/Cargo.toml" "$BUILD/"
 cp "$here/harness/cargo-config/config.toml" "$BUILD/.cargo/"
 rm -rf "$fresh"
+[ "${TREE_ONLY:-0}" = 0 ] || exit 0
 
 cd "$BUILD"
 CARGO_TARGET_DIR=$BUILD/target cargo build --release --offline --quiet -j "${JOBS:-1}"

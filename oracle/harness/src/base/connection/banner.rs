@@ -147,7 +147,8 @@ where
     }
 
     /// One turn of the loop in `accept_incoming`: a packet, dispatched.
-    pub(crate) async fn probe_dispatch_one(&mut self) -> Res<(), T> {
+    /// Public for bench/, which has a transport of its own.
+    pub async fn probe_dispatch_one(&mut self) -> Res<(), T> {
         let pkt = recv_pkt(
             &mut self.transport,
             &mut self.recv_buf,
