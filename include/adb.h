@@ -6,8 +6,10 @@
  *
  * Buffers
  *   - Every pointer is followed by its length in bytes. An empty buffer may be null.
- *   - The buffers of one call must not overlap, in any two of their bytes.
+ *   - No two buffers of one call may overlap.
  *   - A buffer that is longer than needed is fine; the bytes past the need keep their values.
+ *   - Any address will do. Calls are fastest where `answer` lies in one cache line and `out` begins 8 past a multiple of 16,
+ *     since a payload behind its header then begins at one.
  *   - `state`: ADB_STATE_LEN bytes, filled by adb_make. Nothing else of a connection is kept between calls but the stores.
  *   - `rx`: the receive store, adb_rx_store_len bytes. `opens`: the open store, adb_open_store_len bytes. Both may hold
  *     anything when the connection is made.
@@ -16,7 +18,7 @@
  *     drops the first adb_answer_used bytes after each call, refused ones too.
  *   - `out`: the first adb_answer_written bytes are to be sent before the next call's, after a refusal too. At least
  *     ADB_OUT_MIN bytes; an OPEN or a WRTE needs its payload and ADB_HEADER_LEN (adb_out_len).
- *   - `buf`: the reader's buffer; the first adb_answer_value(answer, 0) bytes are what was read.
+ *   - `buf`: the reader's buffer; after ADB_DONE the first adb_answer_length bytes are what was read.
  *   - `answer`: ADB_ANSWER_LEN bytes, all of them written by each call, unless the state or the answer is too short.
  *
  * What a call may change, and nothing else:
@@ -38,7 +40,8 @@
  *   ADB_REFUSED_STORE_SHORT   a store is under its length
  *   ADB_REFUSED_OUT_SHORT     `out` is under ADB_OUT_MIN
  *
- * Reading from one channel:
+ * Reading from one channel, where MAX_PAYLOAD is the max_payload that adb_make got, so that `in` has room for any frame, and
+ * receive_some waits for at least one byte:
  *
  *     uint8_t in[ADB_HEADER_LEN + MAX_PAYLOAD];
  *     size_t have = 0;
@@ -50,7 +53,7 @@
  *         have -= used;
  *         memmove(in, in + used, have);
  *         if (said == ADB_DONE)
- *             consume(buf, (size_t)adb_answer_value(answer, 0));
+ *             consume(buf, adb_answer_length(answer));
  *         else if (said != ADB_WAITING)
  *             break;                                               (refused: said is the reason)
  *         else if (used == 0)
@@ -58,10 +61,11 @@
  *     }
  *
  * A read also takes packets that are not its channel's: their bytes go to the receive store, and a read on their channel
- * hands them over. adb_open and adb_write are called in the same way until they answer other than ADB_WAITING; a write sends
+ * hands them over. adb_open and adb_write are called in the same way until they answer other than ADB_WAITING; but the first
+ * adb_open takes no packet, so that it is called again before more is received where received bytes are left. A write sends
  * at most one WRTE, whose length is the answer's first value, and is called again with the rest. A program that only wants to
  * take packets calls adb_dispatch. While an open waits for its OKAY, only adb_open goes on with it: any other call that is
- * not refused ahead of its steps drops it.
+ * not refused by 8, 9 or 13 drops it.
  */
 #ifndef ADB_H
 #define ADB_H
@@ -232,7 +236,7 @@ static inline size_t adb_answer_destination_len(const uint8_t *answer)
 #define ADB_STATE_SLOT_SETTLED 24  /* 8: bytes set aside */
 #define ADB_STATE_SLOT_HEAD 32     /* 8: where the buffered bytes begin in the share */
 #define ADB_STATE_SLOT_BUFFERED 40 /* 8 */
-#define ADB_STATE_SLOT_TAG 48      /* 1: the bits below; state in bits 3 and 4 (0 opening, 1 open, 2 closed), fault in 5 and 6 */
+#define ADB_STATE_SLOT_TAG 48      /* 1: the flags below; bits 3, 4: state (0 opening, 1 open, 2 closed); bits 5, 6: fault */
 #define ADB_TAG_FILLED 1
 #define ADB_TAG_HAS_REMOTE 2
 #define ADB_TAG_WRTE_ACKED 4
@@ -298,8 +302,8 @@ uint32_t adb_close(uint8_t *state, size_t state_len, const uint8_t *rx, size_t r
                    size_t slot, uint32_t local, uint8_t *out, size_t out_len, uint8_t *answer, size_t answer_len);
 
 /* Takes the device's OPEN that has waited longest. ADB_DONE: remote number, credit, and where in `opens` its destination is,
- * which stays there until a later call takes an OPEN. The program answers the device itself: a refusal is a CLSE frame with
- * arg0 0 and arg1 the remote number. ADB_NONE: none waits. */
+ * which stays there until a later call receives another OPEN. The program answers the device itself: a refusal is a CLSE frame
+ * with arg0 0 and arg1 the remote number. ADB_NONE: none waits. */
 uint32_t adb_take_front(uint8_t *state, size_t state_len, const uint8_t *rx, size_t rx_len, const uint8_t *opens,
                         size_t opens_len, uint8_t *answer, size_t answer_len);
 
