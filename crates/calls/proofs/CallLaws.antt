@@ -1,5 +1,5 @@
 -- What the calls' functions cite: the definition's case, and what the lent bytes are then. Assumes nothing.
-use mathlib.Core.Path.{_≡_, refl, sym, ap, subst, _∙_}
+use mathlib.Core.Path.{_≡_, sym, ap, subst, _∙_}
 use mathlib.Core.Bool.{Bool, _&&_}
 use mathlib.Core.List.{List, []}
 use Prim.Native.Nat.{ℕ, _+_, _≤_}
@@ -18,11 +18,11 @@ use Rattle.connection.specs.declared.Received.the-variants.{Packet as PacketIs,
 use Rattle.calls.specs.declared.Reply.{Reply}
 use Rattle.calls.specs.declared.act.ActedOn.{ActedOn}
 use Rattle.connection.specs.Act.{actOn}
-use Rattle.connection.specs.Calls.{Lent, Outcome, Work, begun, thenActed, dropped, unlessFault, receivedBy, receivedOf, bodyOf, frameLen, dispatchBy, dispatchStep}
+use Rattle.connection.specs.Calls.{Lent, dropped, unlessFault, receivedBy, receivedOf, bodyOf, frameLen, dispatchBy, dispatchStep}
 use Rattle.calls.specs.Promise.{lentOf, agreedIn, Leaves, Admits, ActRoom, ActsOn}
-use Rattle.calls.proofs.AdmitLaws.{act-room, admits-facts, admits-dropped, admits-stores}
-use Rattle.connection.proofs.Decoding.{PacketRoom, packet-room}
-use Rattle.calls.proofs.LeaveLaws.{Did, did-begun, did-acted, did-stops, stops-leaves}
+use Rattle.calls.proofs.AdmitLaws.{act-room, admits-dropped, admits-stores}
+use Rattle.connection.proofs.Decoding.{PacketRoom}
+use Rattle.calls.proofs.LeaveLaws.{did-begun, did-acted, did-stops, stops-leaves}
 use Rattle.connection.proofs.WholeWork.{Long}
 use Rattle.state.proofs.WholeLaws.{Whole}
 

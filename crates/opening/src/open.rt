@@ -20,7 +20,6 @@ use protocol::packet::Packet;
 use slot::ChannelSlot;
 use slot::Readied;
 use slot::ids::ChannelIds;
-use slot::ids::LocalId;
 use slot::ids::RemoteId;
 use slot::ids::is_close;
 use state::Header;

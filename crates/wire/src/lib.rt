@@ -4,7 +4,6 @@ use protocol::command::Command;
 use protocol::packet::Packet;
 use slot::ids::ChannelIds;
 use slot::ids::LocalId;
-ghost use mathlib.Core.Path.{_≡_};
 ghost use mathlib.Core.List.{[]};
 ghost use Prim.Native.Nat.{_+_, _≤_};
 ghost use lib.ListN.{length};
