@@ -2,18 +2,19 @@
 use mathlib.Core.Path.{_≡_, refl, sym, ap, subst, _∙_}
 use mathlib.Core.Bool.{Bool, true, false, _||_, true≢false}
 use mathlib.Core.List.{List, [], _∷_, _++_, append-assoc, append-nil}
-use Prim.Native.Nat.{ℕ, suc, _+_, _%_, _≤_, _<_}
+use Prim.Native.Nat.{ℕ, suc, _+_, _%_, _^_, _≤_, _<_}
 use native.Mathlib.Nat.{zero-add}
 use native.Mathlib.Omega.{arith}
 use lib.Dec.{ltb}
-use lib.ListN.{length, length-append}
+use lib.ListN.{length, drop, length-append}
 use borrow.Author.Tests.{lt-ltb, le-ltb, ltb-false}
-use Rattle.le.specs.Le.{bytesOf, put, Bytes}
-use Rattle.le.proofs.Laws.{length-bytesOf}
+use Rattle.le.specs.Le.{numOf, bytesOf, put, Bytes}
+use Rattle.le.proofs.Laws.{length-bytesOf, write-read}
 use Rattle.le.proofs.Parts.{put-put}
 use Rattle.config.specs.declared.ConnectionConfig.{ConnectionConfig}
 use Rattle.slot.proofs.Laws.{cond-true, cond-false}
 use Rattle.state.specs.Rows.{flat}
+use Rattle.state.proofs.RowLaws.{Every, rows-flat}
 use Rattle.state.specs.Valid.{isWhole}
 use Rattle.table.specs.declared.ChannelId.{ChannelId}
 use Rattle.connection.specs.declared.Answer.{Answer}
@@ -23,7 +24,7 @@ use Rattle.connection.specs.Calls.{Outcome, writtenBy, openOf, dispatchOf, sett
 use Rattle.calls.specs.Promise.{lentOf, agreedIn, Leaves, makeIn, Makes}
 use Rattle.history.specs.Run.{bytesIn, Call, openCall, dispatchCall, settleCall, takeCall, readCall, writeCall, closeCall, frontTaken, World, outcome, after}
 use Rattle.adb.specs.declared.Values.{Values}
-use Rattle.adb.specs.Export.{worldOf, valuesIn, answerBytes, isShort, Exported, called, exported, Does, isYes, MakesState}
+use Rattle.adb.specs.Export.{worldOf, valuesIn, numbersOf, answerBytes, saidIn, isShort, Exported, called, exported, Does, isYes, MakesState}
 
 -- ---- bytes
 
@@ -69,7 +70,7 @@ values-length v =
 
 pub answer-put : (d : List ℕ) (r : Reply) (v : Values) (d₁ d₂ d₃ : List ℕ) → 48 ≤ length d → d₁ ≡ put d 0 (bytesOf 8 (r .used)) → d₂ ≡ put d₁ 8 (bytesOf 8 (r .written))
     → valuesIn v ≡ valuesOf (r .answer) → d₃ ≡ put d₂ 16 (flat (bytesOf 8) (valuesIn v)) → d₃ ≡ put d 0 (answerBytes (r .used) (r .written) (r .answer))
-unfolding answerBytes
+unfolding answerBytes flat
 answer-put d r v d₁ d₂ d₃ k e₁ e₂ f e₃ =
     let a = bytesOf 8 (r .used) in
     let b = bytesOf 8 (r .written) in
@@ -79,7 +80,25 @@ answer-put d r v d₁ d₂ d₃ k e₁ e₂ f e₃ =
     let lc = values-length v in
     let m = length-append a b in
     let f₂ = e₂ ∙ ap (λ (y : List ℕ). put y 8 b) e₁ ∙ put-put d 0 a 8 b (omega arith) (omega arith) in
-    e₃ ∙ ap (λ (y : List ℕ). put y 16 c) f₂ ∙ put-put d 0 (a ++ b) 16 c (omega arith) (omega arith) ∙ ap (λ (y : List ℕ). put d 0 (a ++ b ++ flat (bytesOf 8) y)) f
+    e₃ ∙ ap (λ (y : List ℕ). put y 16 c) f₂ ∙ put-put d 0 (a ++ b) 16 c (omega arith) (omega arith)
+    ∙ ap (put d 0) (append-assoc a b c) ∙ ap (λ (y : List ℕ). put d 0 (a ++ (b ++ flat (bytesOf 8) y))) f
+
+-- four values of 64 bits
+abbrev Words : Values → Type 0
+Words v = (v .a < 2 ^ 64) × (v .b < 2 ^ 64) × (v .c < 2 ^ 64) × (v .d < 2 ^ 64)
+
+values-fit : (v : Values) → Words v → Every (λ (x : ℕ). x < 2 ^ 64) (valuesIn v)
+values-fit v h = (h .0, (h .1, (h .2, (h .3, tt))))
+
+-- the answer's bytes say the six numbers
+pub answer-said : (d d₃ : List ℕ) (r : Reply) (v : Values) → 48 ≤ length d → r .used < 2 ^ 64 → r .written < 2 ^ 64 → Words v → valuesIn v ≡ valuesOf (r .answer)
+    → d₃ ≡ put d 0 (answerBytes (r .used) (r .written) (r .answer)) → saidIn d₃ ≡ numbersOf (r .used) (r .written) (r .answer)
+unfolding answerBytes saidIn put
+answer-said d d₃ r v k u w h f e =
+    let xs : List ℕ = r .used ∷ r .written ∷ valuesIn v in
+    let z : numbersOf (r .used) (r .written) (r .answer) ≡ xs = ap (λ (y : List ℕ). r .used ∷ r .written ∷ y) (sym f) in
+    let back = rows-flat 8 (bytesOf 8) numOf (λ (x : ℕ). x < 2 ^ 64) (λ x. length-bytesOf 8 x) (λ x q. write-read 8 x q) xs (drop (0 + length (flat (bytesOf 8) xs)) d) (u, (w, values-fit v h)) in
+    ap saidIn (e ∙ ap (λ (y : List ℕ). put d 0 (flat (bytesOf 8) y)) z) ∙ back ∙ sym z
 
 -- ---- too few bytes
 
@@ -105,16 +124,16 @@ module _ (w : World) (c : Call) (out buf answer : List ℕ) where
   unfolding exported
   does-short t =
       subst (λ (e : Exported). Does e 8 (w .state) (w .rx) (w .store) out buf answer) (sym (cond-true (isShort (length (w .state)) (length answer)) _ _ t))
-      (record { number-is = refl; state-is = refl; rx-is = refl; store-is = refl; out-is = refl; buf-is = refl; answer-is = refl })
+      (record { number-is = refl; state-is = refl; rx-is = refl; store-is = refl; out-is = refl; buf-is = refl; answer-is = refl; said-is = refl })
 
   exported-is : isShort (length (w .state)) (length answer) ≡ false → exported w c out buf answer ≡ called w c out buf answer
   unfolding exported
   exported-is t = cond-false (isShort (length (w .state)) (length answer)) _ _ t
 
   does-called : (r : Reply) (number : ℕ) (state' rx' store' out' buf' answer' : List ℕ) → Leaves (agreedIn (w .state)) (outcome w c) 0 (w .state) out buf r state' rx' store' out' buf'
-      → number ≡ numberOf (r .answer) → answer' ≡ put answer 0 (answerBytes (r .used) (r .written) (r .answer)) → Does (called w c out buf answer) number state' rx' store' out' buf' answer'
+      → number ≡ numberOf (r .answer) → answer' ≡ put answer 0 (answerBytes (r .used) (r .written) (r .answer)) → saidIn answer' ≡ numbersOf (r .used) (r .written) (r .answer) → Does (called w c out buf answer) number state' rx' store' out' buf' answer'
   unfolding called after
-  does-called r number state' rx' store' out' buf' answer' g f h =
+  does-called r number state' rx' store' out' buf' answer' g f h q =
       record {
         number-is = f ∙ ap numberOf (g .answer-is);
         state-is = g .state-is;
@@ -125,15 +144,17 @@ module _ (w : World) (c : Call) (out buf answer : List ℕ) where
         answer-is = h ∙ ap (λ (x : Answer). put answer 0 (answerBytes (r .used) (r .written) x)) (g .answer-is)
             ∙ ap (λ (x : ℕ). put answer 0 (answerBytes x (r .written) (outcome w c .answer))) (g .used-is)
             ∙ ap (λ (x : ℕ). put answer 0 (answerBytes (outcome w c .used) x (outcome w c .answer))) (g .written-is ∙ zero-add (writtenBy (agreedIn (w .state)) (outcome w c)));
+        said-is = q ∙ ap (λ (x : Answer). numbersOf (r .used) (r .written) x) (g .answer-is) ∙ ap (λ (x : ℕ). numbersOf x (r .written) (outcome w c .answer)) (g .used-is)
+            ∙ ap (λ (x : ℕ). numbersOf (outcome w c .used) x (outcome w c .answer)) (g .written-is ∙ zero-add (writtenBy (agreedIn (w .state)) (outcome w c)));
       }
 
   -- what the call leaves is what its definition does
   pub does-call : (o : Outcome) (r : Reply) (number : ℕ) (state' rx' store' out' buf' answer' : List ℕ) → isShort (length (w .state)) (length answer) ≡ false → o ≡ outcome w c
       → Leaves (agreedIn (w .state)) o 0 (w .state) out buf r state' rx' store' out' buf' → number ≡ numberOf (r .answer)
-      → answer' ≡ put answer 0 (answerBytes (r .used) (r .written) (r .answer)) → Does (exported w c out buf answer) number state' rx' store' out' buf' answer'
-  does-call o r number state' rx' store' out' buf' answer' t e g f h =
+      → answer' ≡ put answer 0 (answerBytes (r .used) (r .written) (r .answer)) → saidIn answer' ≡ numbersOf (r .used) (r .written) (r .answer) → Does (exported w c out buf answer) number state' rx' store' out' buf' answer'
+  does-call o r number state' rx' store' out' buf' answer' t e g f h q =
       subst (λ (x : Exported). Does x number state' rx' store' out' buf' answer') (sym (exported-is t))
-      (does-called r number state' rx' store' out' buf' answer' (subst (λ (x : Outcome). Leaves (agreedIn (w .state)) x 0 (w .state) out buf r state' rx' store' out' buf') e g) f h)
+      (does-called r number state' rx' store' out' buf' answer' (subst (λ (x : Outcome). Leaves (agreedIn (w .state)) x 0 (w .state) out buf r state' rx' store' out' buf') e g) f h q)
 
 -- ---- each call is the theorems' call
 

@@ -3,11 +3,11 @@
 use Prim.Native.Nat.{ℕ}
 use mathlib.Core.Path.{_≡_}
 use mathlib.Core.Bool.{Bool, cond, _||_}
-use mathlib.Core.List.{List, [], _∷_, _++_}
+use mathlib.Core.List.{List, [], _∷_}
 use lib.Dec.{ltb}
 use lib.ListN.{length}
-use Rattle.le.specs.Le.{bytesOf, put}
-use Rattle.state.specs.Rows.{flat}
+use Rattle.le.specs.Le.{numOf, bytesOf, put}
+use Rattle.state.specs.Rows.{flat, rows}
 use Rattle.connection.specs.declared.Answer.{Answer}
 use Rattle.connection.specs.Answer.{numberOf, valuesOf}
 use Rattle.connection.specs.Calls.{writtenBy, Made}
@@ -23,11 +23,19 @@ worldOf state rx store = record { state = state; rx = rx; store = store }
 abbrev pub valuesIn : Values → List ℕ
 valuesIn v = v .a ∷ v .b ∷ v .c ∷ v .d ∷ []
 
--- the answer's 48 bytes: used, written, then the answer's four values
-unfoldable pub answerBytes : ℕ → ℕ → Answer → List ℕ
-answerBytes used written a = bytesOf 8 used ++ bytesOf 8 written ++ flat (bytesOf 8) (valuesOf a)
+-- an answer's six numbers: used, written, then the answer's four values
+abbrev pub numbersOf : ℕ → ℕ → Answer → List ℕ
+numbersOf used written a = used ∷ written ∷ valuesOf a
 
--- a call's number, and all that it was lent
+-- its 48 bytes
+unfoldable pub answerBytes : ℕ → ℕ → Answer → List ℕ
+answerBytes used written a = flat (bytesOf 8) (numbersOf used written a)
+
+-- the six numbers that an answer's bytes say
+unfoldable pub saidIn : List ℕ → List ℕ
+saidIn answer = rows 8 numOf 6 answer
+
+-- a call's number, all that it was lent, and what the answer then says
 pub record Exported : Type 0 where
   pub number : ℕ
   pub state : List ℕ
@@ -36,6 +44,7 @@ pub record Exported : Type 0 where
   pub out : List ℕ
   pub buf : List ℕ
   pub answer : List ℕ
+  pub said : List ℕ
 
 -- too few bytes for a state or for an answer
 unfoldable pub isShort : ℕ → ℕ → Bool
@@ -53,14 +62,16 @@ called w c out buf answer =
       out = put out 0 (framesBytes (lent w .state .header .negotiated) (outcome w c .frames));
       buf = put buf 0 (outcome w c .handed);
       answer = put answer 0 (answerBytes (outcome w c .used) (writtenBy (lent w .state .header .negotiated) (outcome w c)) (outcome w c .answer));
+      said = numbersOf (outcome w c .used) (writtenBy (lent w .state .header .negotiated) (outcome w c)) (outcome w c .answer);
     }
 
 -- 8, ahead of every other refusal, and nothing is touched; else the call
 unfoldable pub exported : World → Call → List ℕ → List ℕ → List ℕ → Exported
 exported w c out buf answer =
-    cond (isShort (length (w .state)) (length answer)) (record { number = 8; state = w .state; rx = w .rx; store = w .store; out = out; buf = buf; answer = answer }) (called w c out buf answer)
+    cond (isShort (length (w .state)) (length answer)) (record { number = 8; state = w .state; rx = w .rx; store = w .store; out = out; buf = buf; answer = answer; said = saidIn answer }) (called w c out buf answer)
 
--- what an exported function promises: the number, and every byte of what it was lent
+-- what an exported function promises: the number, every byte of what it was lent, and that the answer's bytes say the
+-- definition's numbers (each is below 2^64)
 pub record Does (e : Exported) (r : ℕ) (state rx store out buf answer : List ℕ) : Type 0 where
   pub number-is : r ≡ e .number
   pub state-is : state ≡ e .state
@@ -69,6 +80,7 @@ pub record Does (e : Exported) (r : ℕ) (state rx store out buf answer : List �
   pub out-is : out ≡ e .out
   pub buf-is : buf ≡ e .buf
   pub answer-is : answer ≡ e .answer
+  pub said-is : saidIn answer ≡ e .said
 
 -- make's: a flag is no where it is 0
 abbrev pub isYes : ℕ → Bool

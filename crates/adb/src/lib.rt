@@ -25,7 +25,7 @@ ghost use Rattle.state.specs.Rows.{flat};
 ghost use Rattle.connection.specs.Answer.{numberOf, valuesOf, ackLength, refusalWord};
 ghost use Rattle.calls.specs.Promise.{makeIn};
 ghost use Rattle.history.specs.Run.{openCall, dispatchCall, settleCall, takeCall, readCall, writeCall, closeCall, frontTaken};
-ghost use Rattle.adb.specs.Export.{worldOf, valuesIn, answerBytes, isShort, exported, Does, isYes, MakesState};
+ghost use Rattle.adb.specs.Export.{worldOf, valuesIn, numbersOf, answerBytes, saidIn, isShort, exported, Does, isYes, MakesState};
 
 // An answer's four values.
 pub struct Values {
@@ -117,7 +117,7 @@ fn put_values(answer: &mut [u8], v: Values)
 // The answer's 48 bytes, and the call's number.
 fn answered(answer: &mut [u8], reply: Reply) -> u32
     requires { ⌜ 48 ≤ length (now answer) ⌝ }
-    ensures { λ r. ⌜ (r ≡ numberOf (reply .answer)) × (now (answer .exit) ≡ put (now (answer .entry)) 0 (answerBytes (reply .used) (reply .written) (reply .answer))) ⌝ }
+    ensures { λ r. ⌜ (r ≡ numberOf (reply .answer)) × (now (answer .exit) ≡ put (now (answer .entry)) 0 (answerBytes (reply .used) (reply .written) (reply .answer))) × (saidIn (now (answer .exit)) ≡ numbersOf (reply .used) (reply .written) (reply .answer)) ⌝ }
 {
     let said = reply.answer;
     le::put_usize(answer, 0, reply.used);

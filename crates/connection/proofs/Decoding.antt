@@ -37,22 +37,22 @@ use Rattle.connection.specs.Act.{PacketFits}
 
 -- ---- answers
 
--- not refusal 13
-abbrev pub NotBroken : Answer → Type 0
-NotBroken a = numberOf a ≡ 13 → ⊥
+-- neither refusal 13 nor 8
+abbrev pub Admitted : Answer → Type 0
+Admitted a = (numberOf a ≡ 13 → ⊥) × (numberOf a ≡ 8 → ⊥)
 
-pub fault-fine : (f : ChannelFault) → NotBroken (Refused (faultRefusal f))
+pub fault-fine : (f : ChannelFault) → Admitted (Refused (faultRefusal f))
 unfolding faultRefusal numberOf refusalNumber
-fault-fine RxOverflow e = omega arith
-fault-fine CreditShort e = omega arith
-fault-fine WriteEarly e = omega arith
+fault-fine RxOverflow = (λ e. omega arith, λ e. omega arith)
+fault-fine CreditShort = (λ e. omega arith, λ e. omega arith)
+fault-fine WriteEarly = (λ e. omega arith, λ e. omega arith)
 
-pub error-fine : (x : ChannelError) → NotBroken (Refused (errorRefusal x))
+pub error-fine : (x : ChannelError) → Admitted (Refused (errorRefusal x))
 unfolding errorRefusal numberOf refusalNumber
-error-fine ErrorClosed e = omega arith
-error-fine (Fault f) e = fault-fine f e
+error-fine ErrorClosed = (λ e. omega arith, λ e. omega arith)
+error-fine (Fault f) = fault-fine f
 
-pub unless-fine : (f : Failed) (a : Answer) → NotBroken a → NotBroken (unlessFault f a)
+pub unless-fine : (f : Failed) (a : Answer) → Admitted a → Admitted (unlessFault f a)
 unfolding unlessFault
 unless-fine No a h = h
 unless-fine (By f) a h = fault-fine f
@@ -70,7 +70,7 @@ module _ (n : Negotiated) (received : List ℕ) where
 
   abbrev pub ReceivedFits : Received → Type 0
   ReceivedFits (PacketIs p) = PacketFits n p (bodyOf received p)
-  ReceivedFits (Stop a used) = NotBroken a
+  ReceivedFits (Stop a used) = Admitted a
 
   module _ (y : Bytes received) where
     known-fits : (c : Command) → DecodedFits (knownOf received (n .config .«max_payload») c (messageOf received))
@@ -99,11 +99,11 @@ module _ (n : Negotiated) (received : List ℕ) where
 
     received-by : (d : Decoded) → DecodedFits d → ReceivedFits (receivedBy d)
     unfolding receivedBy numberOf refusalNumber
-    received-by FrameWaiting g = λ e. omega arith
-    received-by (WordInvalid word) g = λ e. omega arith
-    received-by MagicInvalid g = λ e. omega arith
-    received-by LengthTooLarge g = λ e. omega arith
-    received-by (SumInvalid used) g = λ e. omega arith
+    received-by FrameWaiting g = (λ e. omega arith, λ e. omega arith)
+    received-by (WordInvalid word) g = (λ e. omega arith, λ e. omega arith)
+    received-by MagicInvalid g = (λ e. omega arith, λ e. omega arith)
+    received-by LengthTooLarge g = (λ e. omega arith, λ e. omega arith)
+    received-by (SumInvalid used) g = (λ e. omega arith, λ e. omega arith)
     received-by (Accepted p) g = g
 
 pub received-fits : (l : Lent) (received : List ℕ) → Bytes received → ReceivedFits (l .state .header .negotiated) received (receivedOf l received)

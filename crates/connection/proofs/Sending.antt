@@ -78,11 +78,11 @@ lenOf (closeFrame ids) = 0
 lenOf (openFrame local credit destination) = 0
 lenOf (writeFrame ids bytes) = 0
 
--- a frame that is read back: its numbers are below 2 ^ 32, its payload is within the maximum; a length that is not sent
--- may be any
+-- a frame that is read back: its numbers are below 2 ^ 32, its payload is within the maximum, and what an OKAY carries is no
+-- less as a signed number; a length that is not sent may be any
 pub record FrameFits (n : Negotiated) (f : Frame) : Type 0 where
   pub sent : SentFits (sentOf n f)
-  pub len-fits : n .«delayed_ack» ≡ true → lenOf f < 2 ^ 32
+  pub len-fits : n .«delayed_ack» ≡ true → lenOf f < 2 ^ 31
 
 -- a channel's numbers are of 32 bits
 pub record IdsFit (ids : ChannelIds) : Type 0 where
@@ -127,7 +127,7 @@ few-one : (n : Negotiated) (f : Frame) → FrameFits n f → length (frameBytes 
 few-one n f h s = let e = bytes-one n f in record { few = omega arith; each = (h, tt); short = omega arith }
 
 -- an OKAY, whose length is of 32 bits where it is sent
-pub few-okay : (n : Negotiated) (ids : ChannelIds) (len : ℕ) → IdsFit ids → (n .«delayed_ack» ≡ true → len < 2 ^ 32) → Few n 1 (okayFrame ids len ∷ [])
+pub few-okay : (n : Negotiated) (ids : ChannelIds) (len : ℕ) → IdsFit ids → (n .«delayed_ack» ≡ true → len < 2 ^ 31) → Few n 1 (okayFrame ids len ∷ [])
 unfolding frameBytes
 few-okay n ids len h d =
     let e = okay-length ids (n .«delayed_ack») len (policyFor (n .«protocol_version»)) in
@@ -146,7 +146,7 @@ few-close n ids h =
     (record { sent = record { arg0-fits = h .local; arg1-fits = h .remote; small = omega arith }; len-fits = λ d. omega arith }) (omega arith)
 
 -- the OKAY of an acknowledgement
-pub few-ack : (n : Negotiated) (s : ChannelSlot) (a : PendingAck) → IdsFit (idsIn s) → (n .«delayed_ack» ≡ true → ackLength a < 2 ^ 32) → Few n 1 (ackFrames s a)
+pub few-ack : (n : Negotiated) (s : ChannelSlot) (a : PendingAck) → IdsFit (idsIn s) → (n .«delayed_ack» ≡ true → ackLength a < 2 ^ 31) → Few n 1 (ackFrames s a)
 unfolding ackFrames ackLength
 few-ack n s (Len k) h d = few-okay n (idsIn s) k h d
 few-ack n s NoAck h d = few-none n 1
@@ -155,7 +155,7 @@ few-ack n s NoAck h d = few-none n 1
 
 -- the numbers in what the table tells
 abbrev OutFits : RxPolicy → DispatchOutcome → Type 0
-OutFits p (AckWrite i ids len) = IdsFit ids × (p .delayed ≡ true → len < 2 ^ 32)
+OutFits p (AckWrite i ids len) = IdsFit ids × (p .delayed ≡ true → len < 2 ^ 31)
 OutFits p (CreditGranted i) = Unit {0}
 OutFits p (SlotClosed i) = Unit {0}
 OutFits p (DataBuffered i) = Unit {0}
@@ -425,17 +425,17 @@ ack-small s p n rest d =
     pick L (eqb (s .unacked) 0) (λ z. omega arith)
     (λ z. pick L (p .delayed) (λ t. omega arith) (λ t. absurd (true≢false (sym d ∙ t))))
 
-small-by : (s : ChannelSlot) (p : RxPolicy) (want cap : ℕ) → SlotOk s cap → p .delayed ≡ true → (r : SettledSlot) → Settling s p want r → ackLength (r .ack) < 2 ^ 32
+small-by : (s : ChannelSlot) (p : RxPolicy) (want cap : ℕ) → SlotOk s cap → p .delayed ≡ true → (r : SettledSlot) → Settling s p want r → ackLength (r .ack) < 2 ^ 31
 unfolding ackLength
-small-by s p want cap ok d r (none e) = subst (λ (x : SettledSlot). ackLength (x .ack) < 2 ^ 32) (sym e) (omega arith)
+small-by s p want cap ok d r (none e) = subst (λ (x : SettledSlot). ackLength (x .ack) < 2 ^ 31) (sym e) (omega arith)
 small-by s p want cap ok d r (some-len k f e) =
     let m = min want (s .buffered) in
     let a : k ≤ m = subst (λ (x : PendingAck). ackLength x ≤ m) f (ack-small s p m (s .buffered - m) d) in
     let run = ok .run-fits in
     let c = ok .cap-small in
-    subst (λ (x : SettledSlot). ackLength (x .ack) < 2 ^ 32) (sym e) (omega arith)
+    subst (λ (x : SettledSlot). ackLength (x .ack) < 2 ^ 31) (sym e) (omega arith)
 
-pub settled-small : (s : ChannelSlot) (p : RxPolicy) (want cap : ℕ) → SlotOk s cap → p .delayed ≡ true → ackLength (settledOf s p want .ack) < 2 ^ 32
+pub settled-small : (s : ChannelSlot) (p : RxPolicy) (want cap : ℕ) → SlotOk s cap → p .delayed ≡ true → ackLength (settledOf s p want .ack) < 2 ^ 31
 settled-small s p want cap ok d = small-by s p want cap ok d (settledOf s p want) (settling s p want)
 
 -- ---- a second settling
@@ -510,11 +510,11 @@ delivered-ids s p n h =
     (λ d. pick G (leb (p .watermark) (s .buffered)) (λ w. h)
     (λ w. pick G (s .«has_remote») (λ r. record { local = h .local; remote = h .remote }) (λ r. h)))
 
-pub delivered-small : (s : ChannelSlot) (p : RxPolicy) (n : ℕ) → n < 2 ^ 32 → p .delayed ≡ true → ackLength (deliveredOf s p n .ack) < 2 ^ 32
+pub delivered-small : (s : ChannelSlot) (p : RxPolicy) (n : ℕ) → n < 2 ^ 31 → p .delayed ≡ true → ackLength (deliveredOf s p n .ack) < 2 ^ 31
 unfolding deliveredOf ackLength
 delivered-small s p n h d =
-    let G : SettledSlot → Type 0 = λ r. ackLength (r .ack) < 2 ^ 32 in
+    let G : SettledSlot → Type 0 = λ r. ackLength (r .ack) < 2 ^ 31 in
     let m = some-small n in
     pick G (p .delayed)
-    (λ t. pick (λ (a : PendingAck). ackLength a < 2 ^ 32) (s .«has_remote») (λ r. omega arith) (λ r. omega arith))
+    (λ t. pick (λ (a : PendingAck). ackLength a < 2 ^ 31) (s .«has_remote») (λ r. omega arith) (λ r. omega arith))
     (λ t. absurd (true≢false (sym d ∙ t)))

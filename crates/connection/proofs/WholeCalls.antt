@@ -54,66 +54,66 @@ use Rattle.table.proofs.KeepLaws.{place-found}
 use Rattle.incoming.proofs.QueueLaws.{QueueKeeps, FrontAs, pop-keeps}
 use Rattle.connection.proofs.WholeAct.{ActedKeeps, acted-keeps}
 use Rattle.connection.specs.Act.{PacketFits}
-use Rattle.connection.proofs.Decoding.{NotBroken, fault-fine, error-fine, unless-fine, ReceivedFits, received-fits}
+use Rattle.connection.proofs.Decoding.{Admitted, fault-fine, error-fine, unless-fine, ReceivedFits, received-fits}
 use Rattle.connection.proofs.WholeWork.{negotiated, Kept, WorkWhole, At, drop-whole, begun-whole, frames-whole, slot-whole, act-whole, ends-kept, at-frames, at-slot, at-act, at-ends, untouched-kept, dropped-whole, there-live, there-at, Long, long}
 
--- ---- answers that are not refusal 13
+-- ---- answers that are neither refusal 13 nor 8
 
-done-fine : NotBroken Done
+done-fine : Admitted Done
 unfolding numberOf
-done-fine e = omega arith
+done-fine = (λ e. omega arith, λ e. omega arith)
 
-waiting-fine : NotBroken Waiting
+waiting-fine : Admitted Waiting
 unfolding numberOf
-waiting-fine e = omega arith
+waiting-fine = (λ e. omega arith, λ e. omega arith)
 
-nothing-fine : NotBroken Nothing
+nothing-fine : Admitted Nothing
 unfolding numberOf
-nothing-fine e = omega arith
+nothing-fine = (λ e. omega arith, λ e. omega arith)
 
-opened-fine : (ch : ChannelId) → NotBroken (Opened ch)
+opened-fine : (ch : ChannelId) → Admitted (Opened ch)
 unfolding numberOf
-opened-fine ch e = omega arith
+opened-fine ch = (λ e. omega arith, λ e. omega arith)
 
-settled-fine : (a : PendingAck) → NotBroken (Settled a)
+settled-fine : (a : PendingAck) → Admitted (Settled a)
 unfolding numberOf
-settled-fine a e = omega arith
+settled-fine a = (λ e. omega arith, λ e. omega arith)
 
-read-fine : (k : ℕ) → NotBroken (Read k)
+read-fine : (k : ℕ) → Admitted (Read k)
 unfolding numberOf
-read-fine k e = omega arith
+read-fine k = (λ e. omega arith, λ e. omega arith)
 
-written-fine : (k : ℕ) → NotBroken (Written k)
+written-fine : (k : ℕ) → Admitted (Written k)
 unfolding numberOf
-written-fine k e = omega arith
+written-fine k = (λ e. omega arith, λ e. omega arith)
 
-front-fine : (r : RemoteId) (credit place len : ℕ) → NotBroken (FrontIs r credit place len)
+front-fine : (r : RemoteId) (credit place len : ℕ) → Admitted (FrontIs r credit place len)
 unfolding numberOf
-front-fine r credit place len e = omega arith
+front-fine r credit place len = (λ e. omega arith, λ e. omega arith)
 
-closed-fine : NotBroken (Refused ChannelClosed)
+closed-fine : Admitted (Refused ChannelClosed)
 unfolding numberOf refusalNumber
-closed-fine e = omega arith
+closed-fine = (λ e. omega arith, λ e. omega arith)
 
-short-fine : NotBroken (Refused ShortReadyPayload)
+short-fine : Admitted (Refused ShortReadyPayload)
 unfolding numberOf refusalNumber
-short-fine e = omega arith
+short-fine = (λ e. omega arith, λ e. omega arith)
 
-early-fine : NotBroken (Refused UnexpectedCommand)
+early-fine : Admitted (Refused UnexpectedCommand)
 unfolding numberOf refusalNumber
-early-fine e = omega arith
+early-fine = (λ e. omega arith, λ e. omega arith)
 
-large-fine : NotBroken (Refused PayloadTooLarge)
+large-fine : Admitted (Refused PayloadTooLarge)
 unfolding numberOf refusalNumber
-large-fine e = omega arith
+large-fine = (λ e. omega arith, λ e. omega arith)
 
-out-fine : NotBroken (Refused OutShort)
+out-fine : Admitted (Refused OutShort)
 unfolding numberOf refusalNumber
-out-fine e = omega arith
+out-fine = (λ e. omega arith, λ e. omega arith)
 
-free-fine : NotBroken (Refused NoFreeChannels)
+free-fine : Admitted (Refused NoFreeChannels)
 unfolding numberOf refusalNumber
-free-fine e = omega arith
+free-fine = (λ e. omega arith, λ e. omega arith)
 
 module _ (l : Lent) (g : Whole (negotiated l) (l .state .header) (l .state .slots) (l .state .opens)) where
   gd : Whole (negotiated l) (dropped (l .state .header)) (l .state .slots) (l .state .opens)

@@ -32,20 +32,21 @@ use Rattle.connection.specs.Calls.{Lent, Outcome, untouched, Work, begun
 use Rattle.connection.specs.Frames.{Frame}
 use Rattle.state.proofs.WholeLaws.{Live, SlotWhole, Whole, whole-live, whole-put}
 use Rattle.connection.proofs.WholeAct.{ActedKeeps}
-use Rattle.connection.proofs.Decoding.{NotBroken}
+use Rattle.connection.proofs.Decoding.{Admitted}
 use Rattle.table.proofs.KeepLaws.{local-filled}
 
 abbrev pub negotiated : Lent → Negotiated
 negotiated l = l .state .header .negotiated
 
 -- a call's outcome: its changes lie within the state and leave it whole with its negotiated values, both stores keep their
--- lengths, the answer is not refusal 13
+-- lengths, the answer is not refusal 13, and is 8 only where a store is under its length and nothing was done
 pub record Kept (l : Lent) (o : Outcome) : Type 0 where
   pub within : Every Within (o .changes)
   pub facts : Whole (negotiated l) (changedAll (l .state) (o .changes) .header) (changedAll (l .state) (o .changes) .slots) (changedAll (l .state) (o .changes) .opens)
   pub rx-length : length (o .rx) ≡ length (l .rx)
   pub store-length : length (o .store) ≡ length (l .store)
-  pub answer : NotBroken (o .answer)
+  pub answer : numberOf (o .answer) ≡ 13 → ⊥
+  pub eight : numberOf (o .answer) ≡ 8 → o ≡ untouched l StoreShort
 
 -- the same of what a call has done so far, once its header is stored
 pub record WorkWhole (l : Lent) (w : Work) : Type 0 where
@@ -118,7 +119,7 @@ module _ (l : Lent) (w : Work) (k : WorkWhole l w) where
       }
 
   -- the call ends
-  pub ends-kept : (a : Answer) (used : ℕ) (handed : List ℕ) → NotBroken a → Kept l (ends w a used handed)
+  pub ends-kept : (a : Answer) (used : ℕ) (handed : List ℕ) → Admitted a → Kept l (ends w a used handed)
   unfolding ends
   ends-kept a used handed f =
       record {
@@ -126,7 +127,8 @@ module _ (l : Lent) (w : Work) (k : WorkWhole l w) where
         facts = subst (λ (x : Connection). Whole (negotiated l) (x .header) (x .slots) (x .opens)) (sym (changes-append (l .state) (w .changes) (headerTo (w .header) ∷ []))) (k .facts);
         rx-length = k .rx-length;
         store-length = k .store-length;
-        answer = f;
+        answer = f .0;
+        eight = λ e. absurd (f .1 e);
       }
 
 module _ (l : Lent) (i : ℕ) (w : Work) (k : At l i w) where
@@ -170,15 +172,19 @@ module _ (l : Lent) (i : ℕ) (w : Work) (k : At l i w) where
         live = subst (λ (x : Connection). Live (negotiated l) i (getD (x .slots) i emptySlot)) (sym z) (g .facts .slots .each i .live (g .filled i (k .live .filled)));
       }
 
-  pub at-ends : (a : Answer) (used : ℕ) (handed : List ℕ) → NotBroken a → Kept l (ends w a used handed)
+  pub at-ends : (a : Answer) (used : ℕ) (handed : List ℕ) → Admitted a → Kept l (ends w a used handed)
   at-ends a used handed f = ends-kept l w (k .work) a used handed f
 
 -- ---- a call's start
 
 module _ (l : Lent) (g : Whole (negotiated l) (l .state .header) (l .state .slots) (l .state .opens)) where
   -- a refusal that changes nothing
-  pub untouched-kept : (r : Refusal) → NotBroken (Refused r) → Kept l (untouched l r)
-  untouched-kept r f = record { within = tt; facts = g; rx-length = refl; store-length = refl; answer = f }
+  pub untouched-kept : (r : Refusal) → Admitted (Refused r) → Kept l (untouched l r)
+  untouched-kept r f = record { within = tt; facts = g; rx-length = refl; store-length = refl; answer = f .0; eight = λ e. absurd (f .1 e) }
+
+  short-kept : Kept l (untouched l StoreShort)
+  unfolding numberOf refusalNumber
+  short-kept = record { within = tt; facts = g; rx-length = refl; store-length = refl; answer = λ e. omega arith; eight = λ e. refl }
 
   pub dropped-whole : WorkWhole l (begun (dropped (l .state .header)) l)
   dropped-whole = begun-whole l (dropped (l .state .header)) (drop-whole (negotiated l) (l .state .header) (l .state) g)
@@ -198,12 +204,12 @@ module _ (l : Lent) (g : Whole (negotiated l) (l .state .header) (l .state .slot
   pub checked-kept : (o : Outcome) → (storesFit (negotiated l .config) (length (l .rx)) (length (l .store)) ≡ true → Kept l o) → Kept l (checked true l o)
   unfolding checked numberOf refusalNumber
   checked-kept o f =
-      pick (Kept l) (storesFit (negotiated l .config) (length (l .rx)) (length (l .store))) f (λ t. untouched-kept StoreShort (λ e. omega arith))
+      pick (Kept l) (storesFit (negotiated l .config) (length (l .rx)) (length (l .store))) f (λ t. short-kept)
 
   pub checked-out-kept : (out : ℕ) (o : Outcome) → (storesFit (negotiated l .config) (length (l .rx)) (length (l .store)) ≡ true → Kept l o) → Kept l (checkedOut true l out o)
   unfolding checkedOut numberOf refusalNumber
   checked-out-kept out o f =
-      checked-kept _ (λ t. pick (Kept l) (ltb out 56) (λ u. untouched-kept OutShort (λ e. omega arith)) (λ u. f t))
+      checked-kept _ (λ t. pick (Kept l) (ltb out 56) (λ u. untouched-kept OutShort (λ e. omega arith, λ e. omega arith)) (λ u. f t))
 
 -- ---- the stores' lengths
 

@@ -1,6 +1,6 @@
 -- A packet that a call dispatches: the slot at one place beside its book. Assumes nothing.
 use mathlib.Core.Path.{_≡_, refl, sym, ap, subst, _∙_}
-use mathlib.Core.Bool.{Bool, true, false, not, cond, _&&_, _||_, true≢false}
+use mathlib.Core.Bool.{Bool, true, false, not, cond, _&&_, true≢false}
 use mathlib.Core.List.{List, [], _∷_, _++_}
 use Prim.Native.Nat.{ℕ, _+_, _-_, _*_, _≤_, _<_}
 use native.Mathlib.Omega.{arith}
@@ -51,7 +51,7 @@ use Rattle.connection.specs.Act.{Acted, pushedBy, actedBy, tableOf, actOn}
 use Rattle.connection.specs.Answer.{ackLength, numberOf}
 use Rattle.connection.specs.Calls.{ackFrames, isWrite}
 use Rattle.connection.specs.Frames.{Frame, okayFrame, closeFrame, openFrame, writeFrame}
-use Rattle.history.specs.Book.{Book, Mark, sentB, closedB, overB, isRefused, isWrte, closesB, wrteB, frameB}
+use Rattle.history.specs.Book.{Book, sentB, closedB, overB, isRefused, isWrte, closesB, wrteB, frameB}
 use Rattle.history.specs.Demand3.{runOf}
 use Rattle.history.proofs.Good.{Terms, Good, Limits, Leaves, carried, carried-none, refuse-good, accept-good, shut-good, ready-good}
 use Rattle.connection.proofs.Slots.{slotsBy, slots-append}
@@ -248,6 +248,10 @@ module _ (h : Header) (ss : List ChannelSlot) (opens : List PendingOpen) (rx sto
       same-by pol ss h opens payload store (tableOf h ss rx k payload) (tableOf h ss rx k payload .step .result) refl
       (λ d. silent-route pol (h .negotiated .config .channels) ss (k .command) (k .arg0) (k .arg1) payload rx d)
 
+  -- the fault is the table's
+  pub acted-fault : acted .fault ≡ faultOf (tableOf h ss rx k payload .step .result)
+  acted-fault = same .fault
+
   -- no credit is written
   pub acted-acks : (l : ℕ) → acksIn pol l (acted .frames) ≡ 0
   acted-acks l = same .credit l
@@ -417,43 +421,43 @@ module _ (p : RxPolicy) (s : ChannelSlot) (q payload : List ℕ) (mine ends : Bo
 
 -- what an answer tells of a WRTE of the slot's own: not refused where it was taken, 11 where it did not fit
 pub record Tells (mine : Bool) (fault : Failed) (a : Answer) : Type 0 where
-  pub taken : mine ≡ true → fault ≡ No → isRefused a ≡ false
-  pub over : mine ≡ true → fault ≡ By RxOverflow → (isRefused a ≡ true) × (eqb (numberOf a) 11 ≡ true)
+  pub taken : mine ≡ true → fault ≡ No → isRefused (numberOf a) ≡ false
+  pub over : mine ≡ true → fault ≡ By RxOverflow → (isRefused (numberOf a) ≡ true) × (eqb (numberOf a) 11 ≡ true)
 
 -- the same of equal slots, runs and books
 pub good-by : (p : RxPolicy) (credit : Terms) (s t : ChannelSlot) (q r : List ℕ) (b c : Book) → t ≡ s → r ≡ q → c ≡ b → Good p credit s q b → Good p credit t r c
 good-by p credit s t q r b c e f h g =
     subst (λ (x : ChannelSlot). Good p credit x r c) (sym e) (subst (λ (x : List ℕ). Good p credit s x c) (sym f) (subst (Good p credit s q) (sym h) g))
 
-module _ (d : List Mark) (i before : ℕ) (m : Message) (payload : List ℕ) (a : Answer) (b : Book) where
-  frame-mine : (isWrte m && eqb (m .arg1) (b .local)) ≡ true → frameB d i before m payload a b ≡ wrteB before payload a b
+module _ (d : List Book) (i before : ℕ) (m : Message) (payload : List ℕ) (a : Answer) (b : Book) where
+  frame-mine : (isWrte m && eqb (m .arg1) (b .local)) ≡ true → frameB d i before m payload (numberOf a) b ≡ wrteB before payload (numberOf a) b
   unfolding frameB
   frame-mine e = cond-true (isWrte m && eqb (m .arg1) (b .local)) _ _ e
 
-  frame-end : (isWrte m && eqb (m .arg1) (b .local)) ≡ false → closesB d i b m ≡ true → frameB d i before m payload a b ≡ closedB b
+  frame-end : (isWrte m && eqb (m .arg1) (b .local)) ≡ false → closesB d i b m ≡ true → frameB d i before m payload (numberOf a) b ≡ closedB b
   unfolding frameB
   frame-end e f = cond-false (isWrte m && eqb (m .arg1) (b .local)) _ _ e ∙ cond-true (closesB d i b m) _ _ f
 
-  pub frame-none : (isWrte m && eqb (m .arg1) (b .local)) ≡ false → closesB d i b m ≡ false → frameB d i before m payload a b ≡ b
+  pub frame-none : (isWrte m && eqb (m .arg1) (b .local)) ≡ false → closesB d i b m ≡ false → frameB d i before m payload (numberOf a) b ≡ b
   unfolding frameB
   frame-none e f = cond-false (isWrte m && eqb (m .arg1) (b .local)) _ _ e ∙ cond-false (closesB d i b m) _ _ f
 
 module _ (p : RxPolicy) (credit : Terms) (most : ℕ) (lim : Limits p credit most) (s : ChannelSlot) (q : List ℕ) (b : Book) (g : Good p credit s q b) (o : isOpening (s .state) ≡ false)
-    (payload : List ℕ) (small : length payload ≤ most) (before : ℕ) (early : before ≤ b .acked) (d : List Mark) (i : ℕ) (m : Message) (a : Answer) where
+    (payload : List ℕ) (small : length payload ≤ most) (before : ℕ) (early : before ≤ b .acked) (d : List Book) (i : ℕ) (m : Message) (a : Answer) where
   -- a WRTE that was taken
-  wrte-taken : heldOf s + length payload ≤ p .«rx_cap» → isRefused a ≡ false → Good p credit (wroteOf s p (length payload) .slot) (q ++ payload) (wrteB before payload a b)
+  wrte-taken : heldOf s + length payload ≤ p .«rx_cap» → isRefused (numberOf a) ≡ false → Good p credit (wroteOf s p (length payload) .slot) (q ++ payload) (wrteB before payload (numberOf a) b)
   wrte-taken h e =
-      good-by p credit _ _ _ _ _ _ refl refl (cond-false (isRefused a) _ _ e) (accept-good p credit s q b g before payload (lim .small) h o)
+      good-by p credit _ _ _ _ _ _ refl refl (cond-false (isRefused (numberOf a)) _ _ e) (accept-good p credit s q b g before payload (lim .small) h o)
 
-  wrte-over : p .«rx_cap» < heldOf s + length payload → isRefused a ≡ true → eqb (numberOf a) 11 ≡ true → Good p credit s q (wrteB before payload a b)
+  wrte-over : p .«rx_cap» < heldOf s + length payload → isRefused (numberOf a) ≡ true → eqb (numberOf a) 11 ≡ true → Good p credit s q (wrteB before payload (numberOf a) b)
   wrte-over h e f =
       good-by p credit s s q q (overB true (sentB before (length payload) b)) _ refl refl
-      (cond-true (isRefused a) _ _ e ∙ ap (λ (x : Bool). overB x (sentB before (length payload) b)) f)
+      (cond-true (isRefused (numberOf a)) _ _ e ∙ ap (λ (x : Bool). overB x (sentB before (length payload) b)) f)
       (refuse-good p credit s q b g before (length payload) most lim early small h)
 
   -- the book of a slot that a packet was dispatched to, or not
   pub at-good : (mine ends : Bool) (t : ChannelSlot) (r : List ℕ) (fault : Failed) → At p s q payload mine ends t r fault → Tells mine fault a
-      → (isWrte m && eqb (m .arg1) (b .local)) ≡ mine → closesB d i b m ≡ ends → Good p credit t r (frameB d i before m payload a b)
+      → (isWrte m && eqb (m .arg1) (b .local)) ≡ mine → closesB d i b m ≡ ends → Good p credit t r (frameB d i before m payload (numberOf a) b)
   at-good mine ends t r fault (apart e1 e2 e3 e4) tells x y =
       good-by p credit s t q r b _ e3 e4 (frame-none d i before m payload a b (x ∙ e1) (y ∙ e2)) g
   at-good mine ends t r fault (wrote e1 h e3 e4 e5) tells x y =

@@ -1,14 +1,14 @@
 -- Each call beside the book of a channel that is in the table. Assumes nothing.
 use mathlib.Core.Path.{_≡_, refl, sym, ap, ap₂, subst, _∙_}
-use mathlib.Core.Bool.{Bool, true, false, not, cond, _&&_, _||_, true≢false}
-use mathlib.Core.List.{List, [], _∷_, _++_, map, append-nil}
+use mathlib.Core.Bool.{Bool, true, false, not, cond, _&&_, true≢false}
+use mathlib.Core.List.{List, [], _∷_, _++_, append-nil}
 use Prim.Native.Nat.{ℕ, _+_, _-_, _*_, _≤_, _<_}
 use native.Mathlib.Omega.{arith}
 use lib.Dec.{eqb, ltb, leb}
 use lib.ListN.{length, take, drop, set}
 use borrow.Author.Tests.{eqb-true, eqb-false, eq-eqb, ne-eqb, lt-ltb}
 use Rattle.le.specs.Le.{part}
-use lib.Seq.{take-take, map-set-same}
+use lib.Seq.{take-take}
 use Rattle.le.proofs.Parts.{by-test, length-part}
 use Rattle.rx_store.proofs.Laws.{part-taken}
 use Rattle.table.proofs.DispatchLaws.{share-in}
@@ -22,14 +22,12 @@ use Rattle.slot.specs.declared.Failed.{Failed}
 use Rattle.slot.specs.declared.Failed.the-variants.{No, By}
 use Rattle.slot.specs.declared.Settled.{Settled}
 use Rattle.slot.specs.declared.ChannelError.{ChannelError}
-use Rattle.slot.specs.declared.ChannelFault.the-variants.{ShortReadyPayload}
 use Rattle.slot.specs.declared.Budget.{Budget}
 use Rattle.slot.specs.declared.Budget.the-variants.{Bytes, Nothing as NoBudget}
 use Rattle.slot.specs.declared.Readied.{Readied}
 use Rattle.slot.specs.declared.Readied.the-variants.{Slot, Short}
 use Rattle.slot.specs.declared.Taken.{Taken}
 use Rattle.slot.specs.declared.Taken.the-variants.{Data, Nothing as NothingTaken, Closed as ClosedTaken}
-use Rattle.slot.specs.declared.ids.ChannelIds.{ChannelIds}
 use Rattle.slot.specs.declared.ids.LocalId.{LocalId}
 use Rattle.slot.specs.Ids.{isClose, closedBy}
 use Rattle.slot.specs.Slot.{budgetOf, spentOf, readyOf, closedSlot, deliveredOf, emptySlot, settledOf, tookOf, takenOf, takeLen, hasData, isClosed, errorOf, heldOf, SlotOk}
@@ -54,18 +52,19 @@ use Rattle.table.specs.declared.ChannelId.{ChannelId}
 use Rattle.table.specs.declared.Want.the-variants.{Remote}
 use Rattle.table.specs.Table.{first, wantedBy, placeOf}
 use Rattle.connection.specs.Calls.{untouched, sendLen, sendSome, sendBy, sendAgain, writeReadied, writeActed, writeAct, writeBy, writeFirst, writeOn, writeStep, isReady, isWrite, faultRefusal, readDirect, readActed, readSettled, reread, isDirect, readBy, readTaken, readFirst, readStep, idsIn, closeStep, frontBy, frontStep, errorRefusal, frontOf, takenBy, takeStep, ackFrames, settledAs, settleStep, isThere, slotFor, Lent, Outcome, Work, begun, then, thenActed, ends, dropped, policy, bodyOf, frameLen, receivedOf, unlessFault, dispatchBy, dispatchStep}
-use Rattle.history.specs.Book.{writeB, isClse, hasRemote, endsOther, noMark, ownEnd, acceptedB, sentB, closedB, damagedB, isWrte, payloadAt, Mark, readB, readUsedB, isRefused, handedB, isEarly, settleB, isOn, Book, ackedB, acksOf, acksB, packetB, frameB, headerAt, never}
+use Rattle.history.specs.Book.{writeB, isClse, hasRemote, endsOther, ownEnd, acceptedB, sentB, closedB, damagedB, isWrte, payloadAt, readB, readUsedB, isRefused, handedB, isEarly, settleB, isOn, Book, ackedB, acksOf, packetB, frameB, headerAt, never}
 use Rattle.history.specs.Demand3.{runOf}
 use Rattle.history.proofs.Acts.{frame-none, at-keeps, at-stays, at-named, at-sound, at-fits, at-live, acted-length, acks-own, acks-other, acksIn, acks-append, mineOf, endsOf, acted-acks, acted-at, Tells, good-by}
 use Rattle.history.proofs.Good.{Terms, settled-takes, ready-good, spent-good, Leaves, deliver-good, shut-good, settle-empty, acked-drop, took-good, handed-none, Good, Limits, acked-none, carried, settle-good}
-use Rattle.history.proofs.Packets.{Stops, Got, stopped, packet, got, markOf, reads-write, reads-close, reads-arg1, reads-payload, ready-no-write, write-no-close, reads-end, mark-at, body-length, body-small}
+use Rattle.history.proofs.Packets.{Stops, Got, stopped, packet, got, Marked, marked-set, reads-write, reads-close, reads-arg1, reads-payload, ready-no-write, write-no-close, reads-end, body-length, body-small}
 use Rattle.connection.proofs.Slots.{slots-by, slots-append, slots-length, slotsBy, slot-set-same, slot-set-other}
 use Rattle.history.proofs.Places.{closed-run, ready-run, At, SameRun, TableOk}
-use Rattle.history.proofs.Steps.{fault-apart, unless-is, waiting-four, spent-run, late-error, late-unless, four-error, over-told, table-set, delivered-same, damaged-good, nil-of, Alike, settled-alike, settled-run, acted-good, seenOf, stop-good, packet-good, not-four, tells-fault, Fine, ends-fine}
+use Rattle.history.proofs.Steps.{fault-apart, unless-is, waiting-four, spent-run, late-error, late-unless, four-error, over-told, table-set, delivered-same, damaged-good, nil-of, Alike, settled-alike, settled-run, acted-good, saw, sawOf, stop-good, packet-good, not-four, tells-fault, Fine, ends-fine}
 
 module _ (l : Lent) (credit : Terms) (ok : TableOk (policy l) (l .state .header .negotiated .config .channels) (l .state .slots) (l .rx))
     (lim : Limits (policy l) credit (l .state .header .negotiated .config .«max_payload»)) (i : ℕ) (there : slotIn (l .state .slots) i .filled ≡ true)
-    (b : Book) (g : Good (policy l) credit (slotIn (l .state .slots) i) (runOf (l .rx) (policy l .«rx_cap») i (slotIn (l .state .slots) i)) b) where
+    (b : Book) (g : Good (policy l) credit (slotIn (l .state .slots) i) (runOf (l .rx) (policy l .«rx_cap») i (slotIn (l .state .slots) i)) b)
+    (books : List Book) (mk : Marked books (l .state .slots)) where
   abbrev p : RxPolicy
   p = policy l
 
@@ -76,11 +75,11 @@ module _ (l : Lent) (credit : Terms) (ok : TableOk (policy l) (l .state .header 
 
   -- credit that a call wrote for another channel
   quiet-acks : (x : Outcome) (fs : List Sent) (c : Book) → acksOf (b .local) fs ≡ acksIn p (b .local) (x .frames) → acksIn p (b .local) (x .frames) ≡ 0
-      → Fine p credit ss i x c → Fine p credit ss i x (acksB (b .local) (seenOf x fs) c)
+      → Fine p credit ss i x c → Fine p credit ss i x (ackedB (acksOf (b .local) fs) c)
   quiet-acks x fs c e z f = acked-none p credit _ _ c f (acksOf (b .local) fs) (e ∙ z)
 
   abbrev dispatched : List ℕ → List Sent → Outcome → Book
-  dispatched received fs x = acksB (b .local) (seenOf x fs) (packetB (map markOf ss) i received never (seenOf x fs) b)
+  dispatched received fs x = ackedB (acksOf (b .local) fs) (packetB books i received never (sawOf x fs) b)
 
   dispatch-by : (received : List ℕ) (fs : List Sent) (r : Received) → Got received (l .state .header .negotiated .config .«max_payload») r
       → acksOf (b .local) fs ≡ acksIn p (b .local) (dispatchBy l (dropped (l .state .header)) received r .frames)
@@ -88,7 +87,7 @@ module _ (l : Lent) (credit : Terms) (ok : TableOk (policy l) (l .state .header 
   unfolding dispatchBy ends numberOf
   dispatch-by received fs r (stopped a used st) e =
       let x = ends (begun (dropped (l .state .header)) l) a used [] in
-      quiet-acks x fs _ e refl (ends-fine p credit ss i (begun (dropped (l .state .header)) l) a used [] _ (stop-good p credit _ lim _ _ b g (map markOf ss) i received never a used fs [] st))
+      quiet-acks x fs _ e refl (ends-fine p credit ss i (begun (dropped (l .state .header)) l) a used [] _ (stop-good p credit _ lim _ _ b g books i received never a used fs [] st))
   dispatch-by received fs r (packet k sy) e =
       let h = dropped (l .state .header) in
       let act = actOn h ss (l .state .opens) (l .rx) (l .store) k (bodyOf received k) in
@@ -97,8 +96,8 @@ module _ (l : Lent) (credit : Terms) (ok : TableOk (policy l) (l .state .header 
       let x = ends w a (frameLen k) [] in
       quiet-acks x fs _ e (acted-acks h ss (l .state .opens) (l .rx) (l .store) k (bodyOf received k) (b .local))
       (ends-fine p credit ss i w a (frameLen k) [] _
-      (packet-good p credit _ lim _ _ b g (map markOf ss) i received never (l .state .header .negotiated .config .«max_payload») k a fs [] _ _ sy (not-four (act .fault) Done refl) refl
-      (acted-good h ss (l .state .opens) (l .rx) (l .store) ok credit lim i there b g (map markOf ss) refl received k sy (b .acked) (omega arith) a (tells-fault (mineOf ss i k) (act .fault) Done refl))))
+      (packet-good p credit _ lim _ _ b g books i received never (l .state .header .negotiated .config .«max_payload») k a fs [] _ _ sy (not-four (act .fault) Done refl) refl
+      (acted-good h ss (l .state .opens) (l .rx) (l .store) ok credit lim i there b g books mk received k sy (b .acked) (omega arith) a (tells-fault (mineOf ss i k) (act .fault) Done refl))))
 
   pub dispatch-good : (received : List ℕ) (fs : List Sent) → acksOf (b .local) fs ≡ acksIn p (b .local) (dispatchStep l received .frames)
       → Fine p credit ss i (dispatchStep l received) (dispatched received fs (dispatchStep l received))
@@ -155,7 +154,7 @@ module _ (l : Lent) (credit : Terms) (ok : TableOk (policy l) (l .state .header 
   -- and uses nothing
   none-taken : (ch : ChannelId) (fs : List Sent) (received : List ℕ)
       → Good p credit (slotIn ss i) (runOf (l .rx) (p .«rx_cap») i (slotIn ss i))
-      (packetB (map markOf ss) i received (endsOther (map markOf ss) ch) (seenOf (ends (begun (dropped (l .state .header)) l) (Refused ChannelClosed) 0 []) fs) b)
+      (packetB books i received (endsOther books ch) (sawOf (ends (begun (dropped (l .state .header)) l) (Refused ChannelClosed) 0 []) fs) b)
   unfolding packetB ends
   none-taken ch fs received = g
 
@@ -204,7 +203,7 @@ module _ (l : Lent) (credit : Terms) (ok : TableOk (policy l) (l .state .header 
     abbrev settles-fine : Outcome → Type 0
     settles-fine x =
         acksOf (b .local) fs ≡ acksIn p (b .local) (x .frames)
-        → Fine p credit ss i x (acksB (b .local) (seenOf x fs) (cond (isOn i b ch && not (isEarly (x .answer))) (settleB p want b) b))
+        → Fine p credit ss i x (ackedB (acksOf (b .local) fs) (cond (isOn i b ch && not (isEarly (numberOf (x .answer)))) (settleB p want b) b))
 
     settle-by : On ch → settles-fine (settleStep l ch want)
     unfolding settleStep settledAs slotFor ends numberOf refusalNumber
@@ -215,7 +214,7 @@ module _ (l : Lent) (credit : Terms) (ok : TableOk (policy l) (l .state .header 
         ends-fine p credit ss i (settling r ch 0) (SettledIs (r .ack)) 0 [] _
         (good-this (ch .slot) (r .slot) (l .rx) _ d
         (good-by p credit _ _ _ _ (ackedB (carried p (r .ack)) (settleB p want b)) _ refl refl
-        (ap (λ (x : Bool). acksB (b .local) (seenOf (settledAs l ch r) fs) (cond (x && true) (settleB p want b) b)) o
+        (ap (λ (x : Bool). ackedB (acksOf (b .local) fs) (cond (x && true) (settleB p want b) b)) o
         ∙ ap (λ (k : ℕ). ackedB k (settleB p want b)) (e ∙ acks-own p (b .local) (r .slot) (r .ack) (settled-local (ch .slot) want d)))
         (settled-slot (ch .slot) want d))))
     settle-by (another d t f ne o) =
@@ -313,10 +312,10 @@ module _ (l : Lent) (credit : Terms) (ok : TableOk (policy l) (l .state .header 
   closing ch = then (begun (dropped (l .state .header)) l) (slotTo (ch .slot) emptySlot ∷ []) (closeFrame (idsIn (slotFor l ch)) ∷ [])
 
   -- on this channel: its slot is empty, and it has no book any more
-  pub close-this : (ch : ChannelId) → On ch → isOn i b ch ≡ true → (slotIn (slotsBy ss (closeStep l ch .changes)) i .filled ≡ false) × (isRefused (closeStep l ch .answer) ≡ false)
-  unfolding closeStep slotFor ends emptySlot
+  pub close-this : (ch : ChannelId) → On ch → isOn i b ch ≡ true → (slotIn (slotsBy ss (closeStep l ch .changes)) i .filled ≡ false) × (isRefused (numberOf (closeStep l ch .answer)) ≡ false)
+  unfolding closeStep slotFor ends emptySlot numberOf
   close-this ch (this d t o) _ =
-      let C : Outcome → Type 0 = λ x. (slotIn (slotsBy ss (x .changes)) i .filled ≡ false) × (isRefused (x .answer) ≡ false) in
+      let C : Outcome → Type 0 = λ x. (slotIn (slotsBy ss (x .changes)) i .filled ≡ false) × (isRefused (numberOf (x .answer)) ≡ false) in
       let z = ok .size in
       let y = ok .most in
       let h = ok .below i there in
@@ -369,9 +368,6 @@ module _ (l : Lent) (credit : Terms) (ok : TableOk (policy l) (l .state .header 
     abbrev B0 : Book
     B0 = settleB p room b
 
-    abbrev dir : List Mark
-    dir = map markOf ss
-
     alike1 : Alike (slotIn ss i) s1
     alike1 = settled-alike (slotIn ss i) p room (g .known)
 
@@ -392,27 +388,27 @@ module _ (l : Lent) (credit : Terms) (ok : TableOk (policy l) (l .state .header 
     w1 = then (begun (dropped (l .state .header)) l) [] (ackFrames s1 (r1 .ack))
 
     abbrev reads-fine : Outcome → Type 0
-    reads-fine x = acksOf (b .local) fs ≡ acksIn p (b .local) (x .frames) → Fine p credit ss i x (readB p dir i room received (seenOf x fs) (acksOf (b .local) fs) b)
+    reads-fine x = acksOf (b .local) fs ≡ acksIn p (b .local) (x .frames) → Fine p credit ss i x (ackedB (acksOf (b .local) fs) (readB p books i room received (sawOf x fs) b))
 
     -- the book of a read that used nothing
-    unused-book : (a : Answer) (bs : List ℕ) (k : ℕ) → isEarly a ≡ false → readB p dir i room received (record { answer = a; used = 0; sent = fs; got = bs }) k b ≡ handedB bs (ackedB k B0)
+    unused-book : (a : Answer) (bs : List ℕ) → isEarly (numberOf a) ≡ false → readB p books i room received (saw a 0 fs bs) b ≡ handedB bs B0
     unfolding readB
-    unused-book a bs k e = cond-false (isEarly a) _ _ e
+    unused-book a bs e = cond-false (isEarly (numberOf a)) _ _ e
 
     -- and of one that used a packet
-    used-book : (a : Answer) (used : ℕ) (bs : List ℕ) (k : ℕ) → isEarly a ≡ false → (used ≡ 0 → ⊥)
-        → readB p dir i room received (record { answer = a; used = used; sent = fs; got = bs }) k b ≡ readUsedB p dir i (b .acked) room received (record { answer = a; used = used; sent = fs; got = bs }) k B0
+    used-book : (a : Answer) (used : ℕ) (bs : List ℕ) → isEarly (numberOf a) ≡ false → (used ≡ 0 → ⊥)
+        → readB p books i room received (saw a used fs bs) b ≡ readUsedB p books i (b .acked) room received (saw a used fs bs) B0
     unfolding readB
-    used-book a used bs k e ne = cond-false (isEarly a) _ _ e ∙ cond-false (eqb used 0) _ _ (ne-eqb used 0 ne)
+    used-book a used bs e ne = cond-false (isEarly (numberOf a)) _ _ e ∙ cond-false (eqb used 0) _ _ (ne-eqb used 0 ne)
 
     -- a slot stored at the end of a read that used nothing
-    unused-fine : (t : ChannelSlot) (a : Answer) (bs : List ℕ) → isEarly a ≡ false → Good p credit t (runOf (l .rx) (p .«rx_cap») i t) (handedB bs (ackedB (carried p (r1 .ack)) B0))
+    unused-fine : (t : ChannelSlot) (a : Answer) (bs : List ℕ) → isEarly (numberOf a) ≡ false → Good p credit t (runOf (l .rx) (p .«rx_cap») i t) (handedB bs (ackedB (carried p (r1 .ack)) B0))
         → reads-fine (ends (then w1 (slotTo i t ∷ []) []) a 0 bs)
     unfolding ends
     unused-fine t a bs late f e =
         let k : acksOf (b .local) fs ≡ carried p (r1 .ack) = e ∙ ap (acksIn p (b .local)) (append-nil (ackFrames s1 (r1 .ack))) ∙ acks1 in
         ends-fine p credit ss i (then w1 (slotTo i t ∷ []) []) a 0 bs _
-        (good-this i t (l .rx) _ refl (good-by p credit _ _ _ _ _ _ refl refl (unused-book a bs (acksOf (b .local) fs) late ∙ ap (λ (x : ℕ). handedB bs (ackedB x B0)) k) f))
+        (good-this i t (l .rx) _ refl (good-by p credit _ _ _ _ _ _ refl refl (ap (ackedB (acksOf (b .local) fs)) (unused-book a bs late) ∙ ap (λ (x : ℕ). handedB bs (ackedB x B0)) k) f))
 
     -- data at once
     read-data : (n : ℕ) → n ≡ takeLen s1 room → reads-fine (ends (then w1 (slotTo i (tookOf s1 n) ∷ []) []) (Read n) 0 (frontOf (l .rx) (p .«rx_cap») i s1 n))
@@ -423,13 +419,13 @@ module _ (l : Lent) (credit : Terms) (ok : TableOk (policy l) (l .state .header 
         (λ t d c. subst (λ (x : ℕ). x ≤ s1 .settled) (sym e) (settled-takes p credit (slotIn ss i) _ b room g d c)))
 
     -- an answer with nothing handed over
-    read-plain : (a : Answer) → isEarly a ≡ false → reads-fine (ends (then w1 (slotTo i s1 ∷ []) []) a 0 [])
+    read-plain : (a : Answer) → isEarly (numberOf a) ≡ false → reads-fine (ends (then w1 (slotTo i s1 ∷ []) []) a 0 [])
     read-plain a late = unused-fine s1 a [] late (handed-none p credit s1 q1 _ good1)
 
-    damaged-book : (a : Answer) (used k : ℕ) → eqb (numberOf a) 4 ≡ true
-        → readUsedB p dir i (b .acked) room received (record { answer = a; used = used; sent = fs; got = [] }) k B0 ≡ ackedB k (damagedB (b .acked) (headerAt received) (payloadAt received used) B0)
+    damaged-book : (a : Answer) (used : ℕ) → eqb (numberOf a) 4 ≡ true
+        → readUsedB p books i (b .acked) room received (saw a used fs []) B0 ≡ damagedB (b .acked) (headerAt received) (payloadAt received used) B0
     unfolding readUsedB
-    damaged-book a used k u = cond-true (eqb (numberOf a) 4) _ _ u
+    damaged-book a used u = cond-true (eqb (numberOf a) 4) _ _ u
 
     -- with nothing buffered, a packet is looked at
     module _ (nodata : hasData s1 ≡ false) (live : isClosed (s1 .state) ≡ false) where
@@ -458,14 +454,14 @@ module _ (l : Lent) (credit : Terms) (ok : TableOk (policy l) (l .state .header 
       read-stop a used st e =
           by-test (eqb used 0)
           (λ t. let z = eqb-true used 0 t in
-          subst (λ (x : ℕ). Fine p credit ss i (ends (then w1 (slotTo i s1 ∷ []) []) a x []) (readB p dir i room received (seenOf (ends (then w1 (slotTo i s1 ∷ []) []) a x []) fs) (acksOf (b .local) fs) b)) (sym z)
+          subst (λ (x : ℕ). Fine p credit ss i (ends (then w1 (slotTo i s1 ∷ []) []) a x []) (ackedB (acksOf (b .local) fs) (readB p books i room received (sawOf (ends (then w1 (slotTo i s1 ∷ []) []) a x []) fs) b))) (sym z)
           (read-plain a (st .late) e))
           (λ t. let ne = eqb-false used 0 t in
           by-test (eqb (numberOf a) 4)
           (λ u. ends-fine p credit ss i (then w1 (slotTo i s1 ∷ []) []) a used [] _
           (good-this i s1 (l .rx) _ refl
-          (good-by p credit _ _ _ _ _ _ refl refl (used-book a used [] (acksOf (b .local) fs) (st .late) ne ∙ damaged-book a used (acksOf (b .local) fs) u)
-          (acked-none p credit s1 q1 _ (damaged-good p credit _ lim s1 q1 B0 good0 dir i received never (b .acked) (headerAt received) (payloadAt received used)) (acksOf (b .local) fs) (e ∙ acks2 [])))))
+          (good-by p credit _ _ _ _ _ _ refl refl (ap (ackedB (acksOf (b .local) fs)) (used-book a used [] (st .late) ne ∙ damaged-book a used u))
+          (acked-none p credit s1 q1 _ (damaged-good p credit _ lim s1 q1 B0 good0 books i received never (b .acked) (headerAt received) (payloadAt received used)) (acksOf (b .local) fs) (e ∙ acks2 [])))))
           (λ u. absurd (ne (st .quiet u))))
 
       -- packets
@@ -495,12 +491,12 @@ module _ (l : Lent) (credit : Terms) (ok : TableOk (policy l) (l .state .header 
         abbrev delivered : Settled
         delivered = deliveredOf s1 p (k .«data_length»)
 
-        direct-book : (c : ℕ) → isDirect s1 room k ≡ true → readUsedB p dir i (b .acked) room received (record { answer = Read (length body); used = frameLen k; sent = fs; got = body }) c B0
-            ≡ ackedB c (handedB body (acceptedB body (sentB (b .acked) (length body) B0)))
+        direct-book : isDirect s1 room k ≡ true → readUsedB p books i (b .acked) room received (saw (Read (length body)) (frameLen k) fs body) B0
+            ≡ handedB body (acceptedB body (sentB (b .acked) (length body) B0))
         unfolding readUsedB numberOf
-        direct-book c t =
+        direct-book t =
             cond-true (isWrte m && eqb (m .arg1) (b .local) && leb (frameLen k - 24) room) _ _ (direct-test ∙ t)
-            ∙ ap (λ (x : List ℕ). ackedB c (handedB body (acceptedB x (sentB (b .acked) (length x) B0)))) (reads-payload received limit k sy)
+            ∙ ap (λ (x : List ℕ). handedB body (acceptedB x (sentB (b .acked) (length x) B0))) (reads-payload received limit k sy)
 
         delivered-good : Good p credit (delivered .slot) (runOf (l .rx) (p .«rx_cap») i (delivered .slot)) (ackedB (carried p (delivered .ack)) (handedB body (acceptedB body (sentB (b .acked) (length body) B0))))
         unfolding runOf
@@ -519,15 +515,15 @@ module _ (l : Lent) (credit : Terms) (ok : TableOk (policy l) (l .state .header 
             ∙ acks-own p (b .local) (delivered .slot) (delivered .ack) (ap (λ x. x .0) (delivered-same s1 p (k .«data_length») .1) ∙ local1) in
             ends-fine p credit ss i (then w1 (slotTo i (delivered .slot) ∷ []) (ackFrames (delivered .slot) (delivered .ack))) (Read (length body)) (frameLen k) body _
             (good-this i (delivered .slot) (l .rx) _ refl
-            (good-by p credit _ _ _ _ _ _ refl refl (used-book (Read (length body)) (frameLen k) body (acksOf (b .local) fs) refl used-some ∙ direct-book (acksOf (b .local) fs) t ∙ ap (λ (x : ℕ). ackedB x (handedB body (acceptedB body (sentB (b .acked) (length body) B0)))) c) delivered-good))
+            (good-by p credit _ _ _ _ _ _ refl refl (ap (ackedB (acksOf (b .local) fs)) (used-book (Read (length body)) (frameLen k) body refl used-some ∙ direct-book t) ∙ ap (λ (x : ℕ). ackedB x (handedB body (acceptedB body (sentB (b .acked) (length body) B0)))) c) delivered-good))
 
         -- its own end
         end-test : ownEnd (b .local) (b .remote) m ≡ closedBy (idsIn s1) k
         end-test = reads-end received limit k sy (b .local) (b .remote) (idsIn s1) (sym local1) (g .rem ∙ sym (ap (λ x. x .0) (alike1 .remote)))
 
-        end-book : (c : ℕ) → isDirect s1 room k ≡ false → closedBy (idsIn s1) k ≡ true → readUsedB p dir i (b .acked) room received (record { answer = Refused ChannelClosed; used = frameLen k; sent = fs; got = [] }) c B0 ≡ ackedB c (closedB B0)
+        end-book : isDirect s1 room k ≡ false → closedBy (idsIn s1) k ≡ true → readUsedB p books i (b .acked) room received (saw (Refused ChannelClosed) (frameLen k) fs []) B0 ≡ closedB B0
         unfolding readUsedB numberOf refusalNumber
-        end-book c t u =
+        end-book t u =
             cond-false (isWrte m && eqb (m .arg1) (b .local) && leb (frameLen k - 24) room) _ _ (direct-test ∙ t) ∙ cond-true (ownEnd (b .local) (b .remote) m) _ _ (end-test ∙ u)
 
         read-end : isDirect s1 room k ≡ false → closedBy (idsIn s1) k ≡ true → reads-fine (ends (then w1 (slotTo i (closedSlot s1) ∷ []) []) (Refused ChannelClosed) (frameLen k) [])
@@ -535,7 +531,7 @@ module _ (l : Lent) (credit : Terms) (ok : TableOk (policy l) (l .state .header 
         read-end t u e =
             ends-fine p credit ss i (then w1 (slotTo i (closedSlot s1) ∷ []) []) (Refused ChannelClosed) (frameLen k) [] _
             (good-this i (closedSlot s1) (l .rx) _ refl
-            (good-by p credit (closedSlot s1) _ q1 _ _ _ refl refl (used-book (Refused ChannelClosed) (frameLen k) [] (acksOf (b .local) fs) refl used-some ∙ end-book (acksOf (b .local) fs) t u)
+            (good-by p credit (closedSlot s1) _ q1 _ _ _ refl refl (ap (ackedB (acksOf (b .local) fs)) (used-book (Refused ChannelClosed) (frameLen k) [] refl used-some ∙ end-book t u))
             (acked-none p credit _ _ _ (shut-good p credit s1 q1 B0 good0) (acksOf (b .local) fs) (e ∙ acks2 []))))
 
         -- any other packet: dispatched, then settled and taken again
@@ -551,9 +547,8 @@ module _ (l : Lent) (credit : Terms) (ok : TableOk (policy l) (l .state .header 
         there1 : slotIn ss1 i .filled ≡ true
         there1 = ap (λ (x : ChannelSlot). x .filled) u1 ∙ alike1 .filled ∙ there
 
-        dir1 : dir ≡ map markOf ss1
-        unfolding slotIn
-        dir1 = sym (map-set-same markOf ss i s1 emptySlot (ap₂ (λ (x : Bool) (y : ℕ). cond x (record { there = true; remote = y }) noMark) (alike1 .filled) (ap (λ x. x .0) (alike1 .remote))))
+        marked1 : Marked books ss1
+        marked1 = marked-set books ss i s1 mk (alike1 .filled) (alike1 .remote)
 
         abbrev act : Acted
         act = actOn (dropped (l .state .header)) ss1 (l .state .opens) (l .rx) (l .store) k body
@@ -567,8 +562,8 @@ module _ (l : Lent) (credit : Terms) (ok : TableOk (policy l) (l .state .header 
         at2 : At p (slotIn ss1 i) (runOf (l .rx) (p .«rx_cap») i (slotIn ss1 i)) body (mineOf ss1 i k) (endsOf (l .state .header .negotiated .config .channels) ss1 i k) (slotIn ts i) (runOf (act .rx) (p .«rx_cap») i (slotIn ts i)) (act .fault)
         at2 = acted-at (dropped (l .state .header)) ss1 (l .state .opens) (l .rx) (l .store) k body ok1 i there1
 
-        good2 : (a : Answer) → Tells (mineOf ss1 i k) (act .fault) a → Good p credit (slotIn ts i) (runOf (act .rx) (p .«rx_cap») i (slotIn ts i)) (frameB dir i (b .acked) m body a B0)
-        good2 a tells = acted-good (dropped (l .state .header)) ss1 (l .state .opens) (l .rx) (l .store) ok1 credit lim i there1 B0 good-in dir dir1 received k sy (b .acked) (omega arith) a tells
+        good2 : (a : Answer) → Tells (mineOf ss1 i k) (act .fault) a → Good p credit (slotIn ts i) (runOf (act .rx) (p .«rx_cap») i (slotIn ts i)) (frameB books i (b .acked) m body (numberOf a) B0)
+        good2 a tells = acted-good (dropped (l .state .header)) ss1 (l .state .opens) (l .rx) (l .store) ok1 credit lim i there1 B0 good-in books marked1 received k sy (b .acked) (omega arith) a tells
 
         sound2 : SlotOk (slotIn ts i) (p .«rx_cap»)
         sound2 = at-sound p (slotIn ss1 i) _ body (ok1 .sound i there1) _ _ _ _ _ at2
@@ -589,18 +584,18 @@ module _ (l : Lent) (credit : Terms) (ok : TableOk (policy l) (l .state .header 
             omega arith
 
         -- the book of it
-        acted-book : (a : Answer) (bs : List ℕ) (c : ℕ) → isDirect s1 room k ≡ false → closedBy (idsIn s1) k ≡ false → eqb (numberOf a) 4 ≡ false
-            → readUsedB p dir i (b .acked) room received (record { answer = a; used = frameLen k; sent = fs; got = bs }) c B0 ≡ handedB bs (ackedB c (settleB p room (frameB dir i (b .acked) m body a B0)))
+        acted-book : (a : Answer) (bs : List ℕ) → isDirect s1 room k ≡ false → closedBy (idsIn s1) k ≡ false → eqb (numberOf a) 4 ≡ false
+            → readUsedB p books i (b .acked) room received (saw a (frameLen k) fs bs) B0 ≡ handedB bs (settleB p room (frameB books i (b .acked) m body (numberOf a) B0))
         unfolding readUsedB
-        acted-book a bs c t u four =
+        acted-book a bs t u four =
             cond-false (eqb (numberOf a) 4) _ _ four
             ∙ cond-false (isWrte m && eqb (m .arg1) (b .local) && leb (frameLen k - 24) room) _ _ (direct-test ∙ t) ∙ cond-false (ownEnd (b .local) (b .remote) m) _ _ (end-test ∙ u)
-            ∙ ap (λ (x : List ℕ). handedB bs (ackedB c (settleB p room (frameB dir i (b .acked) m x a B0)))) (reads-payload received limit k sy)
+            ∙ ap (λ (x : List ℕ). handedB bs (settleB p room (frameB books i (b .acked) m x (numberOf a) B0))) (reads-payload received limit k sy)
 
         -- after the second settling
         module _ (t : isDirect s1 room k ≡ false) (u : closedBy (idsIn s1) k ≡ false) where
           good3 : (a : Answer) → Tells (mineOf ss1 i k) (act .fault) a
-              → Good p credit (r3 .slot) (runOf (act .rx) (p .«rx_cap») i (r3 .slot)) (ackedB (carried p (r3 .ack)) (settleB p room (frameB dir i (b .acked) m body a B0)))
+              → Good p credit (r3 .slot) (runOf (act .rx) (p .«rx_cap») i (r3 .slot)) (ackedB (carried p (r3 .ack)) (settleB p room (frameB books i (b .acked) m body (numberOf a) B0)))
           unfolding runOf
           good3 a tells =
               let gg = good2 a tells in
@@ -633,8 +628,8 @@ module _ (l : Lent) (credit : Terms) (ok : TableOk (policy l) (l .state .header 
               let h = ok .below i there in
               ap (λ (x : List ChannelSlot). slotIn x i) e ∙ slot-set-same (slotsBy ss1 xs) i t (omega arith)
 
-          final-fine : (t : ChannelSlot) (a : Answer) (bs : List ℕ) → isEarly a ≡ false → eqb (numberOf a) 4 ≡ false
-              → Good p credit t (runOf (act .rx) (p .«rx_cap») i t) (handedB bs (ackedB (carried p (r3 .ack)) (settleB p room (frameB dir i (b .acked) m body a B0))))
+          final-fine : (t : ChannelSlot) (a : Answer) (bs : List ℕ) → isEarly (numberOf a) ≡ false → eqb (numberOf a) 4 ≡ false
+              → Good p credit t (runOf (act .rx) (p .«rx_cap») i t) (handedB bs (ackedB (carried p (r3 .ack)) (settleB p room (frameB books i (b .acked) m body (numberOf a) B0))))
               → reads-fine (ends (then w3 (slotTo i t ∷ []) []) a (frameLen k) bs)
           unfolding ends
           final-fine t' a bs late four f e =
@@ -643,7 +638,7 @@ module _ (l : Lent) (credit : Terms) (ok : TableOk (policy l) (l .state .header 
               let s3 = slot3 t' in
               ends-fine p credit ss i (then w3 (slotTo i t' ∷ []) []) a (frameLen k) bs _
               (good-by p credit t' _ _ _ _ _ s3 (ap (runOf (act .rx) (p .«rx_cap») i) s3)
-              (used-book a (frameLen k) bs (acksOf (b .local) fs) late used-some ∙ acted-book a bs (acksOf (b .local) fs) t u four ∙ ap (λ (x : ℕ). handedB bs (ackedB x (settleB p room (frameB dir i (b .acked) m body a B0)))) c) f)
+              (ap (ackedB (acksOf (b .local) fs)) (used-book a (frameLen k) bs late used-some ∙ acted-book a bs t u four) ∙ ap (λ (x : ℕ). handedB bs (ackedB x (settleB p room (frameB books i (b .acked) m body (numberOf a) B0)))) c) f)
 
           -- what was not there before the packet
           held1 : heldOf (slotIn ss1 i) + length body ≤ p .«rx_cap»
@@ -658,6 +653,7 @@ module _ (l : Lent) (credit : Terms) (ok : TableOk (policy l) (l .state .header 
           live1 = ap (λ (x : ChannelSlot). isClosed (x .state)) u1 ∙ live
 
           tells-read : (n : ℕ) → Tells (mineOf ss1 i k) (act .fault) (Read n)
+          unfolding numberOf
           tells-read n =
               record {
                 taken = λ own e. refl;
@@ -733,15 +729,12 @@ module _ (l : Lent) (credit : Terms) (ok : TableOk (policy l) (l .state .header 
     abbrev j : ℕ
     j = ch .slot
 
-    abbrev dirE : List Mark
-    dirE = map markOf ss
-
     -- what the book takes of a packet
     abbrev taken : Answer → ℕ → List ℕ → Book
-    taken a used bs = packetB dirE i received (endsOther dirE ch) (record { answer = a; used = used; sent = fs; got = bs }) b
+    taken a used bs = packetB books i received (endsOther books ch) (saw a used fs bs) b
 
     abbrev else-fine : Outcome → Type 0
-    else-fine x = acksOf (b .local) fs ≡ acksIn p (b .local) (x .frames) → Fine p credit ss i x (acksB (b .local) (seenOf x fs) (taken (x .answer) (x .used) (x .handed)))
+    else-fine x = acksOf (b .local) fs ≡ acksIn p (b .local) (x .frames) → Fine p credit ss i x (ackedB (acksOf (b .local) fs) (taken (x .answer) (x .used) (x .handed)))
 
     -- a call's end that leaves this slot
     else-ends : (w : Work) (a : Answer) (used : ℕ) (bs : List ℕ) → slotIn (slotsBy ss (w .changes)) i ≡ slotIn ss i → w .rx ≡ l .rx → acksIn p (b .local) (w .frames) ≡ 0
@@ -787,23 +780,23 @@ module _ (l : Lent) (credit : Terms) (ok : TableOk (policy l) (l .state .header 
 
       else-stop : (a : Answer) (used : ℕ) → Stops a used → else-fine (ends (then wj (slotTo j sj ∷ []) []) a used [])
       else-stop a used st =
-          else-ends (then wj (slotTo j sj ∷ []) []) a used [] (other-slot sj) refl no-acks (stop-good p credit _ lim _ _ b g dirE i received (endsOther dirE ch) a used fs [] st)
+          else-ends (then wj (slotTo j sj ∷ []) []) a used [] (other-slot sj) refl no-acks (stop-good p credit _ lim _ _ b g books i received (endsOther books ch) a used fs [] st)
 
       module _ (k : Packet) (sy : Says received (l .state .header .negotiated .config .«max_payload») k) where
         abbrev limitE : ℕ
         limitE = l .state .header .negotiated .config .«max_payload»
 
         -- the other channel's own end
-        else-test : endsOther dirE ch (headerAt received) ≡ closedBy (idsIn sj) k
+        else-test : endsOther books ch (headerAt received) ≡ closedBy (idsIn sj) k
         else-test =
             reads-end received limitE k sy (ch .local .0) _ (idsIn sj) (sym (localj ∙ there-local ch in-table))
-            (ap (λ (x : Mark). x .remote) (mark-at ss j ∙ cond-true (slotIn ss j .filled) _ _ fill) ∙ sym (ap (λ x. x .0) (alikej .remote)))
+            (mk .remote j fill ∙ sym (ap (λ x. x .0) (alikej .remote)))
 
         -- a packet that is not for this slot
-        else-none : (a : Answer) (bs : List ℕ) → eqb (numberOf a) 4 ≡ false → endsOther dirE ch (headerAt received) ≡ true → taken a (frameLen k) bs ≡ b
+        else-none : (a : Answer) (bs : List ℕ) → eqb (numberOf a) 4 ≡ false → endsOther books ch (headerAt received) ≡ true → taken a (frameLen k) bs ≡ b
         unfolding packetB
         else-none a bs four e =
-            cond-false (eqb (frameLen k) 0) _ _ (ne-eqb (frameLen k) 0 (λ x. omega arith)) ∙ cond-false (eqb (numberOf a) 4) _ _ four ∙ cond-true (endsOther dirE ch (headerAt received)) _ _ e
+            cond-false (eqb (frameLen k) 0) _ _ (ne-eqb (frameLen k) 0 (λ x. omega arith)) ∙ cond-false (eqb (numberOf a) 4) _ _ four ∙ cond-true (endsOther books ch (headerAt received)) _ _ e
 
         else-end : closedBy (idsIn sj) k ≡ true → else-fine (ends (then wj (slotTo j (closedSlot sj) ∷ []) []) (Refused ChannelClosed) (frameLen k) [])
         unfolding numberOf refusalNumber
@@ -819,12 +812,12 @@ module _ (l : Lent) (credit : Terms) (ok : TableOk (policy l) (l .state .header 
             let m = headerAt received in
             let nc : isClose (k .command) ≡ false = write-no-close (k .command) wr in
             let ec : isClse m ≡ false = reads-close received limitE k sy ∙ nc in
-            packet-good p credit _ lim _ _ b g dirE i received (endsOther dirE ch) limitE k a fs bs _ _ sy four (else-test ∙ cond-false (isClose (k .command)) _ false nc)
+            packet-good p credit _ lim _ _ b g books i received (endsOther books ch) limitE k a fs bs _ _ sy four (else-test ∙ cond-false (isClose (k .command)) _ false nc)
             (good-by p credit _ _ _ _ b _ refl refl
-            (frame-none dirE i (b .acked) m (bodyOf received k) a b
+            (frame-none books i (b .acked) m (bodyOf received k) a b
             (by-test (isWrte m && eqb (m .arg1) (b .local))
             (λ t. absurd (dif (sym (reads-arg1 received limitE k sy) ∙ eqb-true (m .arg1) (b .local) (and-true (isWrte m) (eqb (m .arg1) (b .local)) t .1)))) (λ t. t))
-            (ap (λ (x : Bool). x && cond (eqb (m .arg1) 0) (not (eqb (m .arg0) 0) && (eqb (first (hasRemote (m .arg0)) dirE) i)) (eqb (m .arg1) (b .local))) ec)) g)
+            (ap (λ (x : Bool). x && cond (eqb (m .arg1) 0) (not (eqb (m .arg0) 0) && (eqb (first (hasRemote (m .arg0)) books) i)) (eqb (m .arg1) (b .local))) ec)) g)
 
         else-direct : isDirect sj room k ≡ true → else-fine (readDirect ch (frameLen k) wj (bodyOf received k) (deliveredOf sj p (k .«data_length»)))
         unfolding readDirect isDirect numberOf
@@ -858,9 +851,8 @@ module _ (l : Lent) (credit : Terms) (ok : TableOk (policy l) (l .state .header 
         therej : slotIn ssj j .filled ≡ true
         therej = ap (λ (x : ChannelSlot). x .filled) uj ∙ alikej .filled ∙ fill
 
-        dirj : dirE ≡ map markOf ssj
-        unfolding slotIn
-        dirj = sym (map-set-same markOf ss j sj emptySlot (ap₂ (λ (x : Bool) (y : ℕ). cond x (record { there = true; remote = y }) noMark) (alikej .filled) (ap (λ x. x .0) (alikej .remote))))
+        markedj : Marked books ssj
+        markedj = marked-set books ss j sj mk (alikej .filled) (alikej .remote)
 
         abbrev actj : Acted
         actj = actOn (dropped (l .state .header)) ssj (l .state .opens) (l .rx) (l .store) k (bodyOf received k)
@@ -875,8 +867,8 @@ module _ (l : Lent) (credit : Terms) (ok : TableOk (policy l) (l .state .header 
         acted-i : (a : Answer) (bs : List ℕ) → eqb (numberOf a) 4 ≡ false → closedBy (idsIn sj) k ≡ false → Tells (mineOf ssj i k) (actj .fault) a
             → Good p credit (slotIn tsj i) (runOf (actj .rx) (p .«rx_cap») i (slotIn tsj i)) (taken a (frameLen k) bs)
         acted-i a bs four u tells =
-            packet-good p credit _ lim _ _ b good-i dirE i received (endsOther dirE ch) limitE k a fs bs _ _ sy four (else-test ∙ u)
-            (acted-good (dropped (l .state .header)) ssj (l .state .opens) (l .rx) (l .store) okj credit lim i therei b good-i dirE dirj received k sy (b .acked) (omega arith) a tells)
+            packet-good p credit _ lim _ _ b good-i books i received (endsOther books ch) limitE k a fs bs _ _ sy four (else-test ∙ u)
+            (acted-good (dropped (l .state .header)) ssj (l .state .opens) (l .rx) (l .store) okj credit lim i therei b good-i books markedj received k sy (b .acked) (omega arith) a tells)
 
         atj : At p (slotIn ssj j) (runOf (l .rx) (p .«rx_cap») j (slotIn ssj j)) (bodyOf received k) (mineOf ssj j k) (endsOf (l .state .header .negotiated .config .channels) ssj j k) (slotIn tsj j) (runOf (actj .rx) (p .«rx_cap») j (slotIn tsj j)) (actj .fault)
         atj = acted-at (dropped (l .state .header)) ssj (l .state .opens) (l .rx) (l .store) k (bodyOf received k) okj j therej
@@ -1002,21 +994,20 @@ module _ (l : Lent) (credit : Terms) (ok : TableOk (policy l) (l .state .header 
     read-fine ch x =
         acksOf (b .local) fs ≡ acksIn p (b .local) (x .frames)
         → Fine p credit ss i x
-        (cond (isOn i b ch) (readB p (map markOf ss) i room received (seenOf x fs) (acksOf (b .local) fs) b)
-        (acksB (b .local) (seenOf x fs) (packetB (map markOf ss) i received (endsOther (map markOf ss) ch) (seenOf x fs) b)))
+        (ackedB (acksOf (b .local) fs) (cond (isOn i b ch) (readB p books i room received (sawOf x fs) b) (packetB books i received (endsOther books ch) (sawOf x fs) b)))
 
     read-by : (ch : ChannelId) → On ch → read-fine ch (readStep l ch room received)
     unfolding readStep slotFor
     read-by ch (this d t o) =
         subst (read-fine ch) (sym (cond-true (isThere l ch) _ _ t))
         (subst (λ (x : ChannelId). read-fine x (readFirst l x room received (settledOf (slotIn ss (x .slot)) p room))) (sym (is-me ch d))
-        (λ e. good-by p credit _ _ _ _ _ _ refl refl (cond-true (isOn i b (me (ch .local))) _ _ (ap (isOn i b) (sym (is-me ch d)) ∙ o)) (read-this room received fs (ch .local) e)))
+        (λ e. good-by p credit _ _ _ _ _ _ refl refl (ap (ackedB (acksOf (b .local) fs)) (cond-true (isOn i b (me (ch .local))) _ _ (ap (isOn i b) (sym (is-me ch d)) ∙ o))) (read-this room received fs (ch .local) e)))
     read-by ch (another d t f ne o) =
         subst (read-fine ch) (sym (cond-true (isThere l ch) _ _ t))
-        (λ e. good-by p credit _ _ _ _ _ _ refl refl (cond-false (isOn i b ch) _ _ o) (read-else ch d t f ne fs received room e))
+        (λ e. good-by p credit _ _ _ _ _ _ refl refl (ap (ackedB (acksOf (b .local) fs)) (cond-false (isOn i b ch) _ _ o)) (read-else ch d t f ne fs received room e))
     read-by ch (none t o) =
         subst (read-fine ch) (sym (cond-false (isThere l ch) _ _ t))
-        (λ e. good-by p credit _ _ _ _ _ _ refl refl (cond-false (isOn i b ch) _ _ o)
+        (λ e. good-by p credit _ _ _ _ _ _ refl refl (ap (ackedB (acksOf (b .local) fs)) (cond-false (isOn i b ch) _ _ o))
         (quiet-acks (ends (begun (dropped (l .state .header)) l) (Refused ChannelClosed) 0 []) fs _ e none-acks (none-fine (Refused ChannelClosed) _ (none-taken ch fs received))))
 
     pub read-call : (ch : ChannelId) → read-fine ch (readStep l ch room received)
@@ -1025,17 +1016,14 @@ module _ (l : Lent) (credit : Terms) (ok : TableOk (policy l) (l .state .header 
   -- ---- write
 
   module _ (ch : ChannelId) (out : ℕ) (bytes received : List ℕ) (fs : List Sent) where
-    abbrev dirW : List Mark
-    dirW = map markOf ss
-
     -- the book, before the credit that was written
     abbrev entered : Answer → ℕ → List ℕ → Book
     entered a used bs =
-        cond (isOn i b ch) (writeB dirW i received (record { answer = a; used = used; sent = fs; got = bs }) b)
-        (packetB dirW i received (endsOther dirW ch) (record { answer = a; used = used; sent = fs; got = bs }) b)
+        cond (isOn i b ch) (writeB books i received (saw a used fs bs) b)
+        (packetB books i received (endsOther books ch) (saw a used fs bs) b)
 
     abbrev write-fine : Outcome → Type 0
-    write-fine x = acksOf (b .local) fs ≡ acksIn p (b .local) (x .frames) → Fine p credit ss i x (acksB (b .local) (seenOf x fs) (entered (x .answer) (x .used) (x .handed)))
+    write-fine x = acksOf (b .local) fs ≡ acksIn p (b .local) (x .frames) → Fine p credit ss i x (ackedB (acksOf (b .local) fs) (entered (x .answer) (x .used) (x .handed)))
 
     -- with no packet used the book stays
     entered-none : (a : Answer) (bs : List ℕ) → entered a 0 bs ≡ b
@@ -1091,7 +1079,7 @@ module _ (l : Lent) (credit : Terms) (ok : TableOk (policy l) (l .state .header 
       abbrev w0 : Work
       w0 = begun (dropped (l .state .header)) l
 
-      this-book : (a : Answer) (used : ℕ) (bs : List ℕ) → entered a used bs ≡ writeB dirW i received (record { answer = a; used = used; sent = fs; got = bs }) b
+      this-book : (a : Answer) (used : ℕ) (bs : List ℕ) → entered a used bs ≡ writeB books i received (saw a used fs bs) b
       this-book a used bs = cond-true (isOn i b ch) _ _ o
 
       -- a slot stored at the end
@@ -1110,11 +1098,11 @@ module _ (l : Lent) (credit : Terms) (ok : TableOk (policy l) (l .state .header 
       this-plain : (a : Answer) → write-fine (ends w0 a 0 [])
       this-plain a = write-ends w0 a 0 refl (good-by p credit _ _ _ _ _ _ refl refl (entered-none a []) g)
 
-      stopped-book : (a : Answer) (used : ℕ) → Stops a used → Good p credit s0 q0 (writeB dirW i received (record { answer = a; used = used; sent = fs; got = [] }) b)
+      stopped-book : (a : Answer) (used : ℕ) → Stops a used → Good p credit s0 q0 (writeB books i received (saw a used fs []) b)
       unfolding writeB
       stopped-book a used st =
           pick (Good p credit s0 q0) (eqb used 0) (λ t. g)
-          (λ t. pick (Good p credit s0 q0) (eqb (numberOf a) 4) (λ u. damaged-good p credit _ lim s0 q0 b g dirW i received never (b .acked) (headerAt received) (payloadAt received used))
+          (λ t. pick (Good p credit s0 q0) (eqb (numberOf a) 4) (λ u. damaged-good p credit _ lim s0 q0 b g books i received never (b .acked) (headerAt received) (payloadAt received used))
           (λ u. absurd (eqb-false used 0 t (st .quiet u))))
 
       this-stop : (a : Answer) (used : ℕ) → Stops a used → write-fine (ends w0 a used [])
@@ -1138,11 +1126,11 @@ module _ (l : Lent) (credit : Terms) (ok : TableOk (policy l) (l .state .header 
         used-book-end a four u =
             this-book a (frameLen k) [] ∙ cond-false (eqb (frameLen k) 0) _ _ (ne-eqb (frameLen k) 0 (λ x. omega arith)) ∙ cond-false (eqb (numberOf a) 4) _ _ four ∙ cond-true (ownEnd (b .local) (b .remote) mW) _ _ (end-testW ∙ u)
 
-        used-book-frame : (a : Answer) → eqb (numberOf a) 4 ≡ false → closedBy (idsIn s0) k ≡ false → entered a (frameLen k) [] ≡ frameB dirW i (b .acked) mW bodyW a b
+        used-book-frame : (a : Answer) → eqb (numberOf a) 4 ≡ false → closedBy (idsIn s0) k ≡ false → entered a (frameLen k) [] ≡ frameB books i (b .acked) mW bodyW (numberOf a) b
         unfolding writeB
         used-book-frame a four u =
             this-book a (frameLen k) [] ∙ cond-false (eqb (frameLen k) 0) _ _ (ne-eqb (frameLen k) 0 (λ x. omega arith)) ∙ cond-false (eqb (numberOf a) 4) _ _ four ∙ cond-false (ownEnd (b .local) (b .remote) mW) _ _ (end-testW ∙ u)
-            ∙ ap (λ (x : List ℕ). frameB dirW i (b .acked) mW x a b) (reads-payload received limW k sy)
+            ∙ ap (λ (x : List ℕ). frameB books i (b .acked) mW x (numberOf a) b) (reads-payload received limW k sy)
 
         this-end : closedBy (idsIn s0) k ≡ true → write-fine (ends (then w0 (slotTo (ch .slot) (closedSlot s0) ∷ []) []) (Refused ChannelClosed) (frameLen k) [])
         unfolding numberOf refusalNumber
@@ -1160,9 +1148,9 @@ module _ (l : Lent) (credit : Terms) (ok : TableOk (policy l) (l .state .header 
           ready-book : (a : Answer) → eqb (numberOf a) 4 ≡ false → entered a (frameLen k) [] ≡ b
           ready-book a four =
               used-book-frame a four not-end
-              ∙ frame-none dirW i (b .acked) mW bodyW a b
+              ∙ frame-none books i (b .acked) mW bodyW a b
               (ap (λ (x : Bool). x && eqb (mW .arg1) (b .local)) (reads-write received limW k sy ∙ ready-no-write (k .command) rd .0))
-              (ap (λ (x : Bool). x && cond (eqb (mW .arg1) 0) (not (eqb (mW .arg0) 0) && (eqb (first (hasRemote (mW .arg0)) dirW) i)) (eqb (mW .arg1) (b .local))) (reads-close received limW k sy ∙ ready-no-write (k .command) rd .1))
+              (ap (λ (x : Bool). x && cond (eqb (mW .arg1) 0) (not (eqb (mW .arg0) 0) && (eqb (first (hasRemote (mW .arg0)) books) i)) (eqb (mW .arg1) (b .local))) (reads-close received limW k sy ∙ ready-no-write (k .command) rd .1))
 
           readied-left : (t : ChannelSlot) (f : List Frame) (a : Answer) → eqb (numberOf a) 4 ≡ false → SameRun s0 t → Good p credit t q0 b → Left (then w0 (slotTo (ch .slot) t ∷ []) f) a (frameLen k)
           readied-left t f a four w x = this-left t f a (frameLen k) w (good-by p credit _ _ _ _ _ _ refl refl (ready-book a four) x)
@@ -1199,7 +1187,7 @@ module _ (l : Lent) (credit : Terms) (ok : TableOk (policy l) (l .state .header 
           goodW : (a : Answer) → eqb (numberOf a) 4 ≡ false → Tells (mineOf ss i k) (actW .fault) a → Good p credit sW (runOf (actW .rx) (p .«rx_cap») i sW) (entered a (frameLen k) [])
           goodW a four tells =
               good-by p credit _ _ _ _ _ _ refl refl (used-book-frame a four u)
-              (acted-good (dropped (l .state .header)) ss (l .state .opens) (l .rx) (l .store) ok credit lim i there b g dirW refl received k sy (b .acked) (omega arith) a tells)
+              (acted-good (dropped (l .state .header)) ss (l .state .opens) (l .rx) (l .store) ok credit lim i there b g books mk received k sy (b .acked) (omega arith) a tells)
 
           -- a slot stored after it
           slotW : (t : ChannelSlot) → slotIn (slotsBy ss (actW .changes ++ slotTo (ch .slot) t ∷ [])) i ≡ t
@@ -1217,7 +1205,7 @@ module _ (l : Lent) (credit : Terms) (ok : TableOk (policy l) (l .state .header 
               good-by p credit t _ _ _ _ _ e
               (ap (runOf (actW .rx) (p .«rx_cap») i) e ∙ ap (λ (y : ℕ). part (shareOf (actW .rx) (p .«rx_cap») i) y (t .buffered)) (w .head) ∙ ap (part (shareOf (actW .rx) (p .«rx_cap») i) (sW .head)) (w .more)) refl x
 
-          tells-no : (a : Answer) → actW .fault ≡ No → isRefused a ≡ false → Tells (mineOf ss i k) (actW .fault) a
+          tells-no : (a : Answer) → actW .fault ≡ No → isRefused (numberOf a) ≡ false → Tells (mineOf ss i k) (actW .fault) a
           tells-no a e r = record { taken = λ own f. r; over = λ own f. absurd (fault-apart (sym e ∙ f)) }
 
           tells-closed : isClosed (sW .state) ≡ true → actW .fault ≡ No → Tells (mineOf ss i k) (actW .fault) (Refused ChannelClosed)
@@ -1233,7 +1221,7 @@ module _ (l : Lent) (credit : Terms) (ok : TableOk (policy l) (l .state .header 
               (λ c. leftW sW [] (Refused ChannelClosed) (record { head = refl; more = refl }) (goodW (Refused ChannelClosed) refl (tells-closed c e)))
 
           acted-by : (f : Failed) → actW .fault ≡ f → write-fine (writeActed l ch out bytes (frameLen k) w0 actW f)
-          unfolding writeActed
+          unfolding writeActed numberOf
           acted-by (By f) e =
               let a : Answer = Refused (faultRefusal f) in
               let z : unlessFault (actW .fault) Waiting ≡ a = unless-is (actW .fault) f e in
@@ -1282,7 +1270,7 @@ module _ (l : Lent) (credit : Terms) (ok : TableOk (policy l) (l .state .header 
       abbrev w-else : Work
       w-else = begun (dropped (l .state .header)) l
 
-      else-book : (a : Answer) (used : ℕ) (bs : List ℕ) → entered a used bs ≡ packetB dirW i received (endsOther dirW ch) (record { answer = a; used = used; sent = fs; got = bs }) b
+      else-book : (a : Answer) (used : ℕ) (bs : List ℕ) → entered a used bs ≡ packetB books i received (endsOther books ch) (saw a used fs bs) b
       else-book a used bs = cond-false (isOn i b ch) _ _ o
 
       -- a slot stored at the other place
@@ -1294,7 +1282,7 @@ module _ (l : Lent) (credit : Terms) (ok : TableOk (policy l) (l .state .header 
 
       stop-else : (a : Answer) (used : ℕ) → Stops a used → write-fine (ends w-else a used [])
       stop-else a used st =
-          write-ends w-else a used refl (good-by p credit _ _ _ _ _ _ refl refl (else-book a used []) (stop-good p credit _ lim _ _ b g dirW i received (endsOther dirW ch) a used fs [] st))
+          write-ends w-else a used refl (good-by p credit _ _ _ _ _ _ refl refl (else-book a used []) (stop-good p credit _ lim _ _ b g books i received (endsOther books ch) a used fs [] st))
 
       module _ (open-else : isClosed (s-else .state) ≡ false) (k : Packet) (sy : Says received (l .state .header .negotiated .config .«max_payload») k) where
         abbrev lim-else : ℕ
@@ -1306,10 +1294,10 @@ module _ (l : Lent) (credit : Terms) (ok : TableOk (policy l) (l .state .header 
         abbrev body-else : List ℕ
         body-else = bodyOf received k
 
-        test-else : endsOther dirW ch m-else ≡ closedBy (idsIn s-else) k
+        test-else : endsOther books ch m-else ≡ closedBy (idsIn s-else) k
         test-else =
             reads-end received lim-else k sy (ch .local .0) _ (idsIn s-else) (sym (there-local ch in-table))
-            (ap (λ (x : Mark). x .remote) (mark-at ss j-else ∙ cond-true (slotIn ss j-else .filled) _ _ fill))
+            (mk .remote j-else fill)
 
         -- it ended the other channel's write
         end-else : closedBy (idsIn s-else) k ≡ true → write-fine (ends (then w-else (slotTo j-else (closedSlot s-else) ∷ []) []) (Refused ChannelClosed) (frameLen k) [])
@@ -1318,7 +1306,7 @@ module _ (l : Lent) (credit : Terms) (ok : TableOk (policy l) (l .state .header 
             write-ends (then w-else (slotTo j-else (closedSlot s-else) ∷ []) []) (Refused ChannelClosed) (frameLen k) refl
             (else-left (closedSlot s-else) [] (Refused ChannelClosed) (frameLen k)
             (good-by p credit _ _ _ _ b _ refl refl
-            (else-book (Refused ChannelClosed) (frameLen k) [] ∙ cond-false (eqb (frameLen k) 0) _ _ (ne-eqb (frameLen k) 0 (λ x. omega arith)) ∙ cond-true (endsOther dirW ch m-else) _ _ (test-else ∙ u)) g))
+            (else-book (Refused ChannelClosed) (frameLen k) [] ∙ cond-false (eqb (frameLen k) 0) _ _ (ne-eqb (frameLen k) 0 (λ x. omega arith)) ∙ cond-true (endsOther books ch m-else) _ _ (test-else ∙ u)) g))
 
         -- the other channel's OKAY
         module _ (rd : isReady (k .command) ≡ true) where
@@ -1327,11 +1315,11 @@ module _ (l : Lent) (credit : Terms) (ok : TableOk (policy l) (l .state .header 
           ready-else a four =
               let rw2 = ready-no-write (k .command) rd in
               good-by p credit _ _ _ _ _ _ refl refl (else-book a (frameLen k) [])
-              (packet-good p credit _ lim _ _ b g dirW i received (endsOther dirW ch) lim-else k a fs [] _ _ sy four (test-else ∙ cond-false (isClose (k .command)) _ false (rw2 .1))
+              (packet-good p credit _ lim _ _ b g books i received (endsOther books ch) lim-else k a fs [] _ _ sy four (test-else ∙ cond-false (isClose (k .command)) _ false (rw2 .1))
               (good-by p credit _ _ _ _ b _ refl refl
-              (frame-none dirW i (b .acked) m-else body-else a b
+              (frame-none books i (b .acked) m-else body-else a b
               (ap (λ (x : Bool). x && eqb (m-else .arg1) (b .local)) (reads-write received lim-else k sy ∙ rw2 .0))
-              (ap (λ (x : Bool). x && cond (eqb (m-else .arg1) 0) (not (eqb (m-else .arg0) 0) && (eqb (first (hasRemote (m-else .arg0)) dirW) i)) (eqb (m-else .arg1) (b .local))) (reads-close received lim-else k sy ∙ rw2 .1))) g))
+              (ap (λ (x : Bool). x && cond (eqb (m-else .arg1) 0) (not (eqb (m-else .arg0) 0) && (eqb (first (hasRemote (m-else .arg0)) books) i)) (eqb (m-else .arg1) (b .local))) (reads-close received lim-else k sy ∙ rw2 .1))) g))
 
           readied-else : (r : Readied) → write-fine (writeReadied l ch out bytes (frameLen k) w-else s-else r)
           unfolding writeReadied numberOf refusalNumber
@@ -1359,15 +1347,15 @@ module _ (l : Lent) (credit : Terms) (ok : TableOk (policy l) (l .state .header 
           good-else : (a : Answer) → eqb (numberOf a) 4 ≡ false → Tells (mineOf ss i k) (act-else .fault) a → Good p credit (slotIn ts-else i) (runOf (act-else .rx) (p .«rx_cap») i (slotIn ts-else i)) (entered a (frameLen k) [])
           good-else a four tells =
               good-by p credit _ _ _ _ _ _ refl refl (else-book a (frameLen k) [])
-              (packet-good p credit _ lim _ _ b g dirW i received (endsOther dirW ch) lim-else k a fs [] _ _ sy four (test-else ∙ u)
-              (acted-good (dropped (l .state .header)) ss (l .state .opens) (l .rx) (l .store) ok credit lim i there b g dirW refl received k sy (b .acked) (omega arith) a tells))
+              (packet-good p credit _ lim _ _ b g books i received (endsOther books ch) lim-else k a fs [] _ _ sy four (test-else ∙ u)
+              (acted-good (dropped (l .state .header)) ss (l .state .opens) (l .rx) (l .store) ok credit lim i there b g books mk received k sy (b .acked) (omega arith) a tells))
 
           left-else : (t : ChannelSlot) (f : List Frame) (a : Answer) → Good p credit (slotIn ts-else i) (runOf (act-else .rx) (p .«rx_cap») i (slotIn ts-else i)) (entered a (frameLen k) []) → Left (then (thenActed w-else act-else) (slotTo j-else t ∷ []) f) a (frameLen k)
           left-else t f a x =
               let e : slotIn (slotsBy ss (act-else .changes ++ slotTo j-else t ∷ [])) i ≡ slotIn ts-else i = ap (λ (y : List ChannelSlot). slotIn y i) (slots-append ss (act-else .changes) (slotTo j-else t ∷ [])) ∙ slot-set-other ts-else j-else i t away in
               good-by p credit _ _ _ _ _ _ e (ap (runOf (act-else .rx) (p .«rx_cap») i) e) refl x
 
-          no-else : (a : Answer) → act-else .fault ≡ No → isRefused a ≡ false → Tells (mineOf ss i k) (act-else .fault) a
+          no-else : (a : Answer) → act-else .fault ≡ No → isRefused (numberOf a) ≡ false → Tells (mineOf ss i k) (act-else .fault) a
           no-else a e r = record { taken = λ own f. r; over = λ own f. absurd (fault-apart (sym e ∙ f)) }
 
           closed-else : isClosed (slotIn ts-else j-else .state) ≡ true → act-else .fault ≡ No → Tells (mineOf ss i k) (act-else .fault) (Refused ChannelClosed)
@@ -1388,7 +1376,7 @@ module _ (l : Lent) (credit : Terms) (ok : TableOk (policy l) (l .state .header 
               (λ c. left-else (slotIn ts-else j-else) [] (Refused ChannelClosed) (good-else (Refused ChannelClosed) refl (closed-else c e)))
 
           acted-else : (f : Failed) → act-else .fault ≡ f → write-fine (writeActed l ch out bytes (frameLen k) w-else act-else f)
-          unfolding writeActed
+          unfolding writeActed numberOf
           acted-else (By f) e =
               let a : Answer = Refused (faultRefusal f) in
               let z : unlessFault (act-else .fault) Waiting ≡ a = unless-is (act-else .fault) f e in

@@ -1,9 +1,9 @@
 -- What a channel's book and its slot have in common, and the moves that keep it: a step of a slot beside its entry in the
 -- book. Assumes nothing.
 use mathlib.Core.Path.{_≡_, refl, sym, ap, subst, _∙_}
-use mathlib.Core.Bool.{Bool, true, false, not, cond, _&&_, _||_, true≢false}
-use mathlib.Core.List.{List, [], _∷_, _++_, append-assoc, append-nil}
-use Prim.Native.Nat.{ℕ, suc, _+_, _-_, _*_, _^_, _≤_, _<_, min}
+use mathlib.Core.Bool.{Bool, true, false, not, cond, _||_, true≢false}
+use mathlib.Core.List.{List, [], _++_, append-assoc, append-nil}
+use Prim.Native.Nat.{ℕ, suc, _+_, _-_, _^_, _≤_, _<_, min}
 use native.Mathlib.Omega.{arith}
 use lib.Dec.{eqb, ltb, leb}
 use lib.IntN.{ℤ}
@@ -145,11 +145,18 @@ module _ (p : RxPolicy) (credit : Terms) (s : ChannelSlot) (q : List ℕ) (b : B
       let o = g .owed d c in
       let m = g .nums in
       let t = bookSlot b in
+      let now = cond (eqb (s .settled) 0) (min want (s .buffered)) (s .settled) in
       let r : length (b .accepted) - length (b .handed) ≡ s .buffered = omega arith in
-      let e = aside-by t p (min want (t .buffered)) (settledOf t p want) d (omega arith) (settles t p want refl) in
-      ap (λ (x : ℕ). x - b .aside) e
-      ∙ ap (λ (x : ℕ). cond (eqb x 0) (min want (length (b .accepted) - length (b .handed))) x - x) (o .same)
-      ∙ ap (λ (x : ℕ). cond (eqb (s .settled) 0) (min want x) (s .settled) - s .settled) r
+      let e : settledOf t p want .slot .settled ≡ now =
+      aside-by t p (min want (t .buffered)) (settledOf t p want) d (omega arith) (settles t p want refl)
+      ∙ ap (λ (x : ℕ). cond (eqb x 0) (min want (length (b .accepted) - length (b .handed))) x) (o .same)
+      ∙ ap (λ (x : ℕ). cond (eqb (s .settled) 0) (min want x) (s .settled)) r in
+      let k : now ≤ p .«rx_cap» =
+      by-test (eqb (s .settled) 0)
+      (λ z. let z0 = eqb-true (s .settled) 0 z in let w = cond-true (eqb (s .settled) 0) (min want (s .buffered)) (s .settled) z in omega arith)
+      (λ z. let w = cond-false (eqb (s .settled) 0) (min want (s .buffered)) (s .settled) z in omega arith) in
+      let x = o .same in
+      omega arith
 
   abbrev after-settling : Settled → Type 0
   after-settling r = Good p credit (r .slot) q (ackedB (carried p (r .ack)) (settleB p want b))

@@ -2,7 +2,7 @@
 --     heard        the frames read from framesBytes are those that were written
 --     taken-back   what a buffer's first bytes are after a put
 --     heard-acks   the credit that is read is the frames' own; heard-open: and so is the last OPEN's
---     heard-call   what is seen of an outcome whose frames and bytes fit
+--     heard-call   what is seen of an outcome whose frames and bytes fit; seen-eight: of a call that answers 8
 use mathlib.Core.Path.{_≡_, refl, sym, ap, _∙_}
 use mathlib.Core.Bool.{Bool, true, false, cond}
 use mathlib.Core.List.{List, [], _∷_, _++_, map}
@@ -11,12 +11,13 @@ use native.Mathlib.Omega.{arith}
 use lib.Dec.{eqb}
 use lib.ListN.{length, take}
 use lib.Seq.{drop-at}
+use borrow.Author.Tests.{eqb-true, eq-eqb}
 use Rattle.le.specs.Le.{bytesOf, part, put}
 use Rattle.le.proofs.Laws.{write-read}
-use Rattle.le.proofs.Parts.{part-put-same}
+use Rattle.le.proofs.Parts.{by-test, part-put-same}
+use Rattle.slot.proofs.Laws.{cond-true, cond-false}
 use Rattle.config.specs.declared.negotiated.Negotiated.{Negotiated}
 use Rattle.config.specs.declared.negotiated.RxPolicy.{RxPolicy}
-use Rattle.protocol.specs.declared.command.Command.the-variants.{Open, Ready, Close, Write}
 use Rattle.protocol.specs.Checksum.{policyFor}
 use Rattle.protocol.specs.Packet.{maxPayload, decodeOf, usedOf, frameFor}
 use Rattle.protocol.proofs.RoundTrip.{Comes-back}
@@ -24,12 +25,17 @@ use Rattle.state.specs.Rows.{flat}
 use Rattle.state.proofs.RowLaws.{Every}
 use Rattle.wire.specs.Wire.{creditBytes, okayBytes, closeBytes}
 use Rattle.wire.proofs.Laws.{back}
-use Rattle.connection.specs.Calls.{Outcome, writtenBy, isReady}
+use Rattle.connection.specs.declared.Answer.{Answer}
+use Rattle.connection.specs.declared.Refusal.the-variants.{StoreShort}
+use Rattle.connection.specs.Answer.{refusalNumber, numberOf, refusalWord, valuesOf}
+use Rattle.connection.specs.Calls.{Lent, Outcome, writtenBy, untouched, isReady}
 use Rattle.connection.specs.Frames.{Frame, okayFrame, closeFrame, openFrame, writeFrame, frameBytes, framesBytes, Sent}
-use Rattle.connection.proofs.Sending.{sentOf, SentFits, lenOf, FrameFits}
+use Rattle.connection.proofs.Sending.{sentOf, SentFits, FrameFits}
 use Rattle.history.specs.Book.{creditIn, acksOf, lastOpen}
-use Rattle.history.specs.Run.{Seen, sentBy, sentIn, seenIn}
+use Rattle.history.specs.Run.{Call, openCall, dispatchCall, settleCall, takeCall, readCall, writeCall, closeCall, frontTaken, outOf, bufOf}
+use Rattle.history.specs.Seen.{heldBy, saidBy, countOf, Seen, Event, seenOf, sentBy, sentIn, seenIn}
 use Rattle.history.proofs.Acts.{acksIn}
+use Rattle.history.proofs.Steps.{sawOf}
 
 -- ---- what a frame is as bytes
 
@@ -88,9 +94,9 @@ taken-back buf h e = part-put-same buf 0 h (omega arith)
 -- ---- the credit that is read
 
 -- an OKAY's payload as credit
-credit-back : (delayed : Bool) (len : ℕ) → (delayed ≡ true → len < 2 ^ 32) → creditIn (creditBytes delayed len) ≡ cond delayed len 0
+credit-back : (delayed : Bool) (len : ℕ) → (delayed ≡ true → len < 2 ^ 31) → creditIn (creditBytes delayed len) ≡ cond delayed len 0
 unfolding creditIn creditBytes bytesOf part
-credit-back true len h = write-read 4 len (h refl)
+credit-back true len h = let k = h refl in write-read 4 len (omega arith)
 credit-back false len h = refl
 
 -- is the one that the frames carry
@@ -134,15 +140,53 @@ pub record Writes (n : Negotiated) (out room : ℕ) (o : Outcome) : Type 0 where
 
 -- what an outcome says is seen
 abbrev pub heardOf : Negotiated → Outcome → Seen
-heardOf n o = record { answer = o .answer; used = o .used; sent = map (sentOf n) (o .frames); got = o .handed }
+heardOf n o = sawOf o (map (sentOf n) (o .frames))
 
--- and is what is seen, where the buffers have room for it
-pub heard-call : (n : Negotiated) (out buf : List ℕ) (o : Outcome) → Writes n (length out) (length buf) o → seenIn n out buf o ≡ heardOf n o
-unfolding seenIn writtenBy
-heard-call n out buf o h =
-    λ i. record {
-      answer = o .answer;
-      used = o .used;
-      sent = (ap (sentIn 2) (taken-back out (framesBytes n (o .frames)) (h .written)) ∙ heard n (o .frames) (h .few) (h .each)) i;
-      got = taken-back buf (o .handed) (h .handed) i;
-    }
+-- the bytes that an answer counts
+abbrev pub counted : Call → Answer → ℕ
+counted c a = countOf c (numberOf a) (valuesOf a)
+
+module _ (n : Negotiated) (c : Call) (o : Outcome) (h : Writes n (length (outOf c)) (length (bufOf c)) o) (k : counted c (o .answer) ≡ length (o .handed)) where
+  -- what the answer says is what was done, where the buffers have room for it
+  heard-said : seenIn c (heldBy n c o) ≡ heardOf n o
+  unfolding seenIn writtenBy
+  heard-said =
+      λ i. record {
+        number = numberOf (o .answer);
+        values = valuesOf (o .answer);
+        used = o .used;
+        sent = (ap (sentIn 2) (taken-back (outOf c) (framesBytes n (o .frames)) (h .written)) ∙ heard n (o .frames) (h .few) (h .each)) i;
+        got = (ap (λ (x : ℕ). take x (put (bufOf c) 0 (o .handed))) k ∙ taken-back (bufOf c) (o .handed) (h .handed)) i;
+      }
+
+-- a call that answers 8 counts nothing
+pub count-eight : (c : Call) → countOf c 8 (0 ∷ 0 ∷ 0 ∷ 0 ∷ []) ≡ 0
+unfolding countOf
+count-eight (openCall out destination received) = refl
+count-eight (dispatchCall out received) = refl
+count-eight (settleCall out ch want) = refl
+count-eight (takeCall ch buf) = refl
+count-eight (readCall out ch buf received) = refl
+count-eight (writeCall out ch bytes received) = refl
+count-eight (closeCall out ch) = refl
+count-eight frontTaken = refl
+
+-- what is seen of one: nothing
+abbrev pub nothing8 : Seen
+nothing8 = record { number = 8; values = 0 ∷ 0 ∷ 0 ∷ 0 ∷ []; used = 0; sent = []; got = [] }
+
+pub seen-eight : (e : Event) → e .held .number ≡ 8 → seenOf e ≡ nothing8
+unfolding saidBy seenIn
+seen-eight e z =
+    ap (seenIn (e .call)) (cond-true (eqb (e .held .number) 8) _ _ (eq-eqb (e .held .number) 8 z))
+    ∙ (λ i. record { number = 8; values = 0 ∷ 0 ∷ 0 ∷ 0 ∷ []; used = 0; sent = sent-none 2 i; got = take (count-eight (e .call) i) (e .held .buf) })
+
+-- what is seen of a call is what its outcome says; one that answers 8 does nothing
+pub heard-call : (n : Negotiated) (c : Call) (l : Lent) (o : Outcome) → Writes n (length (outOf c)) (length (bufOf c)) o → counted c (o .answer) ≡ length (o .handed)
+    → (numberOf (o .answer) ≡ 8 → o ≡ untouched l StoreShort) → seenOf (record { call = c; held = heldBy n c o }) ≡ heardOf n o
+unfolding saidBy numberOf refusalNumber valuesOf refusalWord
+heard-call n c l o h k e =
+    by-test (eqb (numberOf (o .answer)) 8)
+    (λ t. let z = eqb-true (numberOf (o .answer)) 8 t in
+    seen-eight (record { call = c; held = heldBy n c o }) z ∙ sym (ap (heardOf n) (e z)))
+    (λ t. ap (seenIn c) (cond-false (eqb (numberOf (o .answer)) 8) _ _ t) ∙ heard-said n c o h k)

@@ -1,11 +1,11 @@
--- Which places hold a channel, with what remote number, changes only where an open fills a slot or a close empties it.
+-- Which places hold a channel, with what local number, changes only where an open fills a slot or a close empties it.
 -- Assumes nothing.
 use mathlib.Core.Path.{_≡_, refl, sym, ap, ap₂, subst, _∙_}
-use mathlib.Core.Bool.{Bool, true, cond, _&&_}
+use mathlib.Core.Bool.{Bool, true, _&&_}
 use mathlib.Core.List.{List, [], _∷_, _++_, map, append-nil}
-use Prim.Native.Nat.{ℕ, _+_, _*_, _≤_, _<_}
+use Prim.Native.Nat.{ℕ, _+_}
 use lib.Dec.{eqb, ltb}
-use lib.ListN.{length, take, set}
+use lib.ListN.{length, take, set, getD, List·getD-map}
 use lib.Seq.{map-set-same}
 use borrow.Author.Tests.{ltb-true}
 use Rattle.config.specs.declared.negotiated.RxPolicy.{RxPolicy}
@@ -54,12 +54,18 @@ use Rattle.connection.specs.declared.Received.the-variants.{Packet as PacketIs,
 use Rattle.connection.specs.Act.{Acted, pushedBy, actedBy, tableOf, actOn}
 use Rattle.connection.specs.Calls.{Lent, Outcome, Work, begun, then, thenActed, ends, dropped, policy, bodyOf, frameLen, isThere, slotFor, ackFrames, receivedOf, dispatchBy, dispatchStep, settledAs, settleStep, takenBy, takeStep, reread, readSettled, readActed, isDirect, readDirect, readBy, readTaken, readFirst, readStep, sendSome, sendBy, sendAgain, writeReadied, writeActed, writeAct, writeBy, writeFirst, writeOn, writeStep, frontBy, frontStep, idsIn, isReady}
 use Rattle.connection.specs.Frames.{Frame, writeFrame, framesBytes}
-use Rattle.history.specs.Book.{noMark}
 use Rattle.history.proofs.Acts.{NoSlot, pushed-slots, withdrawn-slots}
-use Rattle.history.proofs.Packets.{markOf}
 use Rattle.connection.proofs.Slots.{slotsBy, slots-by}
 use Rattle.history.proofs.Places.{TableOk, found-filled}
 use Rattle.history.proofs.Steps.{settled-alike, table-set}
+
+-- whether a slot is filled, and its local number
+pub record Mark : Type 0 where
+  pub filled : Bool
+  pub local : ℕ
+
+abbrev pub markOf : ChannelSlot → Mark
+markOf s = record { filled = s .filled; local = s .local .0 }
 
 -- changes of slots that keep their marks
 abbrev pub Tame : List ChannelSlot → List Change → Type 0
@@ -85,6 +91,12 @@ tame-append ss (headerTo h ∷ xs) ys t u = tame-append ss xs ys t u
 tame-append ss (openTo i q ∷ xs) ys t u = tame-append ss xs ys t u
 tame-append ss (opensTo qs ∷ xs) ys t u = tame-append ss xs ys t u
 
+-- so each place is filled as it was, with the number that it had
+pub tame-at : (ss : List ChannelSlot) (xs : List Change) → Tame ss xs → (i : ℕ) → markOf (slotIn (slotsBy ss xs) i) ≡ markOf (slotIn ss i)
+unfolding slotIn
+tame-at ss xs t i =
+    sym (List·getD-map markOf (slotsBy ss xs) i emptySlot) ∙ ap (λ (z : List Mark). getD z i (markOf emptySlot)) (tame-marks ss xs t) ∙ List·getD-map markOf ss i emptySlot
+
 -- a call's end
 pub tame-ends : (ss : List ChannelSlot) (w : Work) (a : Answer) (used : ℕ) (handed : List ℕ) → Tame ss (w .changes) → Tame ss (ends w a used handed .changes)
 unfolding ends
@@ -96,7 +108,7 @@ tame-then ss w i t fs x e = tame-append ss (w .changes) (slotTo i t ∷ []) x (e
 
 -- what a slot function leaves has its mark
 stays-mark : (s t : ChannelSlot) → Stays s t → markOf t ≡ markOf s
-stays-mark s t k = ap₂ (λ (x : Bool) (y : ℕ). cond x (record { there = true; remote = y }) noMark) (k .filled) (ap (λ z. z .0) (k .remote))
+stays-mark s t k = ap₂ (λ (x : Bool) (y : ℕ). record { filled = x; local = y }) (k .filled) (ap (λ z. z .0) (k .local))
 
 -- ---- dispatching
 
@@ -216,7 +228,7 @@ module _ (l : Lent) (ok : TableOk (policy l) (l .state .header .negotiated .conf
   tame-plain : (h : Header) (a : Answer) (used : ℕ) (bs : List ℕ) → tame (ends (begun h l) a used bs)
   tame-plain h a used bs = tame-ends ss (begun h l) a used bs tt
 
-  there-filled : (ch : ChannelId) → isThere l ch ≡ true → slotIn ss (ch .slot) .filled ≡ true
+  pub there-filled : (ch : ChannelId) → isThere l ch ≡ true → slotIn ss (ch .slot) .filled ≡ true
   unfolding isThere wantedBy
   there-filled ch t =
       let s = slotIn ss (ch .slot) in

@@ -23,7 +23,7 @@ use Rattle.state.proofs.ChangeLaws.{changes-layout}
 use Rattle.connection.specs.declared.Refusal.the-variants.{StoreShort}
 use Rattle.connection.specs.Answer.{refusalNumber, numberOf}
 use Rattle.connection.specs.Calls.{Outcome, untouched, checked, checkedOut, openOf, dispatchOf, settleOf, takeOf, readOf, writeOf, closeOf, frontCall, openStep, dispatchStep, settleStep, takeStep, readStep, writeStep, closeStep, frontStep, fresh, Made, makeOf}
-use Rattle.history.specs.Run.{bytesIn, Call, openCall, dispatchCall, settleCall, takeCall, readCall, writeCall, closeCall, frontTaken, World, lent, outcome, after, afterAll, made}
+use Rattle.history.specs.Run.{bytesIn, Call, openCall, dispatchCall, settleCall, takeCall, readCall, writeCall, closeCall, frontTaken, World, lent, outcome, after, afterAll, made, Start, begins, agreedIn}
 use Rattle.history.specs.Never13.{Unbroken, Never13, StaysWhole, Always8}
 use Rattle.state.proofs.WholeLaws.{length-layout, Bounds, SlotWhole, Whole, whole-own, whole-true, whole-full, whole-fits, empty-whole, whole-facts}
 use Rattle.history.proofs.Bytes.{bytes-in}
@@ -184,9 +184,6 @@ module _ (c : ConnectionConfig) (a b : ℕ) (host device : Bool) (state rx store
       ap stateOf (ap (λ (x : Made). x .state) (cond-true (withinLimits c) _ _ e) ∙ put-start state (layout (fresh n)) (length-layout (fresh n) (whole-full n (fresh n) g)))
       ∙ state-forth (fresh n) (drop 4730 state) (whole-fits n (fresh n) g)
 
-  pub all-holds : (cs : List Call) → Holds (negotiatedOf host device a b c) (drop 4730 state) (length rx) (length store) (afterAll (made c a b host device state rx store) cs)
-  all-holds cs = holds-all (negotiatedOf host device a b c) (drop 4730 state) (length rx) (length store) _ made-holds cs
-
   short-made : storesFit c (length rx) (length store) ≡ false
       → storesFit (negotiated (lent (made c a b host device state rx store)) .config) (length (made c a b host device state rx store .rx)) (length (made c a b host device state rx store .store)) ≡ false
   unfolding negotiatedOf
@@ -208,9 +205,13 @@ unbroken n state rx store w k =
       negotiated = k .facts .header .negotiated;
     }
 
+-- at a start
+pub starts : (s : Start) → Holds (agreedIn s) (drop 4730 (s .state)) (length (s .rx)) (length (s .store)) (begins s)
+starts s = made-holds (s .config) (s .version) (s .most) (s .host) (s .device) (s .state) (s .rx) (s .store) (s .within)
+
 pub never-13 : Never13
-never-13 c a b host device state rx store e h cs =
-    unbroken (negotiatedOf host device a b c) state rx store (afterAll (made c a b host device state rx store) cs) (all-holds c a b host device state rx store e cs)
+never-13 s cs =
+    unbroken (agreedIn s) (s .state) (s .rx) (s .store) (afterAll (begins s) cs) (holds-all (agreedIn s) (drop 4730 (s .state)) (length (s .rx)) (length (s .store)) (begins s) (starts s) cs)
 
 -- ---- any whole state
 
@@ -267,11 +268,9 @@ module _ (w : World) (is : isWhole (w .state) ≡ true)
   answer-8 x = ap (λ (o : Outcome). numberOf (o .answer)) (call-8 x)
 
 pub always-8 : Always8
-always-8 c a b host device state rx store e h s cs =
-    let n = negotiatedOf host device a b c in
-    let w = made c a b host device state rx store in
-    let k = made-holds c a b host device state rx store e in
-    let is = holds-whole n (drop 4730 state) (length rx) (length store) w k in
-    let short = short-made c a b host device state rx store e s in
+always-8 s f cs =
+    let w = begins s in
+    let is = holds-whole (agreedIn s) (drop 4730 (s .state)) (length (s .rx)) (length (s .store)) w (starts s) in
+    let short = short-made (s .config) (s .version) (s .most) (s .host) (s .device) (s .state) (s .rx) (s .store) (s .within) f in
     let z = all-8 w is short cs in
     (z, λ x. ap (λ (y : World). numberOf (outcome y x .answer)) z ∙ answer-8 w is short x)

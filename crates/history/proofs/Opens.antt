@@ -1,12 +1,12 @@
 -- An open beside the books: of a channel that is in the table, and of the one that it fills. Assumes nothing.
 use mathlib.Core.Path.{_≡_, refl, sym, ap, subst, _∙_}
 use mathlib.Core.Bool.{Bool, true, false, not, cond, _&&_}
-use mathlib.Core.List.{List, [], _∷_, _++_, map}
-use Prim.Native.Nat.{ℕ, _+_, _*_, _≤_, _<_}
+use mathlib.Core.List.{List, [], _∷_}
+use Prim.Native.Nat.{ℕ, _+_}
 use native.Mathlib.Omega.{arith}
 use lib.Dec.{eqb, ltb}
 use lib.ListN.{length, set}
-use borrow.Author.Tests.{ne-eqb}
+use borrow.Author.Tests.{ne-eqb, not-true}
 use Rattle.le.proofs.Parts.{by-test}
 use Rattle.config.specs.declared.negotiated.RxPolicy.{RxPolicy}
 use Rattle.config.specs.Negotiated.{creditOf}
@@ -15,8 +15,6 @@ use Rattle.protocol.specs.declared.message.Message.{Message}
 use Rattle.protocol.specs.declared.packet.Packet.{Packet}
 use Rattle.protocol.specs.Packet.{maxPayload}
 use Rattle.protocol.proofs.RoundTrip.{Says}
-use Rattle.slot.specs.declared.ids.LocalId.{LocalId}
-use Rattle.slot.specs.declared.ids.RemoteId.{RemoteId}
 use Rattle.slot.specs.declared.ChannelSlot.{ChannelSlot}
 use Rattle.slot.specs.declared.Failed.{Failed}
 use Rattle.slot.specs.declared.Failed.the-variants.{No, By}
@@ -27,7 +25,7 @@ use Rattle.slot.specs.Slot.{openingSlot, openedOf}
 use Rattle.slot.proofs.Kept.{pick}
 use Rattle.slot.proofs.Laws.{cond-true, cond-false}
 use Rattle.state.specs.declared.Header.{Header}
-use Rattle.state.specs.Change.{slotTo}
+use Rattle.state.specs.Change.{slotTo, changedAll}
 use Rattle.table.specs.declared.Allocated.{Allocated}
 use Rattle.table.specs.declared.Allocated.the-variants.{Channel, NoFree}
 use Rattle.table.specs.declared.ChannelId.{ChannelId}
@@ -37,20 +35,21 @@ use Rattle.connection.specs.declared.Answer.{Answer}
 use Rattle.connection.specs.declared.Answer.the-variants.{Waiting, Opened, Refused}
 use Rattle.connection.specs.declared.Received.{Received}
 use Rattle.connection.specs.declared.Received.the-variants.{Packet as PacketIs}
-use Rattle.connection.specs.declared.Refusal.the-variants.{PayloadTooLarge, ShortReadyPayload, UnexpectedCommand, OutShort, ChannelClosed, NoFreeChannels}
+use Rattle.connection.specs.declared.Refusal.{Refusal}
+use Rattle.connection.specs.declared.Refusal.the-variants.{InvalidCommand, InvalidMagic, PayloadTooLarge, InvalidChecksum, ShortReadyPayload, UnexpectedCommand, BadConfig, StoreShort, OutShort, ChannelClosed, ChannelRxOverflow, NoFreeChannels, BrokenState}
 use Rattle.connection.specs.Act.{Acted, actOn}
 use Rattle.connection.specs.Answer.{refusalNumber, numberOf}
-use Rattle.connection.specs.Calls.{Lent, Outcome, Work, begun, then, thenActed, withHeader, ends, untouched, dropped, waitingFor, policy, bodyOf, frameLen, receivedOf, unlessFault, stillWaits, isWrite, isReady, openOn, openReadied, openActed, openBy, openStep}
+use Rattle.connection.specs.Calls.{Lent, Outcome, Work, begun, then, thenActed, withHeader, ends, untouched, dropped, waitingFor, policy, bodyOf, frameLen, receivedOf, unlessFault, faultRefusal, stillWaits, isWrite, isReady, openOn, openReadied, openActed, openBy, openStep}
 use Rattle.connection.specs.Frames.{closeFrame, openFrame, Sent}
-use Rattle.history.specs.Book.{Book, Mark, hasRemote, acksB, acksOf, packetB, frameB, headerAt, isWrte, isClse, isRefused, endsOpen}
+use Rattle.history.specs.Book.{Book, hasRemote, ackedB, acksOf, packetB, frameB, headerAt, isWrte, isClse, isRefused, endsOpen}
 use Rattle.history.specs.Demand3.{runOf}
 use Rattle.history.proofs.Acts.{acksIn, mineOf, acted-acks, good-by, frame-none, close-fault}
 use Rattle.history.proofs.Good.{Terms, Good, Limits, sent-good, quiet-good, acked-none}
 use Rattle.history.proofs.Marks.{Tame, tame-ends, tame-act}
-use Rattle.history.proofs.Packets.{isOpened, Got, stopped, packet, got, markOf, reads-write, reads-close, write-no-close, ready-no-write}
+use Rattle.history.proofs.Packets.{Got, stopped, packet, got, Marked, reads-write, reads-close, write-no-close, ready-no-write}
 use Rattle.connection.proofs.Slots.{slotsBy, slot-set-other}
 use Rattle.history.proofs.Places.{TableOk}
-use Rattle.history.proofs.Steps.{seenOf, stop-good, packet-good, acted-good, not-four, tells-fault, waiting-four, Fine, ends-fine}
+use Rattle.history.proofs.Steps.{saw, sawOf, stop-good, packet-good, acted-good, not-four, tells-fault, waiting-four, Fine, ends-fine}
 
 pub and-false : (x : Bool) → (x && false) ≡ false
 and-false true = refl
@@ -59,24 +58,21 @@ and-false false = refl
 module _ (l : Lent) (credit : Terms) (ok : TableOk (policy l) (l .state .header .negotiated .config .channels) (l .state .slots) (l .rx))
     (lim : Limits (policy l) credit (l .state .header .negotiated .config .«max_payload»)) (i : ℕ) (there : slotIn (l .state .slots) i .filled ≡ true)
     (b : Book) (g : Good (policy l) credit (slotIn (l .state .slots) i) (runOf (l .rx) (policy l .«rx_cap») i (slotIn (l .state .slots) i)) b)
-    (received : List ℕ) (fs : List Sent) where
+    (books : List Book) (mk : Marked books (l .state .slots)) (received : List ℕ) (fs : List Sent) where
   abbrev p : RxPolicy
   p = policy l
 
   abbrev ss : List ChannelSlot
   ss = l .state .slots
 
-  abbrev dir : List Mark
-  dir = map markOf ss
-
   abbrev h : Header
   h = l .state .header
 
   abbrev taken : Answer → ℕ → Book
-  taken a used = packetB dir i received (endsOpen a) (record { answer = a; used = used; sent = fs; got = [] }) b
+  taken a used = packetB books i received (endsOpen (numberOf a)) (saw a used fs []) b
 
   abbrev open-fine : Outcome → Type 0
-  open-fine x = acksOf (b .local) fs ≡ acksIn p (b .local) (x .frames) → Fine p credit ss i x (acksB (b .local) (seenOf x fs) (packetB dir i received (endsOpen (x .answer)) (seenOf x fs) b))
+  open-fine x = acksOf (b .local) fs ≡ acksIn p (b .local) (x .frames) → Fine p credit ss i x (ackedB (acksOf (b .local) fs) (packetB books i received (endsOpen (numberOf (x .answer))) (sawOf x fs) b))
 
   abbrev here : Book → Type 0
   here c = Good p credit (slotIn ss i) (runOf (l .rx) (p .«rx_cap») i (slotIn ss i)) c
@@ -119,10 +115,10 @@ module _ (l : Lent) (credit : Terms) (ok : TableOk (policy l) (l .state .header 
       okay-taken a four rd =
           let r = ready-no-write (k .command) rd in
           let ec : isClse m ≡ false = reads-close received lim9 k sy ∙ r .1 in
-          packet-good p credit _ lim _ _ b g dir i received (endsOpen a) lim9 k a fs [] _ _ sy four (ap (λ (x : Bool). x && isRefused a) ec)
+          packet-good p credit _ lim _ _ b g books i received (endsOpen (numberOf a)) lim9 k a fs [] _ _ sy four (ap (λ (x : Bool). x && isRefused (numberOf a)) ec)
           (good-by p credit _ _ _ _ b _ refl refl
-          (frame-none dir i (b .acked) m body a b (ap (λ (x : Bool). x && eqb (m .arg1) (b .local)) (reads-write received lim9 k sy ∙ r .0))
-          (ap (λ (x : Bool). x && cond (eqb (m .arg1) 0) (not (eqb (m .arg0) 0) && (eqb (first (hasRemote (m .arg0)) dir) i)) (eqb (m .arg1) (b .local))) ec)) g)
+          (frame-none books i (b .acked) m body a b (ap (λ (x : Bool). x && eqb (m .arg1) (b .local)) (reads-write received lim9 k sy ∙ r .0))
+          (ap (λ (x : Bool). x && cond (eqb (m .arg1) 0) (not (eqb (m .arg0) 0) && (eqb (first (hasRemote (m .arg0)) books) i)) (eqb (m .arg1) (b .local))) ec)) g)
 
       readied-fine : isReady (k .command) ≡ true → (r : Readied) → open-fine (openReadied l ch (k .arg0) (frameLen k) r)
       unfolding openReadied numberOf refusalNumber
@@ -137,10 +133,10 @@ module _ (l : Lent) (credit : Terms) (ok : TableOk (policy l) (l .state .header 
           let a : Answer = Refused UnexpectedCommand in
           let nc = write-no-close (k .command) wr in
           let ec : isClse m ≡ false = reads-close received lim9 k sy ∙ nc in
-          let e0 : (isClse m && cond (eqb (m .arg1) 0) (not (eqb (m .arg0) 0) && (eqb (first (hasRemote (m .arg0)) dir) i)) (eqb (m .arg1) (b .local))) ≡ false =
-          ap (λ (x : Bool). x && cond (eqb (m .arg1) 0) (not (eqb (m .arg0) 0) && (eqb (first (hasRemote (m .arg0)) dir) i)) (eqb (m .arg1) (b .local))) ec in
+          let e0 : (isClse m && cond (eqb (m .arg1) 0) (not (eqb (m .arg0) 0) && (eqb (first (hasRemote (m .arg0)) books) i)) (eqb (m .arg1) (b .local))) ≡ false =
+          ap (λ (x : Bool). x && cond (eqb (m .arg1) 0) (not (eqb (m .arg0) 0) && (eqb (first (hasRemote (m .arg0)) books) i)) (eqb (m .arg1) (b .local))) ec in
           open-ends (then (begun (dropped h) l) [] (closeFrame (record { local = ch .local; remote = record { 0 = k .arg0 } }) ∷ [])) a (frameLen k) refl refl refl
-          (packet-good p credit _ lim _ _ b g dir i received (endsOpen a) lim9 k a fs [] _ _ sy refl (ap (λ (x : Bool). x && true) ec)
+          (packet-good p credit _ lim _ _ b g books i received (endsOpen (numberOf a)) lim9 k a fs [] _ _ sy refl (ap (λ (x : Bool). x && true) ec)
           (pick here (isWrte m && eqb (m .arg1) (b .local))
           (λ t. quiet-good p credit _ _ _ (sent-good p credit _ _ b g (b .acked) (length body)))
           (λ t. good-by p credit _ _ _ _ b _ refl refl (cond-false _ _ _ e0) g)))
@@ -157,23 +153,23 @@ module _ (l : Lent) (credit : Terms) (ok : TableOk (policy l) (l .state .header 
       abbrev act : Acted
       act = actOn h ss (l .state .opens) (l .rx) (l .store) k body
 
-      not-ended : endsOpen (unlessFault (act .fault) Waiting) m ≡ false
-      unfolding unlessFault
+      not-ended : endsOpen (numberOf (unlessFault (act .fault) Waiting)) m ≡ false
+      unfolding unlessFault numberOf
       not-ended =
           by-test (isClose (k .command))
           (λ t. let e = close-fault h ss (l .state .opens) (l .rx) (l .store) k body t in
-          ap (λ (x : Failed). isClse m && isRefused (unlessFault x Waiting)) e ∙ and-false (isClse m))
-          (λ t. ap (λ (x : Bool). x && isRefused (unlessFault (act .fault) Waiting)) (reads-close received lim9 k sy ∙ t))
+          ap (λ (x : Failed). isClse m && isRefused (numberOf (unlessFault x Waiting))) e ∙ and-false (isClse m))
+          (λ t. ap (λ (x : Bool). x && isRefused (numberOf (unlessFault (act .fault) Waiting))) (reads-close received lim9 k sy ∙ t))
 
       acted-fine : open-fine (openActed l (frameLen k) act)
-      unfolding openActed ends
+      unfolding openActed ends numberOf
       acted-fine e =
           let a = unlessFault (act .fault) Waiting in
           let w = thenActed (begun h l) act in
           ends-fine p credit ss i (withHeader w (stillWaits a (act .header))) a (frameLen k) [] _
           (acked-none p credit _ _ _
-          (packet-good p credit _ lim _ _ b g dir i received (endsOpen a) lim9 k a fs [] _ _ sy (not-four (act .fault) Waiting waiting-four) not-ended
-          (acted-good h ss (l .state .opens) (l .rx) (l .store) ok credit lim i there b g dir refl received k sy (b .acked) (omega arith) a (tells-fault (mineOf ss i k) (act .fault) Waiting refl)))
+          (packet-good p credit _ lim _ _ b g books i received (endsOpen (numberOf a)) lim9 k a fs [] _ _ sy (not-four (act .fault) Waiting waiting-four) not-ended
+          (acted-good h ss (l .state .opens) (l .rx) (l .store) ok credit lim i there b g books mk received k sy (b .acked) (omega arith) a (tells-fault (mineOf ss i k) (act .fault) Waiting refl)))
           (acksOf (b .local) fs) (e ∙ acted-acks h ss (l .state .opens) (l .rx) (l .store) k body (b .local)))
 
       packet-fine : open-fine (openBy l ch received (PacketIs k))
@@ -186,7 +182,7 @@ module _ (l : Lent) (credit : Terms) (ok : TableOk (policy l) (l .state .header 
 
     by-fine : (r : Received) → Got received (h .negotiated .config .«max_payload») r → open-fine (openBy l ch received r)
     unfolding openBy
-    by-fine r (stopped a used st) = open-ends (begun (stillWaits a h) l) a used refl refl refl (stop-good p credit _ lim _ _ b g dir i received (endsOpen a) a used fs [] st)
+    by-fine r (stopped a used st) = open-ends (begun (stillWaits a h) l) a used refl refl refl (stop-good p credit _ lim _ _ b g books i received (endsOpen (numberOf a)) a used fs [] st)
     by-fine r (packet k sy) = packet-fine k sy
 
   -- an open beside the book of a channel that is in the table
@@ -199,13 +195,35 @@ module _ (l : Lent) (credit : Terms) (ok : TableOk (policy l) (l .state .header 
 
 -- ---- the slot that an open fills
 
+-- a refusal's number is one
+pub refused-is : (r : Refusal) → isRefused (refusalNumber r) ≡ true
+unfolding refusalNumber
+refused-is (InvalidCommand word) = refl
+refused-is InvalidMagic = refl
+refused-is PayloadTooLarge = refl
+refused-is InvalidChecksum = refl
+refused-is ShortReadyPayload = refl
+refused-is UnexpectedCommand = refl
+refused-is BadConfig = refl
+refused-is StoreShort = refl
+refused-is OutShort = refl
+refused-is ChannelClosed = refl
+refused-is ChannelRxOverflow = refl
+refused-is NoFreeChannels = refl
+refused-is BrokenState = refl
+
+-- and not 0
+pub refused-some : (r : Refusal) → eqb (refusalNumber r) 0 ≡ false
+refused-some r = not-true (eqb (refusalNumber r) 0) (and-true (not (eqb (refusalNumber r) 0)) (ltb (refusalNumber r) 100) (refused-is r) .0)
+
 -- a slot is filled, or none is
 pub data Opens (l : Lent) (received : List ℕ) : Outcome → Type 0 where
   fills : (x : Outcome) (t : ChannelSlot) (k : Packet) → Says received (l .state .header .negotiated .config .«max_payload») k
       → x .answer ≡ Opened (record { slot = l .state .header .waiting .slot; local = l .state .header .waiting .local })
-      → slotsBy (l .state .slots) (x .changes) ≡ set (l .state .slots) (l .state .header .waiting .slot) t → x .rx ≡ l .rx → l .state .header .waiting .on ≡ true
+      → slotsBy (l .state .slots) (x .changes) ≡ set (l .state .slots) (l .state .header .waiting .slot) t → x .rx ≡ l .rx → x .frames ≡ [] → l .state .header .waiting .on ≡ true
+      → changedAll (l .state) (x .changes) .header .waiting .on ≡ false
       → openedOf (openingSlot (l .state .header .waiting .local)) (record { 0 = k .arg0 }) (bodyOf received k) (policy l) ≡ Slot t → Opens l received x
-  leaves : (x : Outcome) → isOpened (x .answer) ≡ false → Tame (l .state .slots) (x .changes) → Opens l received x
+  leaves : (x : Outcome) → eqb (numberOf (x .answer)) 0 ≡ false → Tame (l .state .slots) (x .changes) → Opens l received x
 
 module _ (l : Lent) (ok : TableOk (policy l) (l .state .header .negotiated .config .channels) (l .state .slots) (l .rx)) (received : List ℕ) where
   abbrev hh : Header
@@ -214,12 +232,12 @@ module _ (l : Lent) (ok : TableOk (policy l) (l .state .header .negotiated .conf
   abbrev ws : List ChannelSlot
   ws = l .state .slots
 
-  plain : (w : Work) (a : Answer) (used : ℕ) → isOpened a ≡ false → Tame ws (w .changes) → Opens l received (ends w a used [])
+  plain : (w : Work) (a : Answer) (used : ℕ) → eqb (numberOf a) 0 ≡ false → Tame ws (w .changes) → Opens l received (ends w a used [])
   unfolding ends
   plain w a used e t = leaves (ends w a used []) e (tame-ends ws w a used [] t)
 
   opens-on : (out : ℕ) (destination : List ℕ) (a : Allocated) → Opens l received (openOn l out destination a)
-  unfolding openOn
+  unfolding openOn numberOf refusalNumber
   opens-on out destination NoFree = plain (begun hh l) (Refused NoFreeChannels) 0 refl tt
   opens-on out destination (Channel ch) =
       pick (Opens l received) (ltb maxPayload (length destination)) (λ t. plain (begun (numbered hh) l) (Refused PayloadTooLarge) 0 refl tt)
@@ -231,14 +249,14 @@ module _ (l : Lent) (ok : TableOk (policy l) (l .state .header .negotiated .conf
 
   opens-readied : hh .waiting .on ≡ true → (k : Packet) → Says received (hh .negotiated .config .«max_payload») k → (r : Readied)
       → openedOf (openingSlot (hh .waiting .local)) (record { 0 = k .arg0 }) (bodyOf received k) (policy l) ≡ r → Opens l received (openReadied l wch (k .arg0) (frameLen k) r)
-  unfolding openReadied ends
-  opens-readied on k sy (Slot t) e = fills _ t k sy refl refl refl on e
+  unfolding openReadied ends numberOf refusalNumber
+  opens-readied on k sy (Slot t) e = fills _ t k sy refl refl refl refl on refl e
   opens-readied on k sy Short e = plain (then (begun (dropped hh) l) [] (closeFrame (record { local = hh .waiting .local; remote = record { 0 = k .arg0 } }) ∷ [])) (Refused ShortReadyPayload) (frameLen k) refl tt
 
-  not-opened : (f : Failed) → isOpened (unlessFault f Waiting) ≡ false
-  unfolding unlessFault
+  not-opened : (f : Failed) → eqb (numberOf (unlessFault f Waiting)) 0 ≡ false
+  unfolding unlessFault numberOf
   not-opened No = refl
-  not-opened (By f) = refl
+  not-opened (By f) = refused-some (faultRefusal f)
 
   opens-acted : (k : Packet) → Opens l received (openActed l (frameLen k) (actOn hh ws (l .state .opens) (l .rx) (l .store) k (bodyOf received k)))
   unfolding openActed
@@ -248,8 +266,8 @@ module _ (l : Lent) (ok : TableOk (policy l) (l .state .header .negotiated .conf
       plain (withHeader (thenActed (begun hh l) b) (stillWaits a (b .header))) a (frameLen k) (not-opened (b .fault)) (tame-act hh ws (l .state .opens) (l .rx) (l .store) k (bodyOf received k) ok)
 
   opens-by : hh .waiting .on ≡ true → (r : Received) → Got received (hh .negotiated .config .«max_payload») r → Opens l received (openBy l wch received r)
-  unfolding openBy
-  opens-by on r (stopped a used st) = plain (begun (stillWaits a hh) l) a used (st .unopened) tt
+  unfolding openBy numberOf refusalNumber
+  opens-by on r (stopped a used st) = plain (begun (stillWaits a hh) l) a used (st .undone) tt
   opens-by on r (packet k sy) =
       let mine = eqb (k .arg1) (hh .waiting .local .0) in
       pick (Opens l received) (isReady (k .command) && mine) (λ t. opens-readied on k sy (openedOf (openingSlot (hh .waiting .local)) (record { 0 = k .arg0 }) (bodyOf received k) (policy l)) refl)

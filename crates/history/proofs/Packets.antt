@@ -1,11 +1,12 @@
 -- What received bytes give a call, and what the book reads of them. Assumes nothing.
 use mathlib.Core.Path.{_≡_, refl, sym, ap, _∙_}
-use mathlib.Core.Bool.{Bool, true, false, not, cond, _&&_, _||_, true≢false}
-use mathlib.Core.List.{List, [], _∷_, _++_, map}
-use Prim.Native.Nat.{ℕ, _+_, _-_, _*_, _≤_, _<_}
+use mathlib.Core.Bool.{Bool, true, false, not, cond, _&&_, true≢false}
+use mathlib.Core.List.{List}
+use Prim.Native.Nat.{ℕ, _+_, _-_, _≤_}
 use native.Mathlib.Omega.{arith}
 use lib.Dec.{eqb}
-use lib.ListN.{length, getD, length-map, List·getD-map}
+use lib.ListN.{length, getD, set, length-set, List·getD-map}
+use lib.Seq.{map-set-same}
 use borrow.Author.Tests.{eqb-true, eqb-false, eq-eqb, ne-eqb}
 use Rattle.le.specs.Le.{part, numOf}
 use Rattle.le.proofs.Parts.{by-test, length-part}
@@ -22,21 +23,21 @@ use Rattle.protocol.specs.Packet.{payloadOf, packetOf, decodeOf}
 use Rattle.protocol.proofs.RoundTrip.{Says, says}
 use Rattle.slot.specs.declared.ChannelSlot.{ChannelSlot}
 use Rattle.slot.specs.declared.ids.ChannelIds.{ChannelIds}
+use Rattle.slot.specs.declared.ids.RemoteId.{RemoteId}
 use Rattle.slot.specs.Ids.{isClose, namedBy, closedBy}
 use Rattle.slot.specs.Slot.{emptySlot}
-use Rattle.slot.proofs.Laws.{cond-true, cond-false}
 use Rattle.table.specs.declared.Want.the-variants.{Remote}
 use Rattle.table.specs.Table.{first, wantedBy, placeOf}
 use Rattle.table.specs.Dispatch.{slotIn}
 use Rattle.table.proofs.DispatchLaws.{first-found}
 use Rattle.connection.specs.declared.Answer.{Answer}
-use Rattle.connection.specs.declared.Answer.the-variants.{Done, Waiting, Nothing, Opened, Settled as SettledIs, Read, Written, Front as FrontIs, Refused}
+use Rattle.connection.specs.declared.Answer.the-variants.{Waiting, Refused}
 use Rattle.connection.specs.declared.Received.{Received}
 use Rattle.connection.specs.declared.Received.the-variants.{Packet as PacketIs, Stop}
 use Rattle.connection.specs.declared.Refusal.the-variants.{InvalidCommand, InvalidMagic, PayloadTooLarge, InvalidChecksum}
 use Rattle.connection.specs.Answer.{refusalNumber, numberOf}
 use Rattle.connection.specs.Calls.{Lent, receivedBy, receivedOf, isWrite, isReady, bodyOf, frameLen}
-use Rattle.history.specs.Book.{Book, Mark, noMark, hasRemote, isWrte, isClse, isEarly, headerAt, payloadAt, closesB, ownEnd}
+use Rattle.history.specs.Book.{Book, noBook, hasRemote, isWrte, isClse, isEarly, headerAt, payloadAt, closesB, ownEnd}
 use Rattle.history.proofs.Places.{TableOk, first-le, found-there, place-le}
 use Rattle.history.proofs.Acts.{endsOf}
 
@@ -46,23 +47,12 @@ and-cond false y = refl
 
 -- ---- a packet, or none
 
--- whether an answer says that a slot was filled
-abbrev pub isOpened : Answer → Bool
-isOpened (Opened ch) = true
-isOpened Done = false
-isOpened Waiting = false
-isOpened Nothing = false
-isOpened (SettledIs a) = false
-isOpened (Read n) = false
-isOpened (Written n) = false
-isOpened (FrontIs r c p n) = false
-isOpened (Refused r) = false
-
 -- none: nothing is used, or a damaged frame is
 pub record Stops (a : Answer) (used : ℕ) : Type 0 where
   pub quiet : eqb (numberOf a) 4 ≡ false → used ≡ 0
-  pub late : isEarly a ≡ false
-  pub unopened : isOpened a ≡ false
+  pub late : isEarly (numberOf a) ≡ false
+  pub undone : eqb (numberOf a) 0 ≡ false
+  pub under : numberOf a ≡ 11 → ⊥
 
 pub data Got (received : List ℕ) (limit : ℕ) : Received → Type 0 where
   stopped : (a : Answer) (used : ℕ) → Stops a used → Got received limit (Stop a used)
@@ -70,11 +60,11 @@ pub data Got (received : List ℕ) (limit : ℕ) : Received → Type 0 where
 
 got-by : (received : List ℕ) (limit : ℕ) (d : Decoded) → decodeOf received limit ≡ d → Got received limit (receivedBy d)
 unfolding receivedBy numberOf refusalNumber
-got-by received limit FrameWaiting e = stopped Waiting 0 (record { quiet = λ n. refl; late = refl; unopened = refl })
-got-by received limit (WordInvalid word) e = stopped (Refused (InvalidCommand word)) 0 (record { quiet = λ n. refl; late = refl; unopened = refl })
-got-by received limit MagicInvalid e = stopped (Refused InvalidMagic) 0 (record { quiet = λ n. refl; late = refl; unopened = refl })
-got-by received limit LengthTooLarge e = stopped (Refused PayloadTooLarge) 0 (record { quiet = λ n. refl; late = refl; unopened = refl })
-got-by received limit (SumInvalid used) e = stopped (Refused InvalidChecksum) used (record { quiet = λ n. absurd (true≢false n); late = refl; unopened = refl })
+got-by received limit FrameWaiting e = stopped Waiting 0 (record { quiet = λ n. refl; late = refl; undone = refl; under = λ e. omega arith })
+got-by received limit (WordInvalid word) e = stopped (Refused (InvalidCommand word)) 0 (record { quiet = λ n. refl; late = refl; undone = refl; under = λ e. omega arith })
+got-by received limit MagicInvalid e = stopped (Refused InvalidMagic) 0 (record { quiet = λ n. refl; late = refl; undone = refl; under = λ e. omega arith })
+got-by received limit LengthTooLarge e = stopped (Refused PayloadTooLarge) 0 (record { quiet = λ n. refl; late = refl; undone = refl; under = λ e. omega arith })
+got-by received limit (SumInvalid used) e = stopped (Refused InvalidChecksum) used (record { quiet = λ n. absurd (true≢false n); late = refl; undone = refl; under = λ e. omega arith })
 got-by received limit (Accepted k) e = packet k (says received limit k e)
 
 pub got : (l : Lent) (received : List ℕ) → Got received (l .state .header .negotiated .config .«max_payload») (receivedOf l received)
@@ -171,34 +161,43 @@ module _ (received : List ℕ) (limit : ℕ) (k : Packet) (r : Says received lim
       ∙ ap (λ (z : ℕ). isClose (k .command) && namedBy (record { local = ids .local; remote = record { 0 = z } }) (k .arg0) (k .arg1)) f
       ∙ and-cond (isClose (k .command)) (namedBy ids (k .arg0) (k .arg1))
 
--- ---- marks beside slots
+-- ---- books beside slots
 
--- what is marked of a slot
-abbrev pub markOf : ChannelSlot → Mark
-markOf s = cond (s .filled) (record { there = true; remote = s .remote .0 }) noMark
+-- the books tell which slots are filled, and with what remote number
+pub record Marked (d : List Book) (ss : List ChannelSlot) : Type 0 where
+  pub size : length d ≡ length ss
+  pub there : (j : ℕ) → getD d j noBook .there ≡ slotIn ss j .filled
+  pub remote : (j : ℕ) → slotIn ss j .filled ≡ true → getD d j noBook .remote ≡ slotIn ss j .remote .0
 
-mark-remote : (r : ℕ) (s : ChannelSlot) → hasRemote r (markOf s) ≡ (s .filled && eqb (s .remote .0) r)
-mark-remote r s =
-    by-test (s .filled)
-    (λ t. ap (hasRemote r) (cond-true (s .filled) _ _ t) ∙ ap (λ (x : Bool). x && eqb (s .remote .0) r) (sym t))
-    (λ t. ap (hasRemote r) (cond-false (s .filled) _ _ t) ∙ ap (λ (x : Bool). x && eqb (s .remote .0) r) (sym t))
+-- what a slot stored at a place leaves as it was, it leaves so at each place
+pub set-same : {A : Type 0} (f : ChannelSlot → A) (ss : List ChannelSlot) (j k : ℕ) (t : ChannelSlot) → f t ≡ f (slotIn ss j) → f (slotIn (set ss j t) k) ≡ f (slotIn ss k)
+unfolding slotIn
+set-same f ss j k t e =
+    sym (List·getD-map f (set ss j t) k emptySlot) ∙ ap (λ z. getD z k (f emptySlot)) (map-set-same f ss j t emptySlot e) ∙ List·getD-map f ss k emptySlot
 
-pub mark-at : (ss : List ChannelSlot) (i : ℕ) → getD (map markOf ss) i noMark ≡ markOf (slotIn ss i)
-unfolding slotIn emptySlot
-mark-at ss i = List·getD-map markOf ss i emptySlot
+-- so the books tell the same of a table with a slot of the same channel stored anew
+pub marked-set : (d : List Book) (ss : List ChannelSlot) (j : ℕ) (t : ChannelSlot) → Marked d ss → t .filled ≡ slotIn ss j .filled → t .remote ≡ slotIn ss j .remote → Marked d (set ss j t)
+marked-set d ss j t mk e f =
+    let fill : (k : ℕ) → slotIn (set ss j t) k .filled ≡ slotIn ss k .filled = λ k. set-same (λ (s : ChannelSlot). s .filled) ss j k t e in
+    record {
+      size = mk .size ∙ sym (length-set ss j t);
+      there = λ k. mk .there k ∙ sym (fill k);
+      remote = λ k h. mk .remote k (sym (fill k) ∙ h) ∙ sym (set-same (λ (s : ChannelSlot). s .remote .0) ss j k t (ap (λ (x : RemoteId). x .0) f));
+    }
 
-module _ (p : RxPolicy) (n : ℕ) (ss : List ChannelSlot) (rx : List ℕ) (ok : TableOk p n ss rx) (r : ℕ) where
+module _ (p : RxPolicy) (n : ℕ) (ss : List ChannelSlot) (rx : List ℕ) (ok : TableOk p n ss rx) (d : List Book) (mk : Marked d ss) (r : ℕ) where
   abbrev F : ℕ
-  F = first (hasRemote r) (map markOf ss)
+  F = first (hasRemote r) d
 
   abbrev f : ℕ
   f = placeOf (Remote (record { 0 = r })) n ss
 
-  -- a slot with that remote number has that mark, and the other way
-  wanted-mark : (i : ℕ) → slotIn ss i .filled ≡ true → (hasRemote r (getD (map markOf ss) i noMark)) ≡ wantedBy (Remote (record { 0 = r })) (slotIn ss i)
+  -- a slot with that remote number has such a book, and the other way
+  wanted-mark : (i : ℕ) → slotIn ss i .filled ≡ true → (hasRemote r (getD d i noBook)) ≡ wantedBy (Remote (record { 0 = r })) (slotIn ss i)
   unfolding wantedBy
   wanted-mark i there =
-      ap (hasRemote r) (mark-at ss i) ∙ mark-remote r (slotIn ss i)
+      ap (λ (x : Bool). x && eqb (getD d i noBook .remote) r) (mk .there i)
+      ∙ ap (λ (x : ℕ). slotIn ss i .filled && eqb x r) (mk .remote i there)
       ∙ ap (λ (x : Bool). x && eqb (slotIn ss i .remote .0) r) (there ∙ sym (ap (λ (x : Bool). x && slotIn ss i .«has_remote») there ∙ ok .known i there))
 
   wanted-filled : (j : ℕ) → wantedBy (Remote (record { 0 = r })) (slotIn ss j) ≡ true → slotIn ss j .filled ≡ true
@@ -207,9 +206,9 @@ module _ (p : RxPolicy) (n : ℕ) (ss : List ChannelSlot) (rx : List ℕ) (ok : 
       let s = slotIn ss j in
       and-true (s .filled) (s .«has_remote») (and-true (s .filled && s .«has_remote») (eqb (s .remote .0) r) v .0) .0
 
-  -- the first such mark is at a channel's place just where the walk over the slots ends there
-  marked-there : (j : ℕ) → hasRemote r (getD (map markOf ss) j noMark) ≡ true → slotIn ss j .filled ≡ true
-  marked-there j e = and-true (slotIn ss j .filled) (eqb (slotIn ss j .remote .0) r) (sym (ap (hasRemote r) (mark-at ss j) ∙ mark-remote r (slotIn ss j)) ∙ e) .0
+  -- the first such book is at a channel's place just where the walk over the slots ends there
+  marked-there : (j : ℕ) → hasRemote r (getD d j noBook) ≡ true → slotIn ss j .filled ≡ true
+  marked-there j e = sym (mk .there j) ∙ and-true (getD d j noBook .there) (eqb (getD d j noBook .remote) r) e .0
 
   module _ (i : ℕ) (there : slotIn ss i .filled ≡ true) where
     forth : f ≡ i → F ≡ i
@@ -217,10 +216,10 @@ module _ (p : RxPolicy) (n : ℕ) (ss : List ChannelSlot) (rx : List ℕ) (ok : 
         let z = ok .size in
         let y = ok .most in
         let b = ok .below i there in
-        let l = length-map ss markOf in
+        let l = mk .size in
         let w : wantedBy (Remote (record { 0 = r })) (slotIn ss i) ≡ true = ap (λ (x : ℕ). wantedBy (Remote (record { 0 = r })) (slotIn ss x)) (sym e) ∙ found-there p n ss rx ok (Remote (record { 0 = r })) (omega arith) in
-        let le : F ≤ i = first-le (hasRemote r) (map markOf ss) i noMark (omega arith) (wanted-mark i there ∙ w) in
-        let m = first-found (hasRemote r) (map markOf ss) noMark (omega arith) in
+        let le : F ≤ i = first-le (hasRemote r) d i noBook (omega arith) (wanted-mark i there ∙ w) in
+        let m = first-found (hasRemote r) d noBook (omega arith) in
         let t = marked-there F m in
         let ge = place-le p n ss rx ok (Remote (record { 0 = r })) F (ok .below F t) (sym (wanted-mark F t) ∙ m) in
         omega arith
@@ -230,13 +229,13 @@ module _ (p : RxPolicy) (n : ℕ) (ss : List ChannelSlot) (rx : List ℕ) (ok : 
         let z = ok .size in
         let y = ok .most in
         let b = ok .below i there in
-        let l = length-map ss markOf in
-        let m = first-found (hasRemote r) (map markOf ss) noMark (omega arith) in
-        let w : wantedBy (Remote (record { 0 = r })) (slotIn ss i) ≡ true = sym (wanted-mark i there) ∙ ap (λ (x : ℕ). hasRemote r (getD (map markOf ss) x noMark)) (sym e) ∙ m in
+        let l = mk .size in
+        let m = first-found (hasRemote r) d noBook (omega arith) in
+        let w : wantedBy (Remote (record { 0 = r })) (slotIn ss i) ≡ true = sym (wanted-mark i there) ∙ ap (λ (x : ℕ). hasRemote r (getD d x noBook)) (sym e) ∙ m in
         let le = place-le p n ss rx ok (Remote (record { 0 = r })) i b w in
         let v = found-there p n ss rx ok (Remote (record { 0 = r })) (omega arith) in
         let t = wanted-filled f v in
-        let ge : F ≤ f = first-le (hasRemote r) (map markOf ss) f noMark (let h = ok .below f t in omega arith) (wanted-mark f t ∙ v) in
+        let ge : F ≤ f = first-le (hasRemote r) d f noBook (let h = ok .below f t in omega arith) (wanted-mark f t ∙ v) in
         omega arith
 
     pub marks-agree : eqb F i ≡ eqb f i
@@ -245,14 +244,14 @@ module _ (p : RxPolicy) (n : ℕ) (ss : List ChannelSlot) (rx : List ℕ) (ok : 
         (λ t. ne-eqb F i (λ e. eqb-false f i t (back e)) ∙ sym t)
 
 -- so the book takes for the channel's end what dispatching does
-pub closes-agree : (p : RxPolicy) (n : ℕ) (ss : List ChannelSlot) (rx : List ℕ) (ok : TableOk p n ss rx) (i : ℕ) (there : slotIn ss i .filled ≡ true) (b : Book) (received : List ℕ) (limit : ℕ) (k : Packet)
-    (r : Says received limit k) → b .local ≡ slotIn ss i .local .0 → closesB (map markOf ss) i b (headerAt received) ≡ endsOf n ss i k
-closes-agree p n ss rx ok i there b received limit k r e =
+pub closes-agree : (p : RxPolicy) (n : ℕ) (ss : List ChannelSlot) (rx : List ℕ) (ok : TableOk p n ss rx) (d : List Book) (mk : Marked d ss) (i : ℕ) (there : slotIn ss i .filled ≡ true) (b : Book) (received : List ℕ) (limit : ℕ) (k : Packet)
+    (r : Says received limit k) → b .local ≡ slotIn ss i .local .0 → closesB d i b (headerAt received) ≡ endsOf n ss i k
+closes-agree p n ss rx ok d mk i there b received limit k r e =
     let m = headerAt received in
     let a0 = reads-arg0 received limit k r in
     let a1 = reads-arg1 received limit k r in
-    ap (λ (x : Bool). x && cond (eqb (m .arg1) 0) (not (eqb (m .arg0) 0) && (eqb (first (hasRemote (m .arg0)) (map markOf ss)) i)) (eqb (m .arg1) (b .local))) (reads-close received limit k r)
-    ∙ ap (λ (x : ℕ). isClose (k .command) && cond (eqb x 0) (not (eqb (m .arg0) 0) && (eqb (first (hasRemote (m .arg0)) (map markOf ss)) i)) (eqb x (b .local))) a1
-    ∙ ap (λ (x : ℕ). isClose (k .command) && cond (eqb (k .arg1) 0) (not (eqb x 0) && (eqb (first (hasRemote x) (map markOf ss)) i)) (eqb (k .arg1) (b .local))) a0
-    ∙ ap (λ (x : ℕ). isClose (k .command) && cond (eqb (k .arg1) 0) (not (eqb (k .arg0) 0) && (eqb (first (hasRemote (k .arg0)) (map markOf ss)) i)) (eqb (k .arg1) x)) e
-    ∙ ap (λ (x : Bool). isClose (k .command) && cond (eqb (k .arg1) 0) (not (eqb (k .arg0) 0) && x) (eqb (k .arg1) (slotIn ss i .local .0))) (marks-agree p n ss rx ok (k .arg0) i there)
+    ap (λ (x : Bool). x && cond (eqb (m .arg1) 0) (not (eqb (m .arg0) 0) && (eqb (first (hasRemote (m .arg0)) d) i)) (eqb (m .arg1) (b .local))) (reads-close received limit k r)
+    ∙ ap (λ (x : ℕ). isClose (k .command) && cond (eqb x 0) (not (eqb (m .arg0) 0) && (eqb (first (hasRemote (m .arg0)) d) i)) (eqb x (b .local))) a1
+    ∙ ap (λ (x : ℕ). isClose (k .command) && cond (eqb (k .arg1) 0) (not (eqb x 0) && (eqb (first (hasRemote x) d) i)) (eqb (k .arg1) (b .local))) a0
+    ∙ ap (λ (x : ℕ). isClose (k .command) && cond (eqb (k .arg1) 0) (not (eqb (k .arg0) 0) && (eqb (first (hasRemote (k .arg0)) d) i)) (eqb (k .arg1) x)) e
+    ∙ ap (λ (x : Bool). isClose (k .command) && cond (eqb (k .arg1) 0) (not (eqb (k .arg0) 0) && x) (eqb (k .arg1) (slotIn ss i .local .0))) (marks-agree p n ss rx ok d mk (k .arg0) i there)

@@ -5,8 +5,8 @@ use mathlib.Core.List.{List, [], _∷_, _++_}
 use Prim.Native.Nat.{ℕ, zero, suc, _+_, _-_, _*_, _≤_, _<_}
 use native.Mathlib.Omega.{arith}
 use lib.Dec.{eqb, ltb}
-use lib.ListN.{length, take, getD, set, length-set}
-use lib.Seq.{getD-take, getD-set-same, getD-set-other, length-take-le}
+use lib.ListN.{length, take, getD, set}
+use lib.Seq.{getD-take, length-take-le}
 use borrow.Author.Tests.{eqb-true, eqb-false, eq-eqb, ltb-true, ltb-false, lt-ltb, le-ltb}
 use Rattle.le.specs.Le.{part}
 use Rattle.le.proofs.Parts.{by-test, length-part}
@@ -33,8 +33,7 @@ use Rattle.slot.specs.Ids.{isClose}
 use Rattle.slot.specs.Slot.{emptySlot, isOpening, isFailed, heldOf, acksNow, bufferedWith, wroteOf, creditOf, readyBy, readyOf, closedSlot, SlotOk}
 use Rattle.slot.proofs.Kept.{pick}
 use Rattle.slot.proofs.Laws.{cond-true, cond-false}
-use Rattle.state.specs.Change.{Step, Change, slotTo, headerTo, openTo, opensTo, changed, changedAll}
-use Rattle.state.specs.State.{Connection}
+use Rattle.state.specs.Change.{Step}
 use Rattle.table.specs.declared.DispatchOutcome.{DispatchOutcome}
 use Rattle.table.specs.declared.DispatchOutcome.the-variants.{AckWrite, CreditGranted, SlotClosed, DataBuffered, IncomingOpen, CancelPendingOpen, StrayReady, ChannelFault, Unmatched}
 use Rattle.table.specs.declared.Want.{Want}
@@ -44,7 +43,7 @@ use Rattle.table.specs.Dispatch.{left, stored, slotIn, faulted, remotePlace, cl
 use Rattle.table.proofs.KeepLaws.{place-found}
 use Rattle.table.proofs.DispatchLaws.{share-in, buffered-own, buffered-other}
 use Rattle.connection.specs.Calls.{isWrite}
-use Rattle.connection.proofs.Slots.{slotsBy, slots-by, slots-append, slots-length, slot-set-same, slot-set-other}
+use Rattle.connection.proofs.Slots.{slotsBy, slot-set-same, slot-set-other}
 use Rattle.history.specs.Demand3.{runOf}
 use Rattle.history.proofs.Good.{Leaves}
 

@@ -9,10 +9,9 @@ use lib.ListN.{length, take, drop, getD, set, length-take}
 use borrow.Author.Tests.{eqb-true, eqb-false, ne-eqb, ltb-true, lt-ltb, le-ltb, leb-true, leb-false}
 use Rattle.le.specs.Le.{Bytes, part, put}
 use Rattle.le.proofs.Parts.{by-test, length-part}
-use Rattle.config.specs.declared.ConnectionConfig.{ConnectionConfig}
 use Rattle.config.specs.declared.negotiated.Negotiated.{Negotiated}
 use Rattle.config.specs.declared.negotiated.RxPolicy.{RxPolicy}
-use Rattle.config.specs.Config.{withinLimits, storesFit}
+use Rattle.config.specs.Config.{storesFit}
 use Rattle.config.specs.Negotiated.{negotiatedOf, policyOf}
 use Rattle.config.proofs.Laws.{and-true}
 use Rattle.rx_store.proofs.Laws.{share-before}
@@ -69,13 +68,13 @@ use Rattle.connection.specs.declared.Refusal.the-variants.{StoreShort, OutShort
 use Rattle.connection.specs.Calls.{Lent, Outcome, Work, begun, then, thenActed, ends, dropped, untouched, checked, checkedOut, policy, idsIn, isThere, slotFor, ackFrames, unlessFault, receivedOf, bodyOf, frameLen, isWrite, isReady, dispatchBy, dispatchStep, settledAs, settleStep, takenBy, takeStep, reread, readSettled, readActed, isDirect, readDirect, readBy, readTaken, readFirst, readStep, sendLen, sendSome, sendBy, sendAgain, writeReadied, writeActed, writeAct, writeBy, writeFirst, writeOn, writeStep, closeStep, frontBy, frontStep, openOn, stillWaits, openReadied, openActed, openBy, openStep, fresh, openOf, dispatchOf, settleOf, takeOf, readOf, writeOf, closeOf, frontCall}
 use Rattle.connection.specs.Act.{Acted, pushedBy, actedBy, tableOf, actOn}
 use Rattle.history.specs.Queue.{QueueMove, stays, pushes, withdraws, pops, moved, commandMove, usedMove, queueOf, packetMove, Hands, takesNone, openTakes, readTakes, writeTakes, moveOf, queueIn, Queues, QueueIsRusts}
-use Rattle.history.specs.Run.{bytesIn, Call, openCall, dispatchCall, settleCall, takeCall, readCall, writeCall, closeCall, frontTaken, World, lent, outcome, after, afterAll, made}
+use Rattle.history.specs.Run.{bytesIn, Call, openCall, dispatchCall, settleCall, takeCall, readCall, writeCall, closeCall, frontTaken, World, lent, outcome, after, afterAll, Start, begins, agreedIn}
 use Rattle.history.proofs.Steps.{Alike, settled-alike}
 use Rattle.connection.specs.Act.{PacketFits}
 use Rattle.connection.proofs.WholeWork.{negotiated, At, at-frames, at-slot, there-live, there-at, Long, long, drop-whole}
 use Rattle.history.proofs.Bytes.{bytes-in}
 use Rattle.connection.proofs.Decoding.{ReceivedFits, received-fits}
-use Rattle.history.proofs.Never13.{Holds, holds-whole, holds-kept, state-after, made-state, all-holds}
+use Rattle.history.proofs.Never13.{Holds, holds-whole, holds-kept, holds-all, state-after, made-state, starts}
 
 length-waits : (payload : ℕ) (store : List ℕ) (qs : List PendingOpen) → length (waits payload store qs) ≡ length qs
 unfolding waits
@@ -818,15 +817,15 @@ module _ (n : Negotiated) (r : List ℕ) (rx store : ℕ) (fit : storesFit (n .c
         none = λ e. ap (λ (o : Outcome). o .answer) (front-is w is-here fit-here whole-here) ∙ front-none (lent w) whole-here e;
       }
 
-made-empty : (c : ConnectionConfig) (a b : ℕ) (host device : Bool) (state rx store : List ℕ) → withinLimits c ≡ true → queueIn (made c a b host device state rx store) ≡ []
+start-empty : (s : Start) → queueIn (begins s) ≡ []
 unfolding queueOf fresh waits
-made-empty c a b host device state rx store e =
-    let s = made c a b host device state rx store .store in
-    ap (λ (y : Connection). waits (y .header .negotiated .config .«max_payload») s (take (y .header .queued) (y .opens))) (made-state c a b host device state rx store e)
+start-empty s =
+    ap (λ (y : Connection). waits (y .header .negotiated .config .«max_payload») (begins s .store) (take (y .header .queued) (y .opens)))
+    (made-state (s .config) (s .version) (s .most) (s .host) (s .device) (s .state) (s .rx) (s .store) (s .within))
 
 pub queue-is-rusts : QueueIsRusts
 unfolding negotiatedOf
-queue-is-rusts c a b host device state rx store e h fit = (
-  made-empty c a b host device state rx store e,
-  λ cs. queues (negotiatedOf host device a b c) (drop 4730 state) (length rx) (length store) fit (afterAll (made c a b host device state rx store) cs) (all-holds c a b host device state rx store e cs),
-)
+queue-is-rusts s fit =
+    let n = agreedIn s in
+    let r = drop 4730 (s .state) in
+    (start-empty s, λ cs. queues n r (length (s .rx)) (length (s .store)) fit (afterAll (begins s) cs) (holds-all n r (length (s .rx)) (length (s .store)) (begins s) (starts s) cs))

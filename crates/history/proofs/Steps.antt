@@ -1,8 +1,8 @@
 -- Each call beside the book of a channel: parts that the calls share. Assumes nothing.
 use mathlib.Core.Path.{_≡_, refl, sym, ap, subst, _∙_}
-use mathlib.Core.Bool.{Bool, true, false, _&&_, _||_, true≢false}
-use mathlib.Core.List.{List, [], _∷_, _++_, map}
-use Prim.Native.Nat.{ℕ, _+_, _-_, _*_, _≤_, _<_, min}
+use mathlib.Core.Bool.{Bool, true, false, _&&_, true≢false}
+use mathlib.Core.List.{List, [], _∷_, _++_}
+use Prim.Native.Nat.{ℕ, _+_, _-_, _≤_, _<_, min}
 use native.Mathlib.Omega.{arith}
 use lib.Dec.{eqb, leb}
 use lib.ListN.{length, set, length-set}
@@ -20,7 +20,6 @@ use Rattle.slot.specs.declared.ChannelFault.the-variants.{RxOverflow, ShortRead
 use Rattle.slot.specs.declared.ChannelSlot.{ChannelSlot}
 use Rattle.slot.specs.declared.Failed.{Failed}
 use Rattle.slot.specs.declared.Failed.the-variants.{No, By}
-use Rattle.slot.specs.declared.PendingAck.{PendingAck}
 use Rattle.slot.specs.declared.Settled.{Settled}
 use Rattle.slot.specs.Slot.{acked, isOpening, isFailed, spentOf, deliveredOf, settledOf, SlotOk}
 use Rattle.slot.proofs.Kept.{pick}
@@ -32,25 +31,28 @@ use Rattle.state.specs.declared.PendingOpen.{PendingOpen}
 use Rattle.table.specs.Dispatch.{slotIn}
 use Rattle.connection.specs.declared.Answer.{Answer}
 use Rattle.connection.specs.declared.Answer.the-variants.{Waiting, Refused}
-use Rattle.connection.specs.declared.Refusal.{Refusal}
 use Rattle.connection.specs.Act.{actOn}
-use Rattle.connection.specs.Answer.{refusalNumber, numberOf}
+use Rattle.connection.specs.Answer.{refusalNumber, numberOf, valuesOf}
 use Rattle.connection.specs.Calls.{Outcome, Work, ends, bodyOf, frameLen, unlessFault, errorRefusal, faultRefusal, isWrite}
 use Rattle.connection.specs.Frames.{Sent}
-use Rattle.history.specs.Run.{Seen}
-use Rattle.history.specs.Book.{Book, Mark, isRefused, isEarly, isWrte, headerAt, payloadAt, damagedB, frameB, packetB, closesB}
+use Rattle.history.specs.Seen.{Seen}
+use Rattle.history.specs.Book.{Book, isRefused, isEarly, isWrte, headerAt, payloadAt, damagedB, frameB, packetB}
 use Rattle.history.specs.Demand3.{runOf}
 use Rattle.history.proofs.Acts.{mineOf, endsOf, acted-at, Tells, good-by, at-good, faulty}
 use Rattle.history.proofs.Good.{Terms, Good, Limits, Settles, already, not-due, due, settles, sent-good}
-use Rattle.history.proofs.Packets.{Stops, markOf, reads-write, reads-arg1, reads-payload, body-small, closes-agree}
+use Rattle.history.proofs.Packets.{Stops, Marked, reads-write, reads-arg1, reads-payload, body-small, closes-agree}
 use Rattle.connection.proofs.Slots.{slotsBy, slots-append, slot-set-same, slot-set-other}
 use Rattle.history.proofs.Places.{SameRun, TableOk}
 
 -- ---- what a caller sees
 
--- with these frames in the outgoing buffer
-abbrev pub seenOf : Outcome → List Sent → Seen
-seenOf x fs = record { answer = x .answer; used = x .used; sent = fs; got = x .handed }
+-- with these frames in the outgoing buffer and these bytes in the reader's
+abbrev pub saw : Answer → ℕ → List Sent → List ℕ → Seen
+saw a used fs got = record { number = numberOf a; values = valuesOf a; used = used; sent = fs; got = got }
+
+-- what an outcome says is seen
+abbrev pub sawOf : Outcome → List Sent → Seen
+sawOf x fs = saw (x .answer) (x .used) fs (x .handed)
 
 pub nil-of : (l : List ℕ) → length l ≡ 0 → l ≡ []
 nil-of [] e = refl
@@ -141,14 +143,14 @@ table-set p n ss rx j t ok there a sound =
 -- ---- a packet, or none, to a call that is on no channel or on another
 
 module _ (p : RxPolicy) (credit : Terms) (most : ℕ) (lim : Limits p credit most) (s : ChannelSlot) (q : List ℕ) (b : Book) (g : Good p credit s q b)
-    (d : List Mark) (i : ℕ) (received : List ℕ) (mine : Message → Bool) where
+    (d : List Book) (i : ℕ) (received : List ℕ) (mine : Message → Bool) where
   -- a frame refused by 4
   pub damaged-good : (before : ℕ) (m : Message) (bs : List ℕ) → Good p credit s q (damagedB before m bs b)
   unfolding damagedB
   damaged-good before m bs = pick (Good p credit s q) (isWrte m && eqb (m .arg1) (b .local)) (λ t. sent-good p credit s q b g before (length bs)) (λ t. g)
 
   -- none
-  pub stop-good : (a : Answer) (used : ℕ) (fs : List Sent) (got : List ℕ) → Stops a used → Good p credit s q (packetB d i received mine (record { answer = a; used = used; sent = fs; got = got }) b)
+  pub stop-good : (a : Answer) (used : ℕ) (fs : List Sent) (got : List ℕ) → Stops a used → Good p credit s q (packetB d i received mine (saw a used fs got) b)
   unfolding packetB
   stop-good a used fs got st =
       pick (Good p credit s q) (eqb used 0) (λ t. g)
@@ -157,13 +159,13 @@ module _ (p : RxPolicy) (credit : Terms) (most : ℕ) (lim : Limits p credit mos
 
   -- one that was dispatched
   pub packet-good : (limit : ℕ) (k : Packet) (a : Answer) (fs : List Sent) (got : List ℕ) (t : ChannelSlot) (r : List ℕ) → Says received limit k → eqb (numberOf a) 4 ≡ false → mine (headerAt received) ≡ false
-      → Good p credit t r (frameB d i (b .acked) (headerAt received) (bodyOf received k) a b)
-      → Good p credit t r (packetB d i received mine (record { answer = a; used = frameLen k; sent = fs; got = got }) b)
+      → Good p credit t r (frameB d i (b .acked) (headerAt received) (bodyOf received k) (numberOf a) b)
+      → Good p credit t r (packetB d i received mine (saw a (frameLen k) fs got) b)
   unfolding packetB
   packet-good limit k a fs got t r sy four other h =
       good-by p credit t t r r _ _ refl refl
       (cond-false (eqb (frameLen k) 0) _ _ (ne-eqb (frameLen k) 0 (λ e. omega arith)) ∙ cond-false (eqb (numberOf a) 4) _ _ four ∙ cond-false (mine (headerAt received)) _ _ other
-      ∙ ap (λ (x : List ℕ). frameB d i (b .acked) (headerAt received) x a b) (reads-payload received limit k sy)) h
+      ∙ ap (λ (x : List ℕ). frameB d i (b .acked) (headerAt received) x (numberOf a) b) (reads-payload received limit k sy)) h
 
 -- an answer after dispatching: 11 where a WRTE did not fit
 pub not-four : (fault : Failed) (a : Answer) → eqb (numberOf a) 4 ≡ false → eqb (numberOf (unlessFault fault a)) 4 ≡ false
@@ -173,18 +175,18 @@ not-four (By RxOverflow) a e = refl
 not-four (By ShortReadyPayload) a e = refl
 not-four (By UnexpectedCommand) a e = refl
 
-pub tells-fault : (mine : Bool) (fault : Failed) (a : Answer) → isRefused a ≡ false → Tells mine fault (unlessFault fault a)
+pub tells-fault : (mine : Bool) (fault : Failed) (a : Answer) → isRefused (numberOf a) ≡ false → Tells mine fault (unlessFault fault a)
 unfolding unlessFault faultRefusal numberOf refusalNumber
 tells-fault mine fault a e =
     record {
-      taken = λ m f. ap (λ (x : Failed). isRefused (unlessFault x a)) f ∙ e;
-      over = λ m f. (ap (λ (x : Failed). isRefused (unlessFault x a)) f, ap (λ (x : Failed). eqb (numberOf (unlessFault x a)) 11) f);
+      taken = λ m f. ap (λ (x : Failed). isRefused (numberOf (unlessFault x a))) f ∙ e;
+      over = λ m f. (ap (λ (x : Failed). isRefused (numberOf (unlessFault x a))) f, ap (λ (x : Failed). eqb (numberOf (unlessFault x a)) 11) f);
     }
 
 -- the other half of it, whatever else the answer would be
-pub over-told : (fault : Failed) (a : Answer) → fault ≡ By RxOverflow → (isRefused (unlessFault fault a) ≡ true) × (eqb (numberOf (unlessFault fault a)) 11 ≡ true)
+pub over-told : (fault : Failed) (a : Answer) → fault ≡ By RxOverflow → (isRefused (numberOf (unlessFault fault a)) ≡ true) × (eqb (numberOf (unlessFault fault a)) 11 ≡ true)
 unfolding unlessFault faultRefusal numberOf refusalNumber
-over-told fault a e = (ap (λ (x : Failed). isRefused (unlessFault x a)) e, ap (λ (x : Failed). eqb (numberOf (unlessFault x a)) 11) e)
+over-told fault a e = (ap (λ (x : Failed). isRefused (numberOf (unlessFault x a))) e, ap (λ (x : Failed). eqb (numberOf (unlessFault x a)) 11) e)
 
 pub fault-apart : No ≡ By RxOverflow → ⊥
 fault-apart e = true≢false (sym (ap faulty e))
@@ -198,14 +200,14 @@ unfolding numberOf
 waiting-four = refl
 
 -- these answers are none of 8, 9 and 13, nor 4
-pub late-error : (e : ChannelError) → isEarly (Refused (errorRefusal e)) ≡ false
+pub late-error : (e : ChannelError) → isEarly (numberOf (Refused (errorRefusal e))) ≡ false
 unfolding numberOf refusalNumber errorRefusal faultRefusal
 late-error ErrorClosed = refl
 late-error (Fault RxOverflow) = refl
 late-error (Fault ShortReadyPayload) = refl
 late-error (Fault UnexpectedCommand) = refl
 
-pub late-unless : (f : Failed) (a : Answer) → isEarly a ≡ false → isEarly (unlessFault f a) ≡ false
+pub late-unless : (f : Failed) (a : Answer) → isEarly (numberOf a) ≡ false → isEarly (numberOf (unlessFault f a)) ≡ false
 unfolding unlessFault faultRefusal numberOf refusalNumber
 late-unless No a e = e
 late-unless (By RxOverflow) a e = refl
@@ -237,12 +239,12 @@ ends-fine p credit ss i w a used handed b g =
 module _ (h : Header) (ss : List ChannelSlot) (opens : List PendingOpen) (rx store : List ℕ) (ok : TableOk (policyOf (h .negotiated)) (h .negotiated .config .channels) ss rx)
     (credit : Terms) (lim : Limits (policyOf (h .negotiated)) credit (h .negotiated .config .«max_payload»)) (i : ℕ) (there : slotIn ss i .filled ≡ true)
     (b : Book) (g : Good (policyOf (h .negotiated)) credit (slotIn ss i) (runOf rx (policyOf (h .negotiated) .«rx_cap») i (slotIn ss i)) b) where
-  pub acted-good : (d : List Mark) → d ≡ map markOf ss → (received : List ℕ) (k : Packet) → Says received (h .negotiated .config .«max_payload») k → (before : ℕ) → before ≤ b .acked → (a : Answer)
+  pub acted-good : (d : List Book) → Marked d ss → (received : List ℕ) (k : Packet) → Says received (h .negotiated .config .«max_payload») k → (before : ℕ) → before ≤ b .acked → (a : Answer)
       → Tells (mineOf ss i k) (actOn h ss opens rx store k (bodyOf received k) .fault) a
       → Good (policyOf (h .negotiated)) credit (slotIn (slotsBy ss (actOn h ss opens rx store k (bodyOf received k) .changes)) i)
       (runOf (actOn h ss opens rx store k (bodyOf received k) .rx) (policyOf (h .negotiated) .«rx_cap») i (slotIn (slotsBy ss (actOn h ss opens rx store k (bodyOf received k) .changes)) i))
-      (frameB d i before (headerAt received) (bodyOf received k) a b)
-  acted-good d e received k sy before early a tells =
+      (frameB d i before (headerAt received) (bodyOf received k) (numberOf a) b)
+  acted-good d mk received k sy before early a tells =
       let limit = h .negotiated .config .«max_payload» in
       let n = h .negotiated .config .channels in
       let p = policyOf (h .negotiated) in
@@ -252,4 +254,4 @@ module _ (h : Header) (ss : List ChannelSlot) (opens : List PendingOpen) (rx sto
       (ap (λ (x : Bool). x && eqb (m .arg1) (b .local)) (reads-write received limit k sy)
       ∙ ap (λ (x : ℕ). isWrite (k .command) && eqb x (b .local)) (reads-arg1 received limit k sy)
       ∙ ap (λ (x : ℕ). isWrite (k .command) && eqb (k .arg1) x) (g .loc))
-      (ap (λ (x : List Mark). closesB x i b m) e ∙ closes-agree p n ss rx ok i there b received limit k sy (g .loc))
+      (closes-agree p n ss rx ok d mk i there b received limit k sy (g .loc))

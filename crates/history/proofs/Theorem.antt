@@ -1,71 +1,111 @@
 -- Demand 3, over every list of calls. Assumes nothing.
 use mathlib.Core.Path.{_≡_, refl, sym, ap, subst, _∙_}
 use mathlib.Core.Bool.{Bool, true, false, true≢false}
-use mathlib.Core.List.{List, [], _∷_, _++_, map}
-use Prim.Native.Nat.{ℕ, _+_, _*_, _^_, _≤_, _<_}
+use mathlib.Core.List.{List, [], _∷_}
+use Prim.Native.Nat.{ℕ, zero, suc, _+_, _*_, _≤_, _<_}
+use native.Mathlib.Nat.{zero-add}
 use native.Mathlib.Omega.{arith}
-use lib.Dec.{ltb, leb}
-use lib.ListN.{length, drop}
-use borrow.Author.Tests.{leb-true}
+use lib.Dec.{eqb, ltb, leb}
+use lib.ListN.{length, drop, getD, length-replicate, List·getD-eq-default}
+use borrow.Author.Tests.{eqb-true, eq-eqb, ne-eqb, ltb-true, ltb-false, leb-true}
 use Rattle.le.proofs.Parts.{by-test}
 use Rattle.config.specs.declared.ConnectionConfig.{ConnectionConfig}
 use Rattle.config.specs.declared.negotiated.Negotiated.{Negotiated}
 use Rattle.config.specs.declared.negotiated.RxPolicy.{RxPolicy}
-use Rattle.config.specs.Config.{withinLimits, storesFit, rxStoreLen, openStoreLen, capOf, openingCredit}
+use Rattle.config.specs.Config.{storesFit, rxStoreLen, openStoreLen, capOf, openingCredit}
 use Rattle.config.specs.Negotiated.{negotiatedOf, policyOf, creditOf}
 use Rattle.config.proofs.Laws.{and-true, sound}
 use Rattle.slot.specs.declared.ChannelSlot.{ChannelSlot}
 use Rattle.slot.specs.Slot.{emptySlot}
 use Rattle.slot.proofs.Kept.{pick}
 use Rattle.slot.proofs.Laws.{cond-true, cond-false}
-use Rattle.state.specs.Change.{changedAll}
 use Rattle.state.specs.State.{Connection, stateOf}
 use Rattle.state.specs.Valid.{isWhole}
-use Rattle.state.proofs.WholeLaws.{whole-fits}
 use Rattle.table.specs.Dispatch.{slotIn}
 use Rattle.connection.specs.declared.Refusal.the-variants.{StoreShort, OutShort, BrokenState}
 use Rattle.connection.specs.Answer.{numberOf, refusalNumber}
 use Rattle.connection.specs.Calls.{Lent, Outcome, checked, checkedOut, fresh, openOf, dispatchOf, settleOf, takeOf, readOf, writeOf, closeOf, frontCall}
-use Rattle.history.specs.Run.{Call, openCall, dispatchCall, settleCall, takeCall, readCall, writeCall, closeCall, frontTaken, World, lent, outcome, after, afterAll, Seen, seen, made}
-use Rattle.history.specs.Book.{Book, Ledger, clean, entry}
-use Rattle.history.specs.NoLeak.{NoTake, ReadOnly, NoLeak}
-use Rattle.history.specs.Demand3.{ledgerAfter, slotOf, Distinct, Apart, Claim, Demand3}
-use Rattle.history.proofs.Good.{Terms, Good, Limits}
-use Rattle.history.proofs.Joins.{Kept, Hears, Follows, early-follows, dispatch-follows, settle-follows, take-follows, read-follows, write-follows, close-follows, front-follows, open-follows}
-use Rattle.history.proofs.Never13.{Holds, state-after, holds-after, made-holds, made-state, always-8, in-replicate}
-use Rattle.history.proofs.Packets.{markOf}
 use Rattle.connection.proofs.Slots.{slots-by}
+use Rattle.history.specs.Run.{Call, openCall, dispatchCall, settleCall, takeCall, readCall, writeCall, closeCall, frontTaken, receivedIn, bytesIn, World, lent, outcome, after, afterAll, Start, begins, agreedIn, policyIn}
+use Rattle.history.specs.Seen.{heldOf, Seen, Event, seenOf, eventsOf}
+use Rattle.history.specs.Book.{Book, noBook, headerAt, isWrte, bookAfter, eachPlace, Ledger, clean, bookAt, entry, ledgerOf}
+use Rattle.history.specs.NoLeak.{NoTake, ReadOnly, NoLeak}
+use Rattle.history.specs.Demand3.{slotOf, runOf, Distinct, Apart, Claim, Place, Noted, Told, AllTold, Demand3}
+use Rattle.history.proofs.Good.{Terms, Good, Limits}
+use Rattle.history.proofs.Heads.{call-asked}
+use Rattle.history.proofs.Heard.{seen-eight}
+use Rattle.history.proofs.Joins.{KeptAt, Follows, early-follows, dispatch-follows, settle-follows, take-follows, read-follows, write-follows, close-follows, front-follows, open-follows}
+use Rattle.history.proofs.Never13.{Holds, state-after, holds-after, made-state, starts, in-replicate, always-8}
+use Rattle.history.proofs.Overs.{Notes, dispatch-notes, settle-never, take-never, read-notes, write-notes, close-never, front-never, open-notes}
+use Rattle.history.proofs.Packets.{Marked, reads-write, reads-arg1}
 use Rattle.history.proofs.Places.{TableOk}
-use Rattle.history.proofs.Steps.{seenOf}
-use Rattle.history.proofs.Written.{seen-is, seen-acks, seen-open}
+use Rattle.history.proofs.Steps.{sawOf}
+use Rattle.history.proofs.Told.{entry-eight, told-eight, told-by, eleven, book-over}
+use Rattle.history.proofs.Written.{writes, counts, seen-is, seen-acks, seen-open}
 
 -- what store lengths that fit give
-fits-long : (c : ConnectionConfig) (a b : ℕ) (host device : Bool) (rx store : ℕ) → storesFit c rx store ≡ true
+pub fits-long : (c : ConnectionConfig) (a b : ℕ) (host device : Bool) (rx store : ℕ) → storesFit c rx store ≡ true
     → negotiatedOf host device a b c .config .channels * (2 * capOf (negotiatedOf host device a b c .config)) ≤ rx
 unfolding storesFit rxStoreLen negotiatedOf
 fits-long c a b host device rx store e = leb-true (c .channels * (2 * capOf c)) rx (and-true (leb (c .channels * (2 * capOf c)) rx) (leb (openStoreLen c) store) e .0)
 
--- ---- one call
+-- ---- a book for each place
 
--- what is kept of one place of a world
+each-length : (f : ℕ → Book → Book) (i : ℕ) (bs : List Book) → length (eachPlace f i bs) ≡ length bs
+unfolding eachPlace
+each-length f i [] = refl
+each-length f i (b ∷ bs) = ap suc (each-length f (suc i) bs)
+
+each-at : (f : ℕ → Book → Book) (i : ℕ) (bs : List Book) (j : ℕ) → j < length bs → getD (eachPlace f i bs) j noBook ≡ f (i + j) (getD bs j noBook)
+unfolding eachPlace
+each-at f i [] j h = absurd (omega arith)
+each-at f i (b ∷ bs) zero h = let e : i ≡ i + 0 = omega arith in ap (λ (x : ℕ). f x b) e
+each-at f i (b ∷ bs) (suc j) h = let e : suc i + j ≡ i + suc j = omega arith in each-at f (suc i) bs j (omega arith) ∙ ap (λ (x : ℕ). f x (getD bs j noBook)) e
+
+-- the book at a place after a call
+book-at : (p : RxPolicy) (c : Call) (o : Seen) (y : Ledger) (i : ℕ) → i < length (y .books) → bookAt (entry p c o y) i ≡ bookAfter p (y .books) (y .asked) c o i (bookAt y i)
+unfolding entry
+book-at p c o y i h =
+    each-at (bookAfter p (y .books) (y .asked) c o) 0 (y .books) i h ∙ ap (λ (x : ℕ). bookAfter p (y .books) (y .asked) c o x (bookAt y i)) (zero-add i)
+
+book-size : (p : RxPolicy) (c : Call) (o : Seen) (y : Ledger) → length (entry p c o y .books) ≡ length (y .books)
+unfolding entry
+book-size p c o y = each-length (bookAfter p (y .books) (y .asked) c o) 0 (y .books)
+
+-- ---- what is kept between calls
+
+-- reads: the places that are read by reads alone
 abbrev terms : Bool → Negotiated → Terms
 terms reads n = record { credit = creditOf n; reads = reads }
 
-abbrev KeptIn : Bool → Negotiated → ℕ → World → Ledger → Type 0
-KeptIn reads n i w y = Kept (policyOf n) (terms reads n) i (stateOf (w .state) .header .waiting .on) (stateOf (w .state) .slots) (w .rx) y
+record Kept (reads : ℕ → Bool) (n : Negotiated) (w : World) (y : Ledger) : Type 0 where
+  size : length (y .books) ≡ 64
+  asks : stateOf (w .state) .header .waiting .on ≡ true → y .asked ≡ creditOf n
+  each : (i : ℕ) → KeptAt (policyOf n) (terms (reads i) n) i (stateOf (w .state) .slots) (w .rx) (bookAt y i)
 
-module _ (reads : Bool) (w : World) (r : List ℕ) (rx store : ℕ) where
+-- the books tell what the slots are
+marked : (reads : ℕ → Bool) (n : Negotiated) (w : World) (y : Ledger) → length (stateOf (w .state) .slots) ≡ 64 → Kept reads n w y → Marked (y .books) (stateOf (w .state) .slots)
+marked reads n w y z k =
+    record {
+      size = k .size ∙ sym z;
+      there = λ j. by-test (slotIn (stateOf (w .state) .slots) j .filled) (λ t. k .each j .full t .there ∙ sym t) (λ t. k .each j .none t ∙ sym t);
+      remote = λ j f. k .each j .full f .rem;
+    }
+
+-- ---- one call
+
+module _ (reads : ℕ → Bool) (w : World) (r : List ℕ) (rx store : ℕ) where
   abbrev m : Negotiated
   m = stateOf (w .state) .header .negotiated
 
   abbrev c : Connection
   c = stateOf (w .state)
 
-  module _ (h : Holds m r rx store w) (long : m .config .channels * (2 * capOf (m .config)) ≤ length (w .rx)) (far : Distinct w) where
-    abbrev l : Lent
-    l = lent w
+  abbrev l : Lent
+  l = lent w
 
-    table : TableOk (policyOf m) (m .config .channels) (c .slots) (w .rx)
+  module _ (h : Holds m r rx store w) (long : m .config .channels * (2 * capOf (m .config)) ≤ length (w .rx)) (far : Distinct w) where
+    pub table : TableOk (policyOf m) (m .config .channels) (c .slots) (w .rx)
     unfolding slotIn policyOf
     table =
         let g = h .facts in
@@ -83,9 +123,9 @@ module _ (reads : Bool) (w : World) (r : List ℕ) (rx store : ℕ) where
           apart = far;
         }
 
-    limits : Limits (policyOf m) (terms reads m) (m .config .«max_payload»)
+    limits : (t : Bool) → Limits (policyOf m) (terms t m) (m .config .«max_payload»)
     unfolding policyOf creditOf
-    limits =
+    limits t =
         let s = sound (m .config) (h .facts .limits .within) in
         record {
           fits = by-test (m .«delayed_ack»)
@@ -102,94 +142,259 @@ module _ (reads : Bool) (w : World) (r : List ℕ) (rx store : ℕ) where
     placed : c .header .waiting .on ≡ true → c .header .waiting .slot < 64
     placed t = let a = h .facts .waits t .place in let b = h .facts .limits .within .most-channels in omega arith
 
-    module _ (i : ℕ) (y : Ledger) (k : KeptIn reads m i w y) where
-      abbrev follows : Call → Outcome → Type 0
-      follows x o = Follows reads l table limits empty placed i y k x o
+    module _ (y : Ledger) (k : Kept reads m w y) where
+      mark : Marked (y .books) (c .slots)
+      mark = marked reads m w y (h .facts .slots .full) k
 
-      -- the refusals ahead of a call
-      follows-checked : (x : Call) (t : Bool) (o : Outcome) → follows x o → follows x (checked t l o)
-      unfolding checked numberOf refusalNumber
-      follows-checked x t o f =
-          pick (follows x) t
-          (λ a. pick (follows x) (storesFit (m .config) (length (w .rx)) (length (w .store))) (λ b. f) (λ b. early-follows reads l table limits empty placed i y k x StoreShort refl))
-          (λ a. early-follows reads l table limits empty placed i y k x BrokenState refl)
+      -- at one place
+      module _ (i : ℕ) where
+        abbrev follows : Call → Outcome → Type 0
+        follows x o = Follows (terms (reads i) m) l table (limits (reads i)) empty placed (y .books) mark (y .asked) (λ t d. k .asks t) i (bookAt y i) (k .each i) x o
 
-      follows-out : (x : Call) (t : Bool) (out : ℕ) (o : Outcome) → follows x o → follows x (checkedOut t l out o)
-      unfolding checkedOut numberOf refusalNumber
-      follows-out x t out o f =
-          follows-checked x t _ (pick (follows x) (ltb out 56) (λ b. early-follows reads l table limits empty placed i y k x OutShort refl) (λ b. f))
+        -- the refusals ahead of a call
+        follows-checked : (x : Call) (t : Bool) (o : Outcome) → follows x o → follows x (checked t l o)
+        unfolding checked numberOf refusalNumber
+        follows-checked x t o f =
+            pick (follows x) t
+            (λ a. pick (follows x) (storesFit (m .config) (length (w .rx)) (length (w .store))) (λ b. f)
+            (λ b. early-follows (terms (reads i) m) l table (limits (reads i)) empty placed (y .books) mark (y .asked) (λ t d. k .asks t) i (bookAt y i) (k .each i) x StoreShort refl))
+            (λ a. early-follows (terms (reads i) m) l table (limits (reads i)) empty placed (y .books) mark (y .asked) (λ t d. k .asks t) i (bookAt y i) (k .each i) x BrokenState refl)
 
-      call-follows : (x : Call) → (reads ≡ true → NoTake i x) → follows x (outcome w x)
-      unfolding outcome openOf dispatchOf settleOf takeOf readOf writeOf closeOf frontCall
-      call-follows (openCall out destination received) only =
-          follows-out (openCall out destination received) (isWhole (w .state)) (length out) _ (λ fs hs. open-follows reads l table limits empty placed i y k out destination received fs hs)
-      call-follows (dispatchCall out received) only = follows-out (dispatchCall out received) (isWhole (w .state)) (length out) _ (dispatch-follows reads l table limits empty placed i y k out received)
-      call-follows (settleCall out ch want) only = follows-out (settleCall out ch want) (isWhole (w .state)) (length out) _ (settle-follows reads l table limits empty placed i y k out ch want)
-      call-follows (takeCall ch buf) only = follows-checked (takeCall ch buf) (isWhole (w .state)) _ (take-follows reads l table limits empty placed i y k ch buf only)
-      call-follows (readCall out ch buf received) only = follows-out (readCall out ch buf received) (isWhole (w .state)) (length out) _ (read-follows reads l table limits empty placed i y k out ch buf received)
-      call-follows (writeCall out ch bytes received) only =
-          follows-out (writeCall out ch bytes received) (isWhole (w .state)) (length out) _ (write-follows reads l table limits empty placed i y k out ch bytes received)
-      call-follows (closeCall out ch) only = follows-out (closeCall out ch) (isWhole (w .state)) (length out) _ (close-follows reads l table limits empty placed i y k out ch)
-      call-follows frontTaken only = follows-checked frontTaken (isWhole (w .state)) _ (front-follows reads l table limits empty placed i y k)
+        follows-out : (x : Call) (t : Bool) (out : ℕ) (o : Outcome) → follows x o → follows x (checkedOut t l out o)
+        unfolding checkedOut numberOf refusalNumber
+        follows-out x t out o f =
+            follows-checked x t _ (pick (follows x) (ltb out 56)
+            (λ b. early-follows (terms (reads i) m) l table (limits (reads i)) empty placed (y .books) mark (y .asked) (λ t d. k .asks t) i (bookAt y i) (k .each i) x OutShort refl) (λ b. f))
 
-      -- what a caller sees is what the outcome says
-      hears : (x : Call) → Hears reads l table limits empty placed i y k (outcome w x) (seen w x .sent)
-      hears x =
-          let f = whole-fits m c (h .facts) in
-          record { acks = λ n. seen-acks w f x n; opens = λ a. seen-open w f x a }
+        call-follows : (x : Call) → (reads i ≡ true → NoTake i x) → follows x (outcome w x)
+        unfolding outcome openOf dispatchOf settleOf takeOf readOf writeOf closeOf frontCall
+        call-follows (openCall out destination received) only =
+            follows-out (openCall out destination received) (isWhole (w .state)) (length out) _
+            (open-follows (terms (reads i) m) l table (limits (reads i)) empty placed (y .books) mark (y .asked) (λ t d. k .asks t) i (bookAt y i) (k .each i) out destination received)
+        call-follows (dispatchCall out received) only =
+            follows-out (dispatchCall out received) (isWhole (w .state)) (length out) _
+            (dispatch-follows (terms (reads i) m) l table (limits (reads i)) empty placed (y .books) mark (y .asked) (λ t d. k .asks t) i (bookAt y i) (k .each i) out received)
+        call-follows (settleCall out ch want) only =
+            follows-out (settleCall out ch want) (isWhole (w .state)) (length out) _
+            (settle-follows (terms (reads i) m) l table (limits (reads i)) empty placed (y .books) mark (y .asked) (λ t d. k .asks t) i (bookAt y i) (k .each i) out ch want)
+        call-follows (takeCall ch buf) only =
+            follows-checked (takeCall ch buf) (isWhole (w .state)) _
+            (take-follows (terms (reads i) m) l table (limits (reads i)) empty placed (y .books) mark (y .asked) (λ t d. k .asks t) i (bookAt y i) (k .each i) ch buf only)
+        call-follows (readCall out ch buf received) only =
+            follows-out (readCall out ch buf received) (isWhole (w .state)) (length out) _
+            (read-follows (terms (reads i) m) l table (limits (reads i)) empty placed (y .books) mark (y .asked) (λ t d. k .asks t) i (bookAt y i) (k .each i) out ch buf received)
+        call-follows (writeCall out ch bytes received) only =
+            follows-out (writeCall out ch bytes received) (isWhole (w .state)) (length out) _
+            (write-follows (terms (reads i) m) l table (limits (reads i)) empty placed (y .books) mark (y .asked) (λ t d. k .asks t) i (bookAt y i) (k .each i) out ch bytes received)
+        call-follows (closeCall out ch) only =
+            follows-out (closeCall out ch) (isWhole (w .state)) (length out) _
+            (close-follows (terms (reads i) m) l table (limits (reads i)) empty placed (y .books) mark (y .asked) (λ t d. k .asks t) i (bookAt y i) (k .each i) out ch)
+        call-follows frontTaken only =
+            follows-checked frontTaken (isWhole (w .state)) _
+            (front-follows (terms (reads i) m) l table (limits (reads i)) empty placed (y .books) mark (y .asked) (λ t d. k .asks t) i (bookAt y i) (k .each i))
 
-      sees : (x : Call) → seen w x ≡ seenOf (outcome w x) (seen w x .sent)
+      -- what is seen of a call
+      abbrev event : Call → Event
+      event x = record { call = x; held = heldOf w x }
+
+      abbrev now : Call → Seen
+      now x = seenOf (event x)
+
+      sees : (x : Call) → now x ≡ sawOf (outcome w x) (now x .sent)
       sees x =
-          let e = seen-is w (whole-fits m c (h .facts)) x in
-          e ∙ ap (λ (s : Seen). seenOf (outcome w x) (s .sent)) (sym e)
+          let e = seen-is m r rx store w h x in
+          e ∙ ap (λ (s : Seen). sawOf (outcome w x) (s .sent)) (sym e)
 
-      -- so what is kept is kept by a call
-      call-keeps : (x : Call) → (reads ≡ true → NoTake i x) → KeptIn reads m i (after w x) (entry (policyOf m) i x (seen w x) y)
+      -- a place that is one of the table's
+      inside : (i : ℕ) → i < 64 → (x : Call) → (reads i ≡ true → NoTake i x)
+          → KeptAt (policyOf m) (terms (reads i) m) i (stateOf (after w x .state) .slots) (after w x .rx) (bookAt (entry (policyOf m) x (now x) y) i)
       unfolding after
-      call-keeps x only =
+      inside i lt x only =
           let st = state-after m r rx store w h x in
           let o = outcome w x in
-          let K : Connection → List ChannelSlot → Seen → Type 0 = λ d ss s. Kept (policyOf m) (terms reads m) i (d .header .waiting .on) ss (o .rx) (entry (policyOf m) i x s y) in
-          subst (K (stateOf (after w x .state)) (stateOf (after w x .state) .slots)) (sym (sees x))
-          (subst (λ (d : Connection). K d (d .slots) (seenOf o (seen w x .sent))) (sym st)
-          (subst (λ (ss : List ChannelSlot). K (changedAll c (o .changes)) ss (seenOf o (seen w x .sent))) (sym (slots-by c (o .changes))) (call-follows x only (seen w x .sent) (hears x))))
+          let K : List ChannelSlot → Book → Type 0 = λ ss b. KeptAt (policyOf m) (terms (reads i) m) i ss (o .rx) b in
+          let z = k .size in
+          let f = call-follows i x only (now x .sent) (λ n. seen-acks m r rx store w h x n) in
+          let e : bookAt (entry (policyOf m) x (now x) y) i ≡ bookAfter (policyOf m) (y .books) (y .asked) x (sawOf o (now x .sent)) i (bookAt y i) =
+          book-at (policyOf m) x (now x) y i (omega arith) ∙ ap (λ (s : Seen). bookAfter (policyOf m) (y .books) (y .asked) x s i (bookAt y i)) (sees x) in
+          subst (λ (b : Book). K (stateOf (after w x .state) .slots) b) (sym e)
+          (subst (λ (d : Connection). K (d .slots) (bookAfter (policyOf m) (y .books) (y .asked) x (sawOf o (now x .sent)) i (bookAt y i))) (sym st)
+          (subst (λ (ss : List ChannelSlot). K ss (bookAfter (policyOf m) (y .books) (y .asked) x (sawOf o (now x .sent)) i (bookAt y i))) (sym (slots-by c (o .changes))) f))
+
+      -- one that is not
+      outside : (i : ℕ) → 64 ≤ i → (x : Call)
+          → KeptAt (policyOf m) (terms (reads i) m) i (stateOf (after w x .state) .slots) (after w x .rx) (bookAt (entry (policyOf m) x (now x) y) i)
+      unfolding slotIn emptySlot
+      outside i ge x =
+          let a = holds-after m r rx store w h x .facts .slots .full in
+          let z = book-size (policyOf m) x (now x) y in
+          let y0 = k .size in
+          let es : slotIn (stateOf (after w x .state) .slots) i ≡ emptySlot = List·getD-eq-default (stateOf (after w x .state) .slots) emptySlot {n = i} (omega arith) in
+          let eb : bookAt (entry (policyOf m) x (now x) y) i ≡ noBook = List·getD-eq-default (entry (policyOf m) x (now x) y .books) noBook {n = i} (omega arith) in
+          record {
+            full = λ f. absurd (true≢false (sym f ∙ ap (λ (s : ChannelSlot). s .filled) es));
+            none = λ f. ap (λ (b : Book). b .there) eb;
+          }
+
+      -- so what is kept is kept by a call
+      call-keeps : (x : Call) → ((i : ℕ) → reads i ≡ true → NoTake i x) → Kept reads m (after w x) (entry (policyOf m) x (now x) y)
+      unfolding entry
+      call-keeps x only =
+          let st = state-after m r rx store w h x in
+          record {
+            size = book-size (policyOf m) x (now x) y ∙ k .size;
+            asks = λ t. seen-open m r rx store w h x (y .asked) ∙ call-asked w (y .asked) (creditOf m) refl (k .asks) x (sym (ap (λ (d : Connection). d .header .waiting .on) st) ∙ t);
+            each = λ i. by-test (ltb i 64) (λ t. inside i (ltb-true i 64 t) x (only i)) (λ t. outside i (ltb-false i 64 t) x);
+          }
+
+      -- ---- what is claimed of it
+
+      notes-checked : (received : List ℕ) (t : Bool) (o : Outcome) → (numberOf (o .answer) ≡ 11 → Notes l table received o) → numberOf (checked t l o .answer) ≡ 11 → Notes l table received (checked t l o)
+      unfolding checked numberOf refusalNumber
+      notes-checked received t o f =
+          let E : Outcome → Type 0 = λ x. numberOf (x .answer) ≡ 11 → Notes l table received x in
+          pick E t (λ a. pick E (storesFit (m .config) (length (w .rx)) (length (w .store))) (λ b. f) (λ b e. absurd (omega arith))) (λ a e. absurd (omega arith))
+
+      notes-out : (received : List ℕ) (t : Bool) (out : ℕ) (o : Outcome) → (numberOf (o .answer) ≡ 11 → Notes l table received o) → numberOf (checkedOut t l out o .answer) ≡ 11 → Notes l table received (checkedOut t l out o)
+      unfolding checkedOut numberOf refusalNumber
+      notes-out received t out o f =
+          notes-checked received t _ (pick (λ (x : Outcome). numberOf (x .answer) ≡ 11 → Notes l table received x) (ltb out 56) (λ b e. absurd (omega arith)) (λ b. f))
+
+      call-notes : (x : Call) → numberOf (outcome w x .answer) ≡ 11 → Notes l table (receivedIn x) (outcome w x)
+      unfolding outcome receivedIn openOf dispatchOf settleOf takeOf readOf writeOf closeOf frontCall
+      call-notes (openCall out destination received) = notes-out (bytesIn received) (isWhole (w .state)) (length out) _ (open-notes l table (bytesIn received) (length out) (bytesIn destination))
+      call-notes (dispatchCall out received) = notes-out (bytesIn received) (isWhole (w .state)) (length out) _ (dispatch-notes l table (bytesIn received))
+      call-notes (settleCall out ch want) = notes-out [] (isWhole (w .state)) (length out) _ (λ e. absurd (settle-never l table ch want e))
+      call-notes (takeCall ch buf) = notes-checked [] (isWhole (w .state)) _ (λ e. absurd (take-never l table ch (length buf) e))
+      call-notes (readCall out ch buf received) = notes-out (bytesIn received) (isWhole (w .state)) (length out) _ (read-notes l table (bytesIn received) ch (length buf))
+      call-notes (writeCall out ch bytes received) = notes-out (bytesIn received) (isWhole (w .state)) (length out) _ (write-notes l table (bytesIn received) ch (length out) (bytesIn bytes))
+      call-notes (closeCall out ch) = notes-out [] (isWhole (w .state)) (length out) _ (λ e. absurd (close-never l table ch e))
+      call-notes frontTaken = notes-checked [] (isWhole (w .state)) _ (λ e. absurd (front-never l table e))
+
+      -- an 11 is in the book of a channel that is there
+      noted : (x : Call) → ((i : ℕ) → reads i ≡ true → NoTake i x) → numberOf (outcome w x .answer) ≡ 11 → Noted (policyOf m) y (entry (policyOf m) x (now x) y) (event x)
+      unfolding heldOf
+      noted x only e =
+          let n = call-notes x e in
+          let q = n .packet-of in
+          let v = n .over in
+          let j = v .place in
+          let g = k .each j .full (v .filled) in
+          let wr : isWrte (headerAt (receivedIn x)) ≡ true = reads-write (receivedIn x) (m .config .«max_payload») q (n .says) ∙ v .write in
+          let nm : headerAt (receivedIn x) .arg1 ≡ bookAt y j .local = reads-arg1 (receivedIn x) (m .config .«max_payload») q (n .says) ∙ v .named ∙ sym (g .loc) in
+          let us : outcome w x .used ≡ 0 → ⊥ = λ z. let a = n .used in absurd (omega arith) in
+          let o = outcome w x in
+          let s : now x ≡ eleven (sawOf o (now x .sent) .values) (o .used) (now x .sent) (o .handed) =
+          sees x ∙ ap (λ (t : ℕ). record { number = t; values = sawOf o (now x .sent) .values; used = o .used; sent = now x .sent; got = o .handed }) e in
+          let b = ok-below j (v .filled) in
+          let z = k .size in
+          let at : bookAt (entry (policyOf m) x (now x) y) j ≡ bookAfter (policyOf m) (y .books) (y .asked) x (eleven (sawOf o (now x .sent) .values) (o .used) (now x .sent) (o .handed)) j (bookAt y j) =
+          book-at (policyOf m) x (now x) y j (omega arith) ∙ ap (λ (t : Seen). bookAfter (policyOf m) (y .books) (y .asked) x t j (bookAt y j)) s in
+          let hs = book-over (policyOf m) (y .books) j (y .asked) (sawOf o (now x .sent) .values) (o .used) (now x .sent) (o .handed) (ne-eqb (o .used) 0 us) (bookAt y j) (g .there) x wr nm in
+          let there' : bookAt (entry (policyOf m) x (now x) y) j .there ≡ true = ap (λ (t : Book). t .there) at ∙ hs .0 in
+          let over' : bookAt (entry (policyOf m) x (now x) y) j .over ≡ true = ap (λ (t : Book). t .over) at ∙ hs .1 in
+          let ka = call-keeps x only .each j in
+          record {
+            place = j;
+            there = g .there;
+            used = us;
+            write = wr;
+            named = nm;
+            over = over';
+            broke = λ d.
+                by-test (slotIn (stateOf (after w x .state) .slots) j .filled)
+                (λ t. by-test (bookAt (entry (policyOf m) x (now x) y) j .kept) (λ u. absurd (true≢false (sym over' ∙ ka .full t .kept d u))) (λ u. u))
+                (λ t. absurd (true≢false (sym there' ∙ ka .none t)));
+          }
+        where
+          ok-below : (j : ℕ) → slotIn (c .slots) j .filled ≡ true → j < 64
+          ok-below j f = let a = table .below j f in let b = table .most in omega arith
+
+      call-told : (x : Call) → ((i : ℕ) → reads i ≡ true → NoTake i x) → Told (policyOf m) y (event x)
+      unfolding heldOf policyOf
+      call-told x only =
+          told-by (policyOf m) y m x (outcome w x) refl (writes m r rx store w h x) (counts m r rx store w h x) (seen-is m r rx store w h x) (noted x only)
 
 -- the same where what was negotiated is known by another name
-keeps : (reads : Bool) (n : Negotiated) (w : World) (r : List ℕ) (rx store : ℕ) → Holds n r rx store w → n .config .channels * (2 * capOf (n .config)) ≤ rx → Distinct w → (i : ℕ) (y : Ledger) → KeptIn reads n i w y
-    → (x : Call) → (reads ≡ true → NoTake i x) → KeptIn reads n i (after w x) (entry (policyOf n) i x (seen w x) y)
-keeps reads n w r rx store h long far i y k x only =
+record Stepped (reads : ℕ → Bool) (n : Negotiated) (w : World) (y : Ledger) (x : Call) : Type 0 where
+  kept : Kept reads n (after w x) (entry (policyOf n) x (seenOf (record { call = x; held = heldOf w x })) y)
+  told : Told (policyOf n) y (record { call = x; held = heldOf w x })
+
+step : (reads : ℕ → Bool) (n : Negotiated) (w : World) (r : List ℕ) (rx store : ℕ) → Holds n r rx store w → n .config .channels * (2 * capOf (n .config)) ≤ rx → Distinct w → (y : Ledger) → Kept reads n w y
+    → (x : Call) → ((i : ℕ) → reads i ≡ true → NoTake i x) → Stepped reads n w y x
+step reads n w r rx store h long far y k x only =
     let m = stateOf (w .state) .header .negotiated in
     let e : m ≡ n = h .facts .header .negotiated in
-    let G : Negotiated → Type 0 = λ z. Holds z r rx store w → z .config .channels * (2 * capOf (z .config)) ≤ rx → KeptIn reads z i w y → KeptIn reads z i (after w x) (entry (policyOf z) i x (seen w x) y) in
-    subst G e (λ hm lm km. let a = hm .rx-length in call-keeps reads w r rx store hm (subst (λ (z : ℕ). m .config .channels * (2 * capOf (m .config)) ≤ z) (sym a) lm) far i y km x only) h long k
+    let G : Negotiated → Type 0 = λ z. Holds z r rx store w → z .config .channels * (2 * capOf (z .config)) ≤ rx → Kept reads z w y → Stepped reads z w y x in
+    subst G e
+    (λ hm lm km. let a = hm .rx-length in
+    let lw = subst (λ (z : ℕ). m .config .channels * (2 * capOf (m .config)) ≤ z) (sym a) lm in
+    record { kept = call-keeps reads w r rx store hm lw far y km x only; told = call-told reads w r rx store hm lw far y km x only }) h long k
 
 -- ---- a list of calls
 
-module _ (reads : Bool) (n : Negotiated) (r : List ℕ) (rx store : ℕ) (long : n .config .channels * (2 * capOf (n .config)) ≤ rx) (i : ℕ) where
-  keeps-all : (w : World) (y : Ledger) → Holds n r rx store w → Distinct w → KeptIn reads n i w y → (cs : List Call) → Apart w cs → (reads ≡ true → ReadOnly i cs) → KeptIn reads n i (afterAll w cs) (ledgerAfter (policyOf n) i w y cs)
-  unfolding afterAll ledgerAfter Apart
-  keeps-all w y h far k [] a only = k
-  keeps-all w y h far k (x ∷ cs) a only = keeps-all (after w x) (entry (policyOf n) i x (seen w x) y) (holds-after n r rx store w h x) (a .0) (keeps reads n w r rx store h long far i y k x (λ t. only t .0)) cs (a .1) (λ t. only t .1)
+record Ran (reads : ℕ → Bool) (n : Negotiated) (w : World) (y : Ledger) (es : List Event) : Type 0 where
+  kept : Kept reads n w (ledgerOf (policyOf n) y es)
+  told : AllTold (policyOf n) y es
+
+module _ (reads : ℕ → Bool) (n : Negotiated) (r : List ℕ) (rx store : ℕ) (long : n .config .channels * (2 * capOf (n .config)) ≤ rx) where
+  runs : (w : World) (y : Ledger) → Holds n r rx store w → Distinct w → Kept reads n w y → (cs : List Call) → Apart w cs → ((i : ℕ) → reads i ≡ true → ReadOnly i cs) → Ran reads n (afterAll w cs) y (eventsOf w cs)
+  unfolding afterAll eventsOf ledgerOf Apart
+  runs w y h far k [] a only = record { kept = k; told = tt }
+  runs w y h far k (x ∷ cs) a only =
+      let s = step reads n w r rx store h long far y k x (λ i t. only i t .0) in
+      let o = seenOf (record { call = x; held = heldOf w x }) in
+      let t = runs (after w x) (entry (policyOf n) x o y) (holds-after n r rx store w h x) (a .0) (s .kept) cs (a .1) (λ i t. only i t .1) in
+      record { kept = t .kept; told = (s .told, t .told) }
 
 -- ---- where it begins
 
 module _ (n : Negotiated) (w : World) (e : stateOf (w .state) ≡ fresh n) where
-  no-slot : (i : ℕ) → slotOf w i .filled ≡ false
+  pub no-slot : (i : ℕ) → slotOf w i .filled ≡ false
   unfolding slotIn fresh emptySlot
   no-slot i = ap (λ (d : Connection). slotIn (d .slots) i .filled) e ∙ ap (λ (s : ChannelSlot). s .filled) (in-replicate 64 i emptySlot)
 
-  fresh-far : Distinct w
+  pub fresh-far : Distinct w
   fresh-far i j f g q = absurd (true≢false (sym f ∙ no-slot i))
 
-  fresh-kept : (reads : Bool) (i : ℕ) → KeptIn reads n i w clean
-  unfolding fresh emptySlot
-  fresh-kept reads i =
+  fresh-kept : (reads : ℕ → Bool) → Kept reads n w clean
+  unfolding fresh
+  fresh-kept reads =
       record {
-        marked = ap (λ (d : Connection). map markOf (d .slots)) (sym e);
-        asks = λ t d. absurd (true≢false (sym t ∙ ap (λ (d : Connection). d .header .waiting .on) e));
-        full = λ f. absurd (true≢false (sym f ∙ no-slot i));
-        none = λ f. refl;
+        size = length-replicate 64 noBook;
+        asks = λ t. absurd (true≢false (sym t ∙ ap (λ (d : Connection). d .header .waiting .on) e));
+        each = λ i. record { full = λ f. absurd (true≢false (sym f ∙ no-slot i)); none = λ f. ap (λ (b : Book). b .there) (in-replicate 64 i noBook) };
       }
+
+pub fresh-start : (s : Start) → stateOf (begins s .state) ≡ fresh (agreedIn s)
+fresh-start s = made-state (s .config) (s .version) (s .most) (s .host) (s .device) (s .state) (s .rx) (s .store) (s .within)
+
+-- a list of calls from a start, with stores that fit
+ran : (reads : ℕ → Bool) (s : Start) → storesFit (s .config) (length (s .rx)) (length (s .store)) ≡ true → (cs : List Call) → Apart (begins s) cs → ((i : ℕ) → reads i ≡ true → ReadOnly i cs)
+    → Ran reads (agreedIn s) (afterAll (begins s) cs) clean (eventsOf (begins s) cs)
+ran reads s t cs apart only =
+    let n = agreedIn s in
+    let e = fresh-start s in
+    runs reads n (drop 4730 (s .state)) (length (s .rx)) (length (s .store)) (fits-long (s .config) (s .version) (s .most) (s .host) (s .device) (length (s .rx)) (length (s .store)) t)
+    (begins s) clean (starts s) (fresh-far n (begins s) e) (fresh-kept n (begins s) e reads) cs apart only
+
+-- ---- stores under their lengths: every call answers 8
+
+module _ (p : RxPolicy) (w : World) (f : (x : Call) → numberOf (outcome w x .answer) ≡ 8) (g : (x : Call) → after w x ≡ w) where
+  ledger-8 : (y : Ledger) (cs : List Call) → ledgerOf p y (eventsOf w cs) ≡ y
+  unfolding eventsOf ledgerOf heldOf
+  ledger-8 y [] = refl
+  ledger-8 y (x ∷ cs) =
+      let e : Event = record { call = x; held = heldOf w x } in
+      ap (λ (v : World). ledgerOf p (entry p x (seenOf e) y) (eventsOf v cs)) (g x)
+      ∙ ap (λ (z : Ledger). ledgerOf p z (eventsOf w cs)) (ap (λ (o : Seen). entry p x o y) (seen-eight e (f x)) ∙ entry-eight p x y) ∙ ledger-8 y cs
+
+  told-8 : (y : Ledger) (cs : List Call) → AllTold p y (eventsOf w cs)
+  unfolding eventsOf heldOf
+  told-8 y [] = tt
+  told-8 y (x ∷ cs) =
+      let e : Event = record { call = x; held = heldOf w x } in
+      (told-eight p y e (f x), subst (λ (v : World). AllTold p (entry p x (seenOf e) y) (eventsOf v cs)) (sym (g x)) (told-8 (entry p x (seenOf e) y) cs))
 
 -- ---- demand 3
 
@@ -197,7 +402,6 @@ claim : (p : RxPolicy) (credit : Terms) (s : ChannelSlot) (q : List ℕ) (b : Bo
 claim p credit s q b g =
     let m = g .nums in
     record {
-      there = g .there;
       exact = g .stream;
       sum = λ d c small. let o = g .owed d c in omega arith;
       aside = λ d c. g .owed d c .same;
@@ -205,29 +409,42 @@ claim p credit s q b g =
       never11 = g .kept;
     }
 
--- what is kept of a place after a list, with stores that fit
-kept-after : (reads : Bool) (c : ConnectionConfig) (a b : ℕ) (host device : Bool) (state rx store : List ℕ) → withinLimits c ≡ true → storesFit c (length rx) (length store) ≡ true
-    → (cs : List Call) → Apart (made c a b host device state rx store) cs → (i : ℕ) → (reads ≡ true → ReadOnly i cs)
-    → KeptIn reads (negotiatedOf host device a b c) i (afterAll (made c a b host device state rx store) cs) (ledgerAfter (policyOf (negotiatedOf host device a b c)) i (made c a b host device state rx store) clean cs)
-kept-after reads c a b host device state rx store within t cs apart i only =
-    let n = negotiatedOf host device a b c in
-    let w = made c a b host device state rx store in
-    let e = made-state c a b host device state rx store within in
-    keeps-all reads n (drop 4730 state) (length rx) (length store) (fits-long c a b host device (length rx) (length store) t) i w clean (made-holds c a b host device state rx store within)
-    (fresh-far n w e) (fresh-kept n w e reads i) cs apart only
+-- at each place
+place : (p : RxPolicy) (credit : Terms) (i : ℕ) (ss : List ChannelSlot) (rx : List ℕ) (b : Book) → KeptAt p credit i ss rx b → Place p (slotIn ss i) (runOf rx (p .«rx_cap») i (slotIn ss i)) b
+place p credit i ss rx b k =
+    by-test (slotIn ss i .filled)
+    (λ t. let g = k .full t in record { there = g .there ∙ sym t; claim = λ u. claim p credit _ _ b g })
+    (λ t. let n = k .none t in record { there = n ∙ sym t; claim = λ u. absurd (true≢false (sym u ∙ n)) })
 
--- where a store is under its length no slot is ever filled
-never-filled : (c : ConnectionConfig) (a b : ℕ) (host device : Bool) (state rx store : List ℕ) → withinLimits c ≡ true → 4730 ≤ length state → storesFit c (length rx) (length store) ≡ false
-    → (cs : List Call) (i : ℕ) → slotOf (afterAll (made c a b host device state rx store) cs) i .filled ≡ false
-never-filled c a b host device state rx store within big t cs i =
-    ap (λ (v : World). slotOf v i .filled) (always-8 c a b host device state rx store within big t cs .0)
-    ∙ no-slot (negotiatedOf host device a b c) (made c a b host device state rx store) (made-state c a b host device state rx store within) i
+-- what a list of none, and of one, says
+pub first-8 : (s : Start) → ((x : Call) → numberOf (outcome (afterAll (begins s) []) x .answer) ≡ 8) → (x : Call) → numberOf (outcome (begins s) x .answer) ≡ 8
+unfolding afterAll
+first-8 s h x = h x
+
+pub after-8 : (s : Start) (x : Call) → afterAll (begins s) (x ∷ []) ≡ begins s → after (begins s) x ≡ begins s
+unfolding afterAll
+after-8 s x h = h
 
 pub demand-3 : Demand3
-demand-3 c a b host device state rx store within big cs apart i f =
-    by-test (storesFit c (length rx) (length store))
-    (λ t. claim _ (terms false (negotiatedOf host device a b c)) _ _ _ (kept-after false c a b host device state rx store within t cs apart i (λ e. absurd (true≢false (sym e))) .full f))
-    (λ t. absurd (true≢false (sym f ∙ never-filled c a b host device state rx store within big t cs i)))
+demand-3 s cs apart =
+    let n = agreedIn s in
+    let p = policyIn s in
+    by-test (storesFit (s .config) (length (s .rx)) (length (s .store)))
+    (λ t. let z = ran (λ i. false) s t cs apart (λ i e. absurd (true≢false (sym e))) in
+    record { places = λ i. place p (terms false n) i _ _ _ (z .kept .each i); calls = z .told })
+    (λ t. let a = always-8 s t in
+    let w = begins s in
+    let f : (x : Call) → numberOf (outcome w x .answer) ≡ 8 = λ x. first-8 s (a [] .1) x in
+    let g : (x : Call) → after w x ≡ w = λ x. after-8 s x (a (x ∷ []) .0) in
+    let e = ledger-8 p w f g clean cs in
+    record {
+      places = λ i.
+          let b0 : bookAt clean i .there ≡ false = ap (λ (b : Book). b .there) (in-replicate 64 i noBook) in
+          let bn : bookAt (ledgerOf p clean (eventsOf w cs)) i .there ≡ false = ap (λ (y : Ledger). bookAt y i .there) e ∙ b0 in
+          let sn : slotOf (afterAll w cs) i .filled ≡ false = ap (λ (v : World). slotOf v i .filled) (a cs .0) ∙ no-slot n w (fresh-start s) i in
+          record { there = bn ∙ sym sn; claim = λ u. absurd (true≢false (sym u ∙ bn)) };
+      calls = told-8 p w f g clean cs;
+    })
 
 all-acked : (p : RxPolicy) (credit : Terms) (s : ChannelSlot) (q : List ℕ) (b : Book) → Good p credit s q b → credit .reads ≡ true → p .delayed ≡ true → b .closed ≡ false → b .handed ≡ b .accepted
     → b .acked ≡ length (b .accepted)
@@ -238,7 +455,12 @@ all-acked p credit s q b g t d c e =
     omega arith
 
 pub no-leak : NoLeak
-no-leak c a b host device state rx store within big cs apart i only f d cl e =
-    by-test (storesFit c (length rx) (length store))
-    (λ t. all-acked _ (terms true (negotiatedOf host device a b c)) _ _ _ (kept-after true c a b host device state rx store within t cs apart i (λ z. only) .full f) refl d cl e)
-    (λ t. absurd (true≢false (sym f ∙ never-filled c a b host device state rx store within big t cs i)))
+no-leak s cs apart d i only there closed e =
+    by-test (storesFit (s .config) (length (s .rx)) (length (s .store)))
+    (λ t. let z = ran (λ j. eqb j i) s t cs apart (λ j q. subst (λ (x : ℕ). ReadOnly x cs) (sym (eqb-true j i q)) only) .kept .each i in
+    by-test (slotIn (stateOf (afterAll (begins s) cs .state) .slots) i .filled)
+    (λ f. all-acked _ (terms (eqb i i) (agreedIn s)) _ _ _ (z .full f) (eq-eqb i i refl) d closed e)
+    (λ f. absurd (true≢false (sym there ∙ z .none f))))
+    (λ t. let c = demand-3 s cs apart .places i in
+    let a = always-8 s t cs .0 in
+    absurd (true≢false (sym there ∙ c .there ∙ ap (λ (v : World). slotOf v i .filled) a ∙ no-slot (agreedIn s) (begins s) (fresh-start s) i)))

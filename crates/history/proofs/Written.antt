@@ -1,16 +1,16 @@
 -- What every call writes: at most two frames that are read back, within its buffers; so a caller sees just what the call's
 -- outcome says. Assumes nothing.
 use mathlib.Core.Path.{_≡_, refl, sym, ap, subst, _∙_}
-use mathlib.Core.Bool.{Bool, true, false, not, _&&_, true≢false}
+use mathlib.Core.Bool.{Bool, true, false, not, cond, _&&_, true≢false}
 use mathlib.Core.List.{List, [], _∷_, _++_}
-use Prim.Native.Nat.{ℕ, zero, suc, _+_, _^_, _≤_, _<_}
+use Prim.Native.Nat.{ℕ, zero, suc, _+_, _*_, _^_, _≤_, _<_}
 use native.Mathlib.Omega.{arith}
 use lib.Dec.{eqb, ltb, leb}
-use lib.ListN.{length, take, set, length-append, length-take, length-set}
+use lib.ListN.{length, take, getD, set, length-append, length-take, length-set}
 use borrow.Author.Tests.{eqb-true, eqb-false, ltb-true, ltb-false, leb-true}
 use Rattle.le.specs.Le.{numOf, part, Bytes}
 use Rattle.le.proofs.Laws.{numOf-part}
-use Rattle.le.proofs.Parts.{by-test}
+use Rattle.le.proofs.Parts.{by-test, length-part}
 use Rattle.config.specs.declared.negotiated.Negotiated.{Negotiated}
 use Rattle.config.specs.declared.negotiated.RxPolicy.{RxPolicy}
 use Rattle.config.specs.Config.{withinLimits, capOf, openingCredit, storesFit}
@@ -35,33 +35,42 @@ use Rattle.slot.specs.declared.PendingAck.{PendingAck}
 use Rattle.slot.specs.declared.PendingAck.the-variants.{Nothing as NoAck}
 use Rattle.slot.specs.declared.Readied.{Readied}
 use Rattle.slot.specs.declared.Readied.the-variants.{Slot, Short}
+use Rattle.slot.specs.declared.ChannelError.{ChannelError}
 use Rattle.slot.specs.declared.Taken.{Taken}
 use Rattle.slot.specs.Ids.{closedBy, isClose}
-use Rattle.slot.specs.Slot.{emptySlot, isOpening, isFailed, slotOk, isClosed, readyOf, deliveredOf, settledOf, takenOf, budgetOf, SlotOk}
+use Rattle.slot.specs.Slot.{emptySlot, isOpening, isFailed, slotOk, isClosed, readyOf, deliveredOf, settledOf, takenOf, budgetOf, hasData, takeLen, tookOf, errorOf, SlotOk}
 use Rattle.slot.proofs.Kept.{pick, sound, settled-sound}
-use Rattle.slot.proofs.Laws.{cond-true}
+use Rattle.slot.proofs.Laws.{cond-true, cond-false, take-held}
 use Rattle.state.specs.declared.Header.{Header}
 use Rattle.state.specs.Change.{Change, slotTo, changedAll}
 use Rattle.state.specs.State.{isState, stateOf}
 use Rattle.state.specs.Valid.{filledOk, slotFine, slotsFine, waitingFine, headerFine, filledAt, whole, isWhole}
 use Rattle.state.proofs.RowLaws.{Every, every-append}
 use Rattle.state.proofs.StateLaws.{Fits, SlotFits}
+use Rattle.state.proofs.WholeLaws.{whole-fits}
+use Rattle.connection.proofs.WholeWork.{long}
 use Rattle.table.specs.declared.Allocated.{Allocated}
 use Rattle.table.specs.declared.Allocated.the-variants.{Channel, NoFree}
 use Rattle.table.specs.declared.ChannelId.{ChannelId}
 use Rattle.table.specs.declared.Want.the-variants.{Empty}
 use Rattle.table.specs.Table.{wantedBy, placeOf, numbered, allocated}
-use Rattle.table.specs.Dispatch.{slotIn}
+use Rattle.table.specs.Dispatch.{slotIn, shareOf}
+use Rattle.table.proofs.DispatchLaws.{share-in}
 use Rattle.connection.specs.declared.Answer.{Answer}
-use Rattle.connection.specs.declared.Answer.the-variants.{Waiting}
+use Rattle.connection.specs.declared.Answer.the-variants.{Waiting, Nothing, Read, Refused}
+use Rattle.connection.specs.declared.Refusal.the-variants.{ChannelClosed}
+use Rattle.connection.specs.Answer.{refusalNumber, numberOf, valuesOf}
 use Rattle.connection.specs.declared.Received.{Received}
 use Rattle.connection.specs.Act.{Acted, actOn}
-use Rattle.connection.specs.Calls.{Lent, Outcome, Work, begun, then, thenActed, withHeader, ends, checked, checkedOut, dropped, waitingFor, policy, idsIn, isThere, slotFor, ackFrames, receivedOf, bodyOf, frameLen, isWrite, isReady, dispatchBy, dispatchStep, settledAs, settleStep, frontOf, takenBy, takeStep, reread, readSettled, readActed, isDirect, readDirect, readBy, readTaken, readFirst, readStep, sendLen, sendSome, sendBy, sendAgain, writeReadied, writeActed, writeAct, writeBy, writeFirst, writeOn, writeStep, closeStep, frontBy, frontStep, openOn, stillWaits, openReadied, openActed, openBy, openStep, openOf, dispatchOf, settleOf, takeOf, readOf, writeOf, closeOf, frontCall}
+use Rattle.connection.specs.Calls.{Lent, Outcome, Work, begun, then, thenActed, withHeader, ends, checked, checkedOut, dropped, waitingFor, policy, idsIn, isThere, slotFor, ackFrames, receivedOf, errorRefusal, faultRefusal, unlessFault, bodyOf, frameLen, isWrite, isReady, dispatchBy, dispatchStep, settledAs, settleStep, frontOf, takenBy, takeStep, reread, readSettled, readActed, isDirect, readDirect, readBy, readTaken, readFirst, readStep, sendLen, sendSome, sendBy, sendAgain, writeReadied, writeActed, writeAct, writeBy, writeFirst, writeOn, writeStep, closeStep, frontBy, frontStep, openOn, stillWaits, openReadied, openActed, openBy, openStep, openOf, dispatchOf, settleOf, takeOf, readOf, writeOf, closeOf, frontCall}
 use Rattle.connection.specs.Frames.{Frame, closeFrame, openFrame, writeFrame, frameBytes, framesBytes}
-use Rattle.history.specs.Run.{bytesIn, Call, openCall, dispatchCall, settleCall, takeCall, readCall, writeCall, closeCall, frontTaken, World, lent, outcome, Seen, seenIn, seen}
+use Rattle.history.specs.Run.{bytesIn, Call, openCall, dispatchCall, settleCall, takeCall, readCall, writeCall, closeCall, frontTaken, outOf, bufOf, World, lent, outcome}
+use Rattle.history.specs.Seen.{countOf, heldOf, Seen, seenOf}
 use Rattle.history.specs.Book.{acksOf, lastOpen}
 use Rattle.history.proofs.Acts.{acksIn}
-use Rattle.history.proofs.Heard.{Writes, heard-acks, openIn, heard-open, heardOf, heard-call}
+use Rattle.history.proofs.Heard.{Writes, counted, heard-acks, openIn, heard-open, heardOf, heard-call}
+use Rattle.history.proofs.Never13.{Holds, holds-kept}
+use Rattle.history.proofs.Opens.{refused-some}
 use Rattle.history.proofs.Packets.{Got, stopped, packet, got, reads-arg0, reads-arg1, body-length}
 use Rattle.connection.proofs.Slots.{slots-by, slot-set-same, slot-set-other}
 use Rattle.history.proofs.Bytes.{bytes-in}
@@ -196,6 +205,27 @@ module _ (l : Lent) (out room : ℕ) where
   writes-checked-out whole o f =
       writes-checked whole _ (λ t. pick (Writes n₀ out room) (ltb out 56) (λ u. writes-none n₀ out room _ refl (omega arith)) (λ u. f t (ltb-false out 56 u)))
 
+-- ---- what an answer counts
+
+-- what a read's or a take's answer counts is handed over, where the receive store keeps its length
+abbrev pub Counts : Lent → Outcome → Type 0
+Counts l x = length (x .rx) ≡ length (l .rx) → cond (eqb (numberOf (x .answer)) 0) (getD (valuesOf (x .answer)) 0 0) 0 ≡ length (x .handed)
+
+-- the refusals ahead of every step count nothing
+counts-checked : (l : Lent) (whole : Bool) (o : Outcome) → (whole ≡ true → storesFit (l .state .header .negotiated .config) (length (l .rx)) (length (l .store)) ≡ true → Counts l o)
+    → Counts l (checked whole l o)
+unfolding checked numberOf refusalNumber
+counts-checked l whole o f =
+    pick (Counts l) whole
+    (λ t. pick (Counts l) (storesFit (l .state .header .negotiated .config) (length (l .rx)) (length (l .store))) (λ u. f t u) (λ u z. refl))
+    (λ t z. refl)
+
+counts-checked-out : (l : Lent) (whole : Bool) (out : ℕ) (o : Outcome) → (whole ≡ true → storesFit (l .state .header .negotiated .config) (length (l .rx)) (length (l .store)) ≡ true → 56 ≤ out → Counts l o)
+    → Counts l (checkedOut whole l out o)
+unfolding checkedOut numberOf refusalNumber
+counts-checked-out l whole out o f =
+    counts-checked l whole _ (λ t u. pick (Counts l) (ltb out 56) (λ v z. refl) (λ v. f t u (ltb-false out 56 v)))
+
 -- ---- each step
 
 -- what an open is allotted
@@ -220,7 +250,11 @@ module _ (l : Lent) (able : Able l) (out room : ℕ) where
   abbrev W : Outcome → Type 0
   W = Writes n out room
 
+  abbrev C : Outcome → Type 0
+  C = Counts l
+
   record There (ch : ChannelId) : Type 0 where
+    inside : ch .slot < n .config .channels
     below : ch .slot < 64
     sound : SlotOk (slotFor l ch) (policy l .«rx_cap»)
     ids : IdsFit (idsIn (slotFor l ch))
@@ -233,7 +267,55 @@ module _ (l : Lent) (able : Able l) (out room : ℕ) where
       let g = and-true (s .filled) (eqb (s .local .0) (ch .local .0)) (f .1) in
       let b = ltb-true (ch .slot) (n .config .channels) (f .0) in
       let c = able .channels in
-      record { below = omega arith; sound = able .sound (ch .slot) (g .0); ids = able .ids (ch .slot) }
+      record { inside = b; below = omega arith; sound = able .sound (ch .slot) (g .0); ids = able .ids (ch .slot) }
+
+  -- an answer that is not done
+  counts-none : (w : Work) (a : Answer) (used : ℕ) → eqb (numberOf a) 0 ≡ false → C (ends w a used [])
+  unfolding ends
+  counts-none w a used e z = cond-false (eqb (numberOf a) 0) _ 0 e
+
+  counts-some : (w : Work) (k used : ℕ) (bytes : List ℕ) → (length (w .rx) ≡ length (l .rx) → length bytes ≡ k) → C (ends w (Read k) used bytes)
+  unfolding ends numberOf valuesOf
+  counts-some w k used bytes f z = sym (f z)
+
+  -- the store has each channel's share
+  abbrev Shares : Type 0
+  Shares = n .config .channels * (2 * policy l .«rx_cap») ≤ length (l .rx)
+
+  front-length : Shares → (rx : List ℕ) → length rx ≡ length (l .rx) → (i : ℕ) → i < n .config .channels → (s : ChannelSlot) → SlotOk s (policy l .«rx_cap») → (k : ℕ) → k ≤ s .buffered
+      → length (frontOf rx (policy l .«rx_cap») i s k) ≡ k
+  unfolding frontOf shareOf
+  front-length big rx e i h s ok k f =
+      let cap = policy l .«rx_cap» in
+      let a = length-part rx (i * (2 * cap)) (2 * cap) (share-in i (n .config .channels) (2 * cap) (length rx) h (omega arith)) in
+      let r = ok .run-fits in
+      length-part (part rx (i * (2 * cap)) (2 * cap)) (s .head) k (omega arith)
+
+  error-some : (e : ChannelError) → eqb (numberOf (Refused (errorRefusal e))) 0 ≡ false
+  unfolding numberOf
+  error-some e = refused-some (errorRefusal e)
+
+  unless-some : (f : Failed) (a : Answer) → eqb (numberOf a) 0 ≡ false → eqb (numberOf (unlessFault f a)) 0 ≡ false
+  unfolding unlessFault numberOf
+  unless-some No a e = e
+  unless-some (By f) a e = refused-some (faultRefusal f)
+
+  -- n bytes taken from a slot
+  take-counts-by : Shares → (ch : ChannelId) → There ch → (s : ChannelSlot) (w : Work) (used : ℕ) → SlotOk s (policy l .«rx_cap»)
+      → C (ends w (Read (takeLen s room)) used (frontOf (w .rx) (policy l .«rx_cap») (ch .slot) s (takeLen s room)))
+  take-counts-by big ch c s w used ok =
+      counts-some w (takeLen s room) used _ (λ z. front-length big (w .rx) z (ch .slot) (c .inside) s ok (takeLen s room) (take-held s room (ok .settled-buffered)))
+
+  pub take-counts : Shares → (ch : ChannelId) → C (takeStep l ch room)
+  unfolding takeStep takenOf takenBy numberOf refusalNumber
+  take-counts big ch =
+      let s = slotFor l ch in
+      pick C (isThere l ch)
+      (λ t. let c = there ch t in
+      let P : Taken → Type 0 = λ y. C (takenBy l ch s (begun h₀ l) y) in
+      pick P (hasData s) (λ d. take-counts-by big ch c s (then (begun h₀ l) (slotTo (ch .slot) (tookOf s (takeLen s room)) ∷ []) []) 0 (c .sound))
+      (λ d. pick P (isClosed (s .state)) (λ e. counts-none (begun h₀ l) (Refused (errorRefusal (errorOf (s .failed)))) 0 (error-some (errorOf (s .failed)))) (λ e. counts-none (begun h₀ l) Nothing 0 refl)))
+      (λ t. counts-none (begun h₀ l) (Refused ChannelClosed) 0 refl)
 
   -- taking
   take-by : (ch : ChannelId) (s : ChannelSlot) (x : Taken) → Taking s room x → W (takenBy l ch s (begun h₀ l) x)
@@ -523,37 +605,53 @@ module _ (l : Lent) (able : Able l) (out room : ℕ) where
         reread-by used fault w s x f (nothing e) = quit (then w _ []) _ used (no-more 2 _ f)
         reread-by used fault w s x f (shut e) = quit (then w _ []) _ used (no-more 2 _ f)
 
+        -- the slot after a packet that was dispatched
+        abbrev t₂ : Acted → ChannelSlot
+        t₂ a = slotIn (changedAll (l .state) (slotTo (ch .slot) s₁ ∷ a .changes) .slots) (ch .slot)
+
+        own₂ : (a : Acted) → Acts (Unit {0}) h₀ (set (l .state .slots) (ch .slot) s₁) (ch .slot) a → Own (Unit {0}) p s₁ (some (a .frames)) (t₂ a)
+        own₂ a x =
+            let ss = set (l .state .slots) (ch .slot) s₁ in
+            let y = able .size in
+            let b = c .below in
+            let here : slotIn ss (ch .slot) ≡ s₁ = slot-set-same (l .state .slots) (ch .slot) s₁ (omega arith) in
+            subst (λ (q : ChannelSlot). Own (Unit {0}) p q (some (a .frames)) (t₂ a)) here
+            (subst (λ (q : List ChannelSlot). Own (Unit {0}) p (slotIn ss (ch .slot)) (some (a .frames)) (slotIn q (ch .slot))) (sym (slots-by (l .state) (slotTo (ch .slot) s₁ ∷ a .changes))) (x .own))
+
         read-acted : (a : Acted) (used : ℕ) → s₁ .buffered ≡ 0 → Acts (Unit {0}) h₀ (set (l .state .slots) (ch .slot) s₁) (ch .slot) a
             → W (readActed l ch room used (then w₁ (slotTo (ch .slot) s₁ ∷ []) []) a)
         unfolding readActed readSettled
         read-acted a used z x =
-            let ss = set (l .state .slots) (ch .slot) s₁ in
-            let t = slotIn (changedAll (l .state) (slotTo (ch .slot) s₁ ∷ a .changes) .slots) (ch .slot) in
-            let y = able .size in
-            let b = c .below in
-            let here : slotIn ss (ch .slot) ≡ s₁ = slot-set-same (l .state .slots) (ch .slot) s₁ (omega arith) in
-            let o : Own (Unit {0}) p s₁ (some (a .frames)) t =
-            subst (λ (q : ChannelSlot). Own (Unit {0}) p q (some (a .frames)) t) here
-            (subst (λ (q : List ChannelSlot). Own (Unit {0}) p (slotIn ss (ch .slot)) (some (a .frames)) (slotIn q (ch .slot))) (sym (slots-by (l .state) (slotTo (ch .slot) s₁ ∷ a .changes))) (x .own)) in
+            let t = t₂ a in
+            let o = own₂ a x in
             let r = settledOf t p room in
             reread-by used (a .fault) _ (r .slot) (takenOf (r .slot) room) (again-few a t (x .writes) (o .ids) (o .sound tt) z (o .rests)) (taking (r .slot) room)
 
-        read-by : s₁ .buffered ≡ 0 → (r : Received) → Got received limit r → W (readBy l ch room w₁ s₁ received r)
-        unfolding readBy
-        read-by z r (stopped a used s) = stop₁ _ a used
-        read-by z r (packet k s) =
+        sound₁ : SlotOk s₁ (p .«rx_cap»)
+        sound₁ = settled-sound (slotFor l ch) p room (p .«rx_cap») (c .sound)
+
+        -- a packet that is dispatched
+        abbrev act₂ : Packet → Acted
+        act₂ k = actOn h₀ (set (l .state .slots) (ch .slot) s₁) (l .state .opens) (l .rx) (l .store) k (bodyOf received k)
+
+        acts₂ : (k : Packet) → Says received limit k → Acts (Unit {0}) h₀ (set (l .state .slots) (ch .slot) s₁) (ch .slot) (act₂ k)
+        acts₂ k s =
             let g = args received limit k bytes s in
             let ss = set (l .state .slots) (ch .slot) s₁ in
             let y = able .size in
             let b = c .below in
             let e = length-set (l .state .slots) (ch .slot) s₁ in
             let here : slotIn ss (ch .slot) ≡ s₁ = slot-set-same (l .state .slots) (ch .slot) s₁ (omega arith) in
-            let ok = settled-sound (slotFor l ch) p room (p .«rx_cap») (c .sound) in
-            let x = acts (Unit {0}) h₀ ss (l .state .opens) (l .rx) (l .store) k (bodyOf received k) (ch .slot) (ids-set (l .state .slots) (ch .slot) s₁ (able .ids) ids₁ (omega arith)) (omega arith)
-            (λ q. subst (λ (v : ChannelSlot). SlotOk v (p .«rx_cap»)) (sym here) ok) (g .arg0) (g .arg1) in
+            acts (Unit {0}) h₀ ss (l .state .opens) (l .rx) (l .store) k (bodyOf received k) (ch .slot) (ids-set (l .state .slots) (ch .slot) s₁ (able .ids) ids₁ (omega arith)) (omega arith)
+            (λ q. subst (λ (v : ChannelSlot). SlotOk v (p .«rx_cap»)) (sym here) sound₁) (g .arg0) (g .arg1)
+
+        read-by : s₁ .buffered ≡ 0 → (r : Received) → Got received limit r → W (readBy l ch room w₁ s₁ received r)
+        unfolding readBy
+        read-by z r (stopped a used s) = stop₁ _ a used
+        read-by z r (packet k s) =
             pick W (isDirect s₁ room k) (λ t. read-direct k s t)
             (λ t. pick W (closedBy (idsIn s₁) k) (λ u. stop₁ _ _ (frameLen k))
-            (λ u. read-acted (actOn h₀ ss (l .state .opens) (l .rx) (l .store) k (bodyOf received k)) (frameLen k) z x))
+            (λ u. read-acted (act₂ k) (frameLen k) z (acts₂ k s)))
 
         read-taken : (x : Taken) → Taking s₁ room x → W (readTaken l ch room w₁ s₁ received x)
         unfolding readTaken frontOf
@@ -561,6 +659,42 @@ module _ (l : Lent) (able : Able l) (out room : ℕ) where
         read-taken x (nothing e) =
             pick W (s₁ .«has_remote») (λ t. read-by (no-data s₁ t e) (receivedOf l received) (got l received)) (λ t. stop₁ _ _ 0)
         read-taken x (shut e) = stop₁ _ _ 0
+
+        -- its answer counts what it hands over
+        module _ (shares : Shares) where
+          reread-counts : (used : ℕ) (fault : Failed) (w : Work) (s : ChannelSlot) → SlotOk s (p .«rx_cap») → C (reread ch (p .«rx_cap») used fault w s (takenOf s room))
+          unfolding reread takenOf numberOf
+          reread-counts used fault w s ok =
+              let P : Taken → Type 0 = λ y. C (reread ch (p .«rx_cap») used fault w s y) in
+              pick P (hasData s) (λ d. take-counts-by shares ch c s (then w (slotTo (ch .slot) (tookOf s (takeLen s room)) ∷ []) []) used ok)
+              (λ d. pick P (isClosed (s .state))
+              (λ e. counts-none (then w (slotTo (ch .slot) s ∷ []) []) _ used (unless-some fault (Refused (errorRefusal (errorOf (s .failed)))) (error-some (errorOf (s .failed)))))
+              (λ e. counts-none (then w (slotTo (ch .slot) s ∷ []) []) _ used (unless-some fault Waiting refl)))
+
+          acted-counts : (a : Acted) (used : ℕ) → SlotOk (t₂ a) (p .«rx_cap») → C (readActed l ch room used (then w₁ (slotTo (ch .slot) s₁ ∷ []) []) a)
+          unfolding readActed readSettled
+          acted-counts a used ok = reread-counts used (a .fault) _ (settledOf (t₂ a) p room .slot) (settled-sound (t₂ a) p room (p .«rx_cap») ok)
+
+          received-counts : (r : Received) → Got received limit r → C (readBy l ch room w₁ s₁ received r)
+          unfolding readBy readDirect numberOf refusalNumber
+          received-counts r (stopped a used s) = counts-none (then w₁ (slotTo (ch .slot) s₁ ∷ []) []) a used (s .undone)
+          received-counts r (packet k s) =
+              pick C (isDirect s₁ room k) (λ t. counts-some _ (length (bodyOf received k)) (frameLen k) (bodyOf received k) (λ z. refl))
+              (λ t. pick C (closedBy (idsIn s₁) k) (λ u. counts-none _ (Refused ChannelClosed) (frameLen k) refl)
+              (λ u. acted-counts (act₂ k) (frameLen k) (own₂ (act₂ k) (acts₂ k s) .sound tt)))
+
+          taken-counts : C (readTaken l ch room w₁ s₁ received (takenOf s₁ room))
+          unfolding readTaken takenOf numberOf refusalNumber
+          taken-counts =
+              let P : Taken → Type 0 = λ y. C (readTaken l ch room w₁ s₁ received y) in
+              pick P (hasData s₁) (λ d. take-counts-by shares ch c s₁ (then w₁ (slotTo (ch .slot) (tookOf s₁ (takeLen s₁ room)) ∷ []) []) 0 sound₁)
+              (λ d. pick P (isClosed (s₁ .state)) (λ e. counts-none (then w₁ (slotTo (ch .slot) s₁ ∷ []) []) _ 0 (error-some (errorOf (s₁ .failed))))
+              (λ e. pick C (s₁ .«has_remote») (λ t. received-counts (receivedOf l received) (got l received)) (λ t. counts-none (then w₁ (slotTo (ch .slot) s₁ ∷ []) []) (Refused ChannelClosed) 0 refl)))
+
+      pub read-counts : Shares → (ch : ChannelId) → C (readStep l ch room received)
+      unfolding readStep readFirst numberOf refusalNumber
+      read-counts shares ch =
+          pick C (isThere l ch) (λ t. taken-counts ch (there ch t) shares) (λ t. counts-none (begun h₀ l) (Refused ChannelClosed) 0 refl)
 
       pub read-writes : (ch : ChannelId) → W (readStep l ch room received)
       unfolding readStep readFirst
@@ -571,31 +705,10 @@ module _ (l : Lent) (able : Able l) (out room : ℕ) where
 
 -- ---- each call
 
--- the buffers that a call is lent
-abbrev pub outOf : Call → List ℕ
-outOf (openCall out destination received) = out
-outOf (dispatchCall out received) = out
-outOf (settleCall out ch want) = out
-outOf (takeCall ch buf) = []
-outOf (readCall out ch buf received) = out
-outOf (writeCall out ch bytes received) = out
-outOf (closeCall out ch) = out
-outOf frontTaken = []
-
-abbrev pub bufOf : Call → List ℕ
-bufOf (openCall out destination received) = []
-bufOf (dispatchCall out received) = []
-bufOf (settleCall out ch want) = []
-bufOf (takeCall ch buf) = buf
-bufOf (readCall out ch buf received) = buf
-bufOf (writeCall out ch bytes received) = []
-bufOf (closeCall out ch) = []
-bufOf frontTaken = []
-
 -- every call on a state that is able, where it is whole
 pub call-writes : (w : World) → (isWhole (w .state) ≡ true → Able (lent w)) → (c : Call)
     → Writes (lent w .state .header .negotiated) (length (outOf c)) (length (bufOf c)) (outcome w c)
-unfolding outcome openOf dispatchOf settleOf takeOf readOf writeOf closeOf frontCall
+unfolding outcome outOf bufOf openOf dispatchOf settleOf takeOf readOf writeOf closeOf frontCall
 call-writes w f (openCall out destination received) =
     writes-checked-out (lent w) (length out) 0 (isWhole (w .state)) _
     (λ t big. open-writes (lent w) (f t) (length out) 0 big (bytesIn received) (bytes-in received) (bytesIn destination))
@@ -617,33 +730,55 @@ call-writes w f (closeCall out ch) =
 call-writes w f frontTaken =
     writes-checked (lent w) 0 0 (isWhole (w .state)) _ (λ t. front-writes (lent w) (f t) 0 0)
 
-seen-as : (w : World) (c : Call) → seen w c ≡ seenIn (lent w .state .header .negotiated) (outOf c) (bufOf c) (outcome w c)
-unfolding seen
-seen-as w (openCall out destination received) = refl
-seen-as w (dispatchCall out received) = refl
-seen-as w (settleCall out ch want) = refl
-seen-as w (takeCall ch buf) = refl
-seen-as w (readCall out ch buf received) = refl
-seen-as w (writeCall out ch bytes received) = refl
-seen-as w (closeCall out ch) = refl
-seen-as w frontTaken = refl
+take-counted : (w : World) → (isWhole (w .state) ≡ true → Able (lent w)) → (ch : ChannelId) (buf : List ℕ) → Counts (lent w) (outcome w (takeCall ch buf))
+unfolding outcome takeOf policyOf
+take-counted w f ch buf =
+    counts-checked (lent w) (isWhole (w .state)) _ (λ t u. take-counts (lent w) (f t) 0 (length buf) (long (lent w .state .header .negotiated) (length (w .rx)) (length (w .store)) u .rx-long) ch)
 
--- what is seen of a call is what its outcome says, on a state whose numbers fit their fields
-module _ (w : World) (fits : Fits (stateOf (w .state))) (c : Call) where
+read-counted : (w : World) → (isWhole (w .state) ≡ true → Able (lent w)) → (out : List ℕ) (ch : ChannelId) (buf received : List ℕ) → Counts (lent w) (outcome w (readCall out ch buf received))
+unfolding outcome readOf policyOf
+read-counted w f out ch buf received =
+    counts-checked-out (lent w) (isWhole (w .state)) (length out) _
+    (λ t u big. read-counts (lent w) (f t) (length out) (length buf) big (bytesIn received) (bytes-in received) (long (lent w .state .header .negotiated) (length (w .rx)) (length (w .store)) u .rx-long) ch)
+
+-- what a call's answer counts is what it hands over; a call that is lent no reader's buffer hands nothing over
+none-handed : (n : Negotiated) (out : ℕ) (o : Outcome) → Writes n out 0 o → 0 ≡ length (o .handed)
+none-handed n out o h = let k = h .handed in omega arith
+
+call-counts : (w : World) → (isWhole (w .state) ≡ true → Able (lent w)) → (c : Call) → length (outcome w c .rx) ≡ length (w .rx) → counted c (outcome w c .answer) ≡ length (outcome w c .handed)
+unfolding countOf outOf bufOf
+call-counts w f (openCall out destination received) e = none-handed _ _ _ (call-writes w f (openCall out destination received))
+call-counts w f (dispatchCall out received) e = none-handed _ _ _ (call-writes w f (dispatchCall out received))
+call-counts w f (settleCall out ch want) e = none-handed _ _ _ (call-writes w f (settleCall out ch want))
+call-counts w f (takeCall ch buf) e = take-counted w f ch buf e
+call-counts w f (readCall out ch buf received) e = read-counted w f out ch buf received e
+call-counts w f (writeCall out ch bytes received) e = none-handed _ _ _ (call-writes w f (writeCall out ch bytes received))
+call-counts w f (closeCall out ch) e = none-handed _ _ _ (call-writes w f (closeCall out ch))
+call-counts w f frontTaken e = none-handed _ _ _ (call-writes w f frontTaken)
+
+-- what is seen of a call is what its outcome says, on a state that holds
+module _ (n : Negotiated) (r : List ℕ) (rx store : ℕ) (w : World) (k : Holds n r rx store w) (c : Call) where
   abbrev agreed : Negotiated
   agreed = stateOf (w .state) .header .negotiated
 
-  writes : Writes agreed (length (outOf c)) (length (bufOf c)) (outcome w c)
+  able : isWhole (w .state) ≡ true → Able (lent w)
   unfolding isWhole
-  writes = call-writes w (λ t. able-whole (lent w) fits (and-true (isState (w .state)) (whole (stateOf (w .state))) t .1)) c
+  able t = able-whole (lent w) (whole-fits n (stateOf (w .state)) (k .facts)) (and-true (isState (w .state)) (whole (stateOf (w .state))) t .1)
 
-  pub seen-is : seen w c ≡ heardOf agreed (outcome w c)
-  seen-is = seen-as w c ∙ heard-call agreed (outOf c) (bufOf c) (outcome w c) writes
+  pub writes : Writes agreed (length (outOf c)) (length (bufOf c)) (outcome w c)
+  writes = call-writes w able c
 
-  -- the credit that the book reads, and the last OPEN's
-  pub seen-acks : (l : ℕ) → acksOf l (seen w c .sent) ≡ acksIn (policyOf agreed) l (outcome w c .frames)
+  pub counts : counted c (outcome w c .answer) ≡ length (outcome w c .handed)
+  counts = call-counts w able c (holds-kept n r rx store w k c .rx-length)
+
+  pub seen-is : seenOf (record { call = c; held = heldOf w c }) ≡ heardOf agreed (outcome w c)
+  unfolding heldOf
+  seen-is = heard-call agreed c (lent w) (outcome w c) writes counts (holds-kept n r rx store w k c .eight)
+
+  -- the credit that the books read, and the last OPEN's
+  pub seen-acks : (l : ℕ) → acksOf l (seenOf (record { call = c; held = heldOf w c }) .sent) ≡ acksIn (policyOf agreed) l (outcome w c .frames)
   unfolding policyOf
   seen-acks l = ap (λ (x : Seen). acksOf l (x .sent)) seen-is ∙ heard-acks (policyOf agreed) agreed l (outcome w c .frames) refl (writes .each)
 
-  pub seen-open : (a : ℕ) → lastOpen (seen w c .sent) a ≡ openIn (outcome w c .frames) a
+  pub seen-open : (a : ℕ) → lastOpen (seenOf (record { call = c; held = heldOf w c }) .sent) a ≡ openIn (outcome w c .frames) a
   seen-open a = ap (λ (x : Seen). lastOpen (x .sent) a) seen-is ∙ heard-open agreed (outcome w c .frames) a

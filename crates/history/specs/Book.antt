@@ -1,10 +1,11 @@
--- The book of the channel at one place of the table (document 01, "What does demand 3 count?"): fed with each call's
--- arguments, its answer and the frames that it wrote, its steps in the Rust's order. Assumes nothing.
-use Prim.Native.Nat.{ℕ, _+_, _-_}
+-- The book of each channel (document 01, "What does demand 3 count?"; a sentence in quotes is that section's): fed with each
+-- call's arguments, its answer and the frames that it wrote, its steps in the Rust's order but for its OKAYs, which are counted
+-- last: where a call settles twice nothing was buffered at the first time, so that its OKAY carries 0. Assumes nothing.
+use Prim.Native.Nat.{ℕ, suc, _+_, _-_, min}
 use mathlib.Core.Bool.{Bool, true, false, not, cond, _&&_, _||_}
 use mathlib.Core.List.{List, [], _∷_, _++_}
 use lib.Dec.{eqb, leb, ltb}
-use lib.ListN.{length, getD, set, replicate}
+use lib.ListN.{length, getD, replicate}
 use Rattle.le.specs.Le.{numOf, part}
 use Rattle.config.specs.declared.negotiated.RxPolicy.{RxPolicy}
 use Rattle.protocol.specs.declared.command.Command.{Command}
@@ -17,12 +18,10 @@ use Rattle.slot.specs.Ids.{namedBy}
 use Rattle.slot.specs.Slot.{emptySlot, withRemote, withNumbers, settledOf}
 use Rattle.table.specs.declared.ChannelId.{ChannelId}
 use Rattle.table.specs.Table.{first}
-use Rattle.connection.specs.declared.Answer.{Answer}
-use Rattle.connection.specs.declared.Answer.the-variants.{Done, Waiting, Nothing, Opened, Settled, Read, Written, Front, Refused}
-use Rattle.connection.specs.Answer.{numberOf}
 use Rattle.connection.specs.Calls.{isReady}
 use Rattle.connection.specs.Frames.{Sent}
-use Rattle.history.specs.Run.{Call, openCall, dispatchCall, settleCall, takeCall, readCall, writeCall, closeCall, frontTaken, bytesIn, Seen}
+use Rattle.history.specs.Run.{Call, openCall, dispatchCall, settleCall, takeCall, readCall, writeCall, closeCall, frontTaken, bytesIn}
+use Rattle.history.specs.Seen.{Seen, Event, seenOf}
 
 -- what is kept of one channel
 pub record Book : Type 0 where
@@ -47,15 +46,69 @@ pub record Book : Type 0 where
   -- a call answered 11 for one of them
   pub over : Bool
 
+-- an empty one
+abbrev pub emptyBook : Bool → ℕ → ℕ → ℕ → Book
+emptyBook there l r c =
+    record {
+      there = there;
+      local = l;
+      remote = r;
+      opening = c;
+      sent = 0;
+      accepted = [];
+      handed = [];
+      acked = 0;
+      aside = 0;
+      closed = false;
+      kept = true;
+      over = false;
+    }
+
 -- that of a place with no channel
 abbrev pub noBook : Book
-noBook = record { there = false; local = 0; remote = 0; opening = 0; sent = 0; accepted = []; handed = []; acked = 0; aside = 0; closed = false; kept = true; over = false }
+noBook = emptyBook false 0 0 0
 
--- empty at filling
+-- "empty at filling"
 abbrev pub newBook : ℕ → ℕ → ℕ → Book
-newBook l r c = record { there = true; local = l; remote = r; opening = c; sent = 0; accepted = []; handed = []; acked = 0; aside = 0; closed = false; kept = true; over = false }
+newBook l r c = emptyBook true l r c
 
--- ---- entries: names in B change a book, in M the marks
+-- with these bytes sent, accepted, handed over, acknowledged and set aside
+abbrev withBytes : Book → ℕ → List ℕ → List ℕ → ℕ → ℕ → Book
+withBytes b sent accepted handed acked aside =
+    record {
+      there = b .there;
+      local = b .local;
+      remote = b .remote;
+      opening = b .opening;
+      sent = sent;
+      accepted = accepted;
+      handed = handed;
+      acked = acked;
+      aside = aside;
+      closed = b .closed;
+      kept = b .kept;
+      over = b .over;
+    }
+
+-- with these marks: closed, rule kept, answered 11
+abbrev withMarks : Book → Bool → Bool → Bool → Book
+withMarks b closed kept over =
+    record {
+      there = b .there;
+      local = b .local;
+      remote = b .remote;
+      opening = b .opening;
+      sent = b .sent;
+      accepted = b .accepted;
+      handed = b .handed;
+      acked = b .acked;
+      aside = b .aside;
+      closed = closed;
+      kept = kept;
+      over = over;
+    }
+
+-- ---- entries: names in B change a book
 
 -- the device's rule: "sent before it is below the credit in our OPEN plus acknowledged as it stood before that call"
 abbrev pub withinRule : ℕ → Book → Bool
@@ -63,39 +116,39 @@ withinRule before b = ltb (b .sent) (b .opening + before)
 
 -- "adds its length to sent"
 abbrev pub sentB : ℕ → ℕ → Book → Book
-sentB before n b = record { there = b .there; local = b .local; remote = b .remote; opening = b .opening; sent = b .sent + n; accepted = b .accepted; handed = b .handed; acked = b .acked; aside = b .aside; closed = b .closed; kept = b .kept && withinRule before b; over = b .over }
+sentB before n b = withMarks (withBytes b (b .sent + n) (b .accepted) (b .handed) (b .acked) (b .aside)) (b .closed) (b .kept && withinRule before b) (b .over)
 
 -- "its payload joins accepted"
 abbrev pub acceptedB : List ℕ → Book → Book
-acceptedB bs b = record { there = b .there; local = b .local; remote = b .remote; opening = b .opening; sent = b .sent; accepted = b .accepted ++ bs; handed = b .handed; acked = b .acked; aside = b .aside; closed = b .closed; kept = b .kept; over = b .over }
+acceptedB bs b = withBytes b (b .sent) (b .accepted ++ bs) (b .handed) (b .acked) (b .aside)
 
 -- "adds the bytes its answer counts in the reader's buffer to handed over, and takes their number off set aside, down to 0"
 abbrev pub handedB : List ℕ → Book → Book
-handedB bs b = record { there = b .there; local = b .local; remote = b .remote; opening = b .opening; sent = b .sent; accepted = b .accepted; handed = b .handed ++ bs; acked = b .acked; aside = b .aside - length bs; closed = b .closed; kept = b .kept; over = b .over }
+handedB bs b = withBytes b (b .sent) (b .accepted) (b .handed ++ bs) (b .acked) (b .aside - length bs)
 
 -- "adds the credit it carries to acknowledged"
 abbrev pub ackedB : ℕ → Book → Book
-ackedB k b = record { there = b .there; local = b .local; remote = b .remote; opening = b .opening; sent = b .sent; accepted = b .accepted; handed = b .handed; acked = b .acked + k; aside = b .aside; closed = b .closed; kept = b .kept; over = b .over }
+ackedB k b = withBytes b (b .sent) (b .accepted) (b .handed) (b .acked + k) (b .aside)
 
--- adds to set aside
+-- "adds to set aside"
 abbrev pub asideB : ℕ → Book → Book
-asideB n b = record { there = b .there; local = b .local; remote = b .remote; opening = b .opening; sent = b .sent; accepted = b .accepted; handed = b .handed; acked = b .acked; aside = b .aside + n; closed = b .closed; kept = b .kept; over = b .over }
+asideB n b = withBytes b (b .sent) (b .accepted) (b .handed) (b .acked) (b .aside + n)
 
--- closes it
+-- "closes it"
 abbrev pub closedB : Book → Book
-closedB b = record { there = b .there; local = b .local; remote = b .remote; opening = b .opening; sent = b .sent; accepted = b .accepted; handed = b .handed; acked = b .acked; aside = b .aside; closed = true; kept = b .kept; over = b .over }
+closedB b = withMarks b true (b .kept) (b .over)
 
 -- notes whether the call answered 11
 abbrev pub overB : Bool → Book → Book
-overB t b = record { there = b .there; local = b .local; remote = b .remote; opening = b .opening; sent = b .sent; accepted = b .accepted; handed = b .handed; acked = b .acked; aside = b .aside; closed = b .closed; kept = b .kept; over = b .over || t }
+overB t b = withMarks b (b .closed) (b .kept) (b .over || t)
 
 -- "taking accepted less handed over as buffered and accepted less acknowledged as unacknowledged"
 unfoldable pub bookSlot : Book → ChannelSlot
 bookSlot b = withNumbers (withRemote emptySlot (record { 0 = b .remote })) (length (b .accepted) - b .acked) (b .aside) 0 (length (b .accepted) - length (b .handed))
 
--- "what `settle_take` newly sets aside"
+-- "what `settle_take`, within cap as above, newly sets aside"
 unfoldable pub newAside : RxPolicy → ℕ → Book → ℕ
-newAside p want b = settledOf (bookSlot b) p want .slot .settled - b .aside
+newAside p want b = min (settledOf (bookSlot b) p want .slot .settled) (p .«rx_cap») - b .aside
 
 -- a settling of `want` bytes
 abbrev pub settleB : RxPolicy → ℕ → Book → Book
@@ -103,21 +156,13 @@ settleB p want b = asideB (newAside p want b) b
 
 -- ---- answers and frames
 
--- a refusal
-abbrev pub isRefused : Answer → Bool
-isRefused Done = false
-isRefused Waiting = false
-isRefused Nothing = false
-isRefused (Opened ch) = false
-isRefused (Settled a) = false
-isRefused (Read n) = false
-isRefused (Written n) = false
-isRefused (Front r c p n) = false
-isRefused (Refused r) = true
+-- a refusal's number: 0 is done, 100 waiting, 101 nothing there
+abbrev pub isRefused : ℕ → Bool
+isRefused number = not (eqb number 0) && ltb number 100
 
 -- refused by 8, 9 or 13: the call did nothing
-abbrev pub isEarly : Answer → Bool
-isEarly a = eqb (numberOf a) 8 || eqb (numberOf a) 9 || eqb (numberOf a) 13
+abbrev pub isEarly : ℕ → Bool
+isEarly number = eqb number 8 || eqb number 9 || eqb number 13
 
 -- an OPEN
 abbrev pub isOpen : Command → Bool
@@ -164,75 +209,63 @@ isClse m = eqb (m .command) (wordOf Close)
 abbrev pub ownEnd : ℕ → ℕ → Message → Bool
 ownEnd l r m = isClse m && namedBy (record { local = record { 0 = l }; remote = record { 0 = r } }) (m .arg0) (m .arg1)
 
--- ---- which places hold a channel, with what remote number: from the answers of opens and closes
-
--- whether a place holds a channel, and its remote number
-pub record Mark : Type 0 where
-  pub there : Bool
-  pub remote : ℕ
-
--- the mark of a place with no channel
-abbrev pub noMark : Mark
-noMark = record { there = false; remote = 0 }
+-- ---- which channel a CLSE closes that is dispatched: told from the books of all places
 
 -- a channel with this remote number is there
-abbrev pub hasRemote : ℕ → Mark → Bool
-hasRemote r m = m .there && eqb (m .remote) r
+abbrev pub hasRemote : ℕ → Book → Bool
+hasRemote r b = b .there && eqb (b .remote) r
 
 -- its own by dispatch: place i is the first with that remote number, which is not 0, or the CLSE has its local number
-abbrev pub closesB : List Mark → ℕ → Book → Message → Bool
+abbrev pub closesB : List Book → ℕ → Book → Message → Bool
 closesB d i b m = isClse m && cond (eqb (m .arg1) 0) (not (eqb (m .arg0) 0) && (eqb (first (hasRemote (m .arg0)) d) i)) (eqb (m .arg1) (b .local))
 
--- ---- a packet that a call used
+-- ---- a packet that a call used. d: the books of all places before the call; i: this book's place
 
--- a WRTE: refused or not
-abbrev pub wrteB : ℕ → List ℕ → Answer → Book → Book
-wrteB before bs a b = cond (isRefused a) (overB (eqb (numberOf a) 11) (sentB before (length bs) b)) (acceptedB bs (sentB before (length bs) b))
+-- a WRTE: refused or not. One that comes to a closed slot is accepted as well: the Rust drops those of failed slots alone, which
+-- 13 refuses
+abbrev pub wrteB : ℕ → List ℕ → ℕ → Book → Book
+wrteB before bs number b =
+    cond (isRefused number) (overB (eqb number 11) (sentB before (length bs) b)) (acceptedB bs (sentB before (length bs) b))
 
 -- one that was dispatched
-unfoldable pub frameB : List Mark → ℕ → ℕ → Message → List ℕ → Answer → Book → Book
-frameB d i before m bs a b = cond (isWrte m && eqb (m .arg1) (b .local)) (wrteB before bs a b) (cond (closesB d i b m) (closedB b) b)
+unfoldable pub frameB : List Book → ℕ → ℕ → Message → List ℕ → ℕ → Book → Book
+frameB d i before m bs number b = cond (isWrte m && eqb (m .arg1) (b .local)) (wrteB before bs number b) (cond (closesB d i b m) (closedB b) b)
 
 -- one refused by 4: counted in sent
 unfoldable pub damagedB : ℕ → Message → List ℕ → Book → Book
 damagedB before m bs b = cond (isWrte m && eqb (m .arg1) (b .local)) (sentB before (length bs) b) b
 
 -- what it is to a call that is on no channel, or on another; `mine`: the call took it for the end of what it is on
-unfoldable pub packetB : List Mark → ℕ → List ℕ → (Message → Bool) → Seen → Book → Book
+unfoldable pub packetB : List Book → ℕ → List ℕ → (Message → Bool) → Seen → Book → Book
 packetB d i received mine o b =
     cond (eqb (o .used) 0) b
-    (cond (eqb (numberOf (o .answer)) 4) (damagedB (b .acked) (headerAt received) (payloadAt received (o .used)) b)
-    (cond (mine (headerAt received)) b (frameB d i (b .acked) (headerAt received) (payloadAt received (o .used)) (o .answer) b)))
-
--- the OKAYs that it wrote with this local number
-abbrev pub acksB : ℕ → Seen → Book → Book
-acksB l o b = ackedB (acksOf l (o .sent)) b
+    (cond (eqb (o .number) 4) (damagedB (b .acked) (headerAt received) (payloadAt received (o .used)) b)
+    (cond (mine (headerAt received)) b (frameB d i (b .acked) (headerAt received) (payloadAt received (o .used)) (o .number) b)))
 
 -- ---- a read and a write on the channel
 
 -- a read that used a packet: damaged; straight to the reader; its own end; or dispatched, with a second settling
-unfoldable pub readUsedB : RxPolicy → List Mark → ℕ → ℕ → ℕ → List ℕ → Seen → ℕ → Book → Book
-readUsedB p d i before room received o k b =
-    cond (eqb (numberOf (o .answer)) 4) (ackedB k (damagedB before (headerAt received) (payloadAt received (o .used)) b))
+unfoldable pub readUsedB : RxPolicy → List Book → ℕ → ℕ → ℕ → List ℕ → Seen → Book → Book
+readUsedB p d i before room received o b =
+    cond (eqb (o .number) 4) (damagedB before (headerAt received) (payloadAt received (o .used)) b)
     (cond (isWrte (headerAt received) && eqb (headerAt received .arg1) (b .local) && leb (o .used - 24) room)
-    (ackedB k (handedB (o .got) (wrteB before (payloadAt received (o .used)) (o .answer) b)))
-    (cond (ownEnd (b .local) (b .remote) (headerAt received)) (ackedB k (closedB b))
-    (handedB (o .got) (ackedB k (settleB p room (frameB d i before (headerAt received) (payloadAt received (o .used)) (o .answer) b))))))
+    (handedB (o .got) (wrteB before (payloadAt received (o .used)) (o .number) b))
+    (cond (ownEnd (b .local) (b .remote) (headerAt received)) (closedB b)
+    (handedB (o .got) (settleB p room (frameB d i before (headerAt received) (payloadAt received (o .used)) (o .number) b)))))
 
 -- a read: refused early; with no packet used; with one
-unfoldable pub readB : RxPolicy → List Mark → ℕ → ℕ → List ℕ → Seen → ℕ → Book → Book
-readB p d i room received o k b =
-    cond (isEarly (o .answer)) b
-    (cond (eqb (o .used) 0) (handedB (o .got) (ackedB k (settleB p room b)))
-    (readUsedB p d i (b .acked) room received o k (settleB p room b)))
+unfoldable pub readB : RxPolicy → List Book → ℕ → ℕ → List ℕ → Seen → Book → Book
+readB p d i room received o b =
+    cond (isEarly (o .number)) b
+    (cond (eqb (o .used) 0) (handedB (o .got) (settleB p room b)) (readUsedB p d i (b .acked) room received o (settleB p room b)))
 
 -- a write that used a packet: damaged; its own end; or dispatched
-unfoldable pub writeB : List Mark → ℕ → List ℕ → Seen → Book → Book
+unfoldable pub writeB : List Book → ℕ → List ℕ → Seen → Book → Book
 writeB d i received o b =
     cond (eqb (o .used) 0) b
-    (cond (eqb (numberOf (o .answer)) 4) (damagedB (b .acked) (headerAt received) (payloadAt received (o .used)) b)
+    (cond (eqb (o .number) 4) (damagedB (b .acked) (headerAt received) (payloadAt received (o .used)) b)
     (cond (ownEnd (b .local) (b .remote) (headerAt received)) (closedB b)
-    (frameB d i (b .acked) (headerAt received) (payloadAt received (o .used)) (o .answer) b)))
+    (frameB d i (b .acked) (headerAt received) (payloadAt received (o .used)) (o .number) b)))
 
 -- ---- one call
 
@@ -245,88 +278,71 @@ abbrev pub never : Message → Bool
 never m = false
 
 -- a CLSE that ends a waiting open
-abbrev pub endsOpen : Answer → Message → Bool
-endsOpen a m = isClse m && isRefused a
+abbrev pub endsOpen : ℕ → Message → Bool
+endsOpen number m = isClse m && isRefused number
 
 -- one that ends another channel's read or write
-abbrev pub endsOther : List Mark → ChannelId → Message → Bool
-endsOther d ch m = ownEnd (ch .local .0) (getD d (ch .slot) noMark .remote) m
+abbrev pub endsOther : List Book → ChannelId → Message → Bool
+endsOther d ch m = ownEnd (ch .local .0) (getD d (ch .slot) noBook .remote) m
 
--- for a channel that is in the table
-unfoldable pub entryOn : RxPolicy → List Mark → ℕ → Call → Seen → Book → Book
-entryOn p d i (openCall out destination received) o b = acksB (b .local) o (packetB d i (bytesIn received) (endsOpen (o .answer)) o b)
-entryOn p d i (dispatchCall out received) o b = acksB (b .local) o (packetB d i (bytesIn received) never o b)
-entryOn p d i (settleCall out ch want) o b = acksB (b .local) o (cond (isOn i b ch && not (isEarly (o .answer))) (settleB p want b) b)
+-- a call's steps but its OKAYs, for a channel that is in the table
+unfoldable pub entryOn : RxPolicy → List Book → ℕ → Call → Seen → Book → Book
+entryOn p d i (openCall out destination received) o b = packetB d i (bytesIn received) (endsOpen (o .number)) o b
+entryOn p d i (dispatchCall out received) o b = packetB d i (bytesIn received) never o b
+entryOn p d i (settleCall out ch want) o b = cond (isOn i b ch && not (isEarly (o .number))) (settleB p want b) b
 entryOn p d i (takeCall ch buf) o b = cond (isOn i b ch) (handedB (o .got) b) b
 entryOn p d i (readCall out ch buf received) o b =
-    cond (isOn i b ch) (readB p d i (length buf) (bytesIn received) o (acksOf (b .local) (o .sent)) b)
-    (acksB (b .local) o (packetB d i (bytesIn received) (endsOther d ch) o b))
+    cond (isOn i b ch) (readB p d i (length buf) (bytesIn received) o b) (packetB d i (bytesIn received) (endsOther d ch) o b)
 entryOn p d i (writeCall out ch bytes received) o b =
-    acksB (b .local) o (cond (isOn i b ch) (writeB d i (bytesIn received) o b) (packetB d i (bytesIn received) (endsOther d ch) o b))
-entryOn p d i (closeCall out ch) o b = cond (isOn i b ch && not (isRefused (o .answer))) noBook b
+    cond (isOn i b ch) (writeB d i (bytesIn received) o b) (packetB d i (bytesIn received) (endsOther d ch) o b)
+entryOn p d i (closeCall out ch) o b = cond (isOn i b ch && not (isRefused (o .number))) noBook b
 entryOn p d i frontTaken o b = b
 
--- the slot that an open's answer says it filled; the remote number is the OKAY's
-unfoldable pub fillB : ℕ → ℕ → List ℕ → Answer → Book → Book
-fillB i asked received (Opened ch) b = cond (eqb (ch .slot) i) (newBook (ch .local .0) (headerAt received .arg0) asked) b
-fillB i asked received Done b = b
-fillB i asked received Waiting b = b
-fillB i asked received Nothing b = b
-fillB i asked received (Settled a) b = b
-fillB i asked received (Read n) b = b
-fillB i asked received (Written n) b = b
-fillB i asked received (Front r c p n) b = b
-fillB i asked received (Refused r) b = b
+-- an open that is done filled the slot that its answer names, with that local number; the remote number is its OKAY's
+unfoldable pub openedB : ℕ → ℕ → Call → Seen → Book → Book
+openedB i asked (openCall out destination received) o b =
+    cond (eqb (o .number) 0 && eqb (getD (o .values) 0 0) i) (newBook (getD (o .values) 1 0) (headerAt (bytesIn received) .arg0) asked) b
+openedB i asked (dispatchCall out received) o b = b
+openedB i asked (settleCall out ch want) o b = b
+openedB i asked (takeCall ch buf) o b = b
+openedB i asked (readCall out ch buf received) o b = b
+openedB i asked (writeCall out ch bytes received) o b = b
+openedB i asked (closeCall out ch) o b = b
+openedB i asked frontTaken o b = b
 
--- the mark of that slot
-unfoldable pub fillM : List ℕ → Answer → List Mark → List Mark
-fillM received (Opened ch) d = set d (ch .slot) (record { there = true; remote = headerAt received .arg0 })
-fillM received Done d = d
-fillM received Waiting d = d
-fillM received Nothing d = d
-fillM received (Settled a) d = d
-fillM received (Read n) d = d
-fillM received (Written n) d = d
-fillM received (Front r c p n) d = d
-fillM received (Refused r) d = d
+-- "An OKAY written with its local number in arg0, by a refused call too", after the call's other steps
+unfoldable pub acksB : Seen → Book → Book
+acksB o b = cond (b .there) (ackedB (acksOf (b .local) (o .sent)) b) b
 
--- the book after an open that filled the slot
-unfoldable pub openedB : ℕ → ℕ → Call → Answer → Book → Book
-openedB i asked (openCall out destination received) a b = fillB i asked (bytesIn received) a b
-openedB i asked (dispatchCall out received) a b = b
-openedB i asked (settleCall out ch want) a b = b
-openedB i asked (takeCall ch buf) a b = b
-openedB i asked (readCall out ch buf received) a b = b
-openedB i asked (writeCall out ch bytes received) a b = b
-openedB i asked (closeCall out ch) a b = b
-openedB i asked frontTaken a b = b
+-- the book at place i after a call. asked: the credit in the last OPEN written before it
+unfoldable pub bookAfter : RxPolicy → List Book → ℕ → Call → Seen → ℕ → Book → Book
+bookAfter p d asked c o i b = acksB o (openedB i asked c o (cond (b .there) (entryOn p d i c o b) b))
 
--- the marks after a call: an open fills a place, a close empties it
-unfoldable pub marks : Call → Answer → List Mark → List Mark
-marks (openCall out destination received) a d = fillM (bytesIn received) a d
-marks (dispatchCall out received) a d = d
-marks (settleCall out ch want) a d = d
-marks (takeCall ch buf) a d = d
-marks (readCall out ch buf received) a d = d
-marks (writeCall out ch bytes received) a d = d
-marks (closeCall out ch) a d = cond (isRefused a) d (set d (ch .slot) noMark)
-marks frontTaken a d = d
+-- ---- all places
 
--- all that is kept for the channel at place i: the credit of the last OPEN written, the marks, the book
+-- what f makes of each place's book
+unfoldable pub eachPlace : (ℕ → Book → Book) → ℕ → List Book → List Book
+eachPlace f i [] = []
+eachPlace f i (b ∷ bs) = f i b ∷ eachPlace f (suc i) bs
+
+-- all that is kept: the credit in the last OPEN written, and a book for each place of the table
 pub record Ledger : Type 0 where
   pub asked : ℕ
-  pub dir : List Mark
-  pub book : Book
+  pub books : List Book
 
 -- before the first call
 abbrev pub clean : Ledger
-clean = record { asked = 0; dir = replicate 64 noMark; book = noBook }
+clean = record { asked = 0; books = replicate 64 noBook }
 
--- the ledger after call c, of which o is what its caller sees
-unfoldable pub entry : RxPolicy → ℕ → Call → Seen → Ledger → Ledger
-entry p i c o l =
-    record {
-      asked = lastOpen (o .sent) (l .asked);
-      dir = marks c (o .answer) (l .dir);
-      book = openedB i (l .asked) c (o .answer) (cond (l .book .there) (entryOn p (l .dir) i c o (l .book)) (l .book));
-    }
+-- the book of a place
+abbrev pub bookAt : Ledger → ℕ → Book
+bookAt l i = getD (l .books) i noBook
+
+-- the ledger after a call, of which o is what its caller sees
+unfoldable pub entry : RxPolicy → Call → Seen → Ledger → Ledger
+entry p c o l = record { asked = lastOpen (o .sent) (l .asked); books = eachPlace (bookAfter p (l .books) (l .asked) c o) 0 (l .books) }
+
+-- and after a list of calls
+unfoldable pub ledgerOf : RxPolicy → Ledger → List Event → Ledger
+ledgerOf p l [] = l
+ledgerOf p l (e ∷ es) = ledgerOf p (entry p (e .call) (seenOf e) l) es

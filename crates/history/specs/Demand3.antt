@@ -1,24 +1,22 @@
--- Demand 3: one statement over every list of calls. Assumes nothing.
+-- Demand 3: one statement over every list of calls (document 01, "What does demand 3 count?"). Assumes nothing.
 use Prim.Native.Nat.{ℕ, _+_, _^_, _≤_, _<_}
-use mathlib.Core.Bool.{Bool, true, false}
+use mathlib.Core.Bool.{true, false}
 use mathlib.Core.List.{List, [], _∷_, _++_}
 use mathlib.Core.Path.{_≡_}
+use lib.IntN.{pos}
 use lib.ListN.{length}
 use Rattle.le.specs.Le.{part}
-use Rattle.config.specs.declared.ConnectionConfig.{ConnectionConfig}
 use Rattle.config.specs.declared.negotiated.RxPolicy.{RxPolicy}
-use Rattle.config.specs.Config.{withinLimits}
-use Rattle.config.specs.Negotiated.{negotiatedOf, policyOf}
 use Rattle.slot.specs.declared.ChannelSlot.{ChannelSlot}
+use Rattle.slot.specs.declared.Credit.the-variants.{Of}
+use Rattle.slot.specs.Slot.{creditOf}
 use Rattle.state.specs.State.{stateOf}
 use Rattle.table.specs.Dispatch.{slotIn, shareOf}
-use Rattle.history.specs.Run.{Call, World, after, afterAll, seen, made}
-use Rattle.history.specs.Book.{Book, Ledger, clean, entry}
-
--- the ledger after a list of calls
-unfoldable pub ledgerAfter : RxPolicy → ℕ → World → Ledger → List Call → Ledger
-ledgerAfter p i w l [] = l
-ledgerAfter p i w l (c ∷ cs) = ledgerAfter p i (after w c) (entry p i c (seen w c) l) cs
+use Rattle.connection.specs.Calls.{isReady}
+use Rattle.connection.specs.Frames.{Sent}
+use Rattle.history.specs.Run.{Call, receivedIn, World, after, afterAll, Start, begins, policyIn}
+use Rattle.history.specs.Seen.{saidBy, countOf, Event, seenOf, eventsOf}
+use Rattle.history.specs.Book.{Book, creditIn, headerAt, isWrte, Ledger, clean, bookAt, entry, ledgerOf}
 
 -- the slot at a place
 abbrev pub slotOf : World → ℕ → ChannelSlot
@@ -37,9 +35,8 @@ unfoldable pub Apart : World → List Call → Type 0
 Apart w [] = Unit {0}
 Apart w (c ∷ cs) = Distinct (after w c) × Apart (after w c) cs
 
--- what is claimed of a channel in the table
+-- what is claimed of a channel in the table; buffered: the bytes that its slot's numbers name
 pub record Claim (p : RxPolicy) (s : ChannelSlot) (buffered : List ℕ) (b : Book) : Type 0 where
-  pub there : b .there ≡ true
   -- each byte reaches its reader exactly, in order, once
   pub exact : b .handed ++ buffered ≡ b .accepted
   -- credit adds up, while under 2^64 bytes were accepted
@@ -49,13 +46,62 @@ pub record Claim (p : RxPolicy) (s : ChannelSlot) (buffered : List ℕ) (b : Boo
   -- a device that keeps its rule never meets refusal 11
   pub never11 : p .delayed ≡ true → b .kept ≡ true → b .over ≡ false
 
--- for all limits that make does not refuse, all bytes of the state and both stores, of any length, all lists of calls and
--- every place of the table
+-- and of a place: the book says that a channel is there exactly where the slot is filled
+pub record Place (p : RxPolicy) (s : ChannelSlot) (buffered : List ℕ) (b : Book) : Type 0 where
+  pub there : b .there ≡ s .filled
+  pub claim : b .there ≡ true → Claim p s buffered b
+
+-- ---- what is claimed of each call
+
+-- the lengths of frames together
+unfoldable pub sizeOf : List Sent → ℕ
+sizeOf [] = 0
+sizeOf (f ∷ fs) = 24 + length (f .payload) + sizeOf fs
+
+-- an OKAY reads, as the signed number that it is, as what the book adds; in the plain mode it carries none
+pub record Reads (p : RxPolicy) (f : Sent) : Type 0 where
+  pub signed : isReady (f .command) ≡ true → p .delayed ≡ true → creditOf (f .payload) ≡ Of (pos (creditIn (f .payload)))
+  pub bare : isReady (f .command) ≡ true → p .delayed ≡ false → f .payload ≡ []
+
+-- so do all
+abbrev pub AllRead : RxPolicy → List Sent → Type 0
+AllRead p [] = Unit {0}
+AllRead p (f ∷ fs) = Reads p f × AllRead p fs
+
+-- an 11 does not go unseen: l is the ledger before the call, m the one after it
+pub record Noted (p : RxPolicy) (l m : Ledger) (e : Event) : Type 0 where
+  -- the call used a WRTE that carries the local number of a channel that is there
+  pub place : ℕ
+  pub there : bookAt l place .there ≡ true
+  pub used : e .held .used ≡ 0 → ⊥
+  pub write : isWrte (headerAt (receivedIn (e .call))) ≡ true
+  pub named : headerAt (receivedIn (e .call)) .arg1 ≡ bookAt l place .local
+  -- its book has it, and in delayed mode that the device broke its rule
+  pub over : bookAt m place .over ≡ true
+  pub broke : p .delayed ≡ true → bookAt m place .kept ≡ false
+
+-- what is claimed of a call
+pub record Told (p : RxPolicy) (l : Ledger) (e : Event) : Type 0 where
+  -- the bytes that the answer counts are within the reader's buffer
+  pub counted : countOf (e .call) (saidBy (e .held) .number) (saidBy (e .held) .values) ≤ length (e .held .buf)
+  -- the bytes written are within the outgoing buffer, and exactly the frames that are read from them, at most two
+  pub within : saidBy (e .held) .written ≤ length (e .held .out)
+  pub frames : sizeOf (seenOf e .sent) ≡ saidBy (e .held) .written
+  pub okays : AllRead p (seenOf e .sent)
+  pub noted : e .held .number ≡ 11 → Noted p l (entry p (e .call) (seenOf e) l) e
+
+-- and of every call of a list
+abbrev pub AllTold : RxPolicy → Ledger → List Event → Type 0
+AllTold p l [] = Unit {0}
+AllTold p l (e ∷ es) = Told p l e × AllTold p (entry p (e .call) (seenOf e) l) es
+
+-- ---- demand 3
+
+-- what is claimed of a list of calls that left w
+pub record Claims (p : RxPolicy) (w : World) (es : List Event) : Type 0 where
+  pub places : (i : ℕ) → Place p (slotOf w i) (runOf (w .rx) (p .«rx_cap») i (slotOf w i)) (bookAt (ledgerOf p clean es) i)
+  pub calls : AllTold p clean es
+
+-- for every make that is not refused and all lists of calls in which no two channels share a local number
 abbrev pub Demand3 : Type 0
-Demand3 =
-    (c : ConnectionConfig) (a b : ℕ) (host device : Bool) (state rx store : List ℕ) → withinLimits c ≡ true → 4730 ≤ length state
-    → (cs : List Call) → Apart (made c a b host device state rx store) cs
-    → (i : ℕ) → slotOf (afterAll (made c a b host device state rx store) cs) i .filled ≡ true
-    → Claim (policyOf (negotiatedOf host device a b c)) (slotOf (afterAll (made c a b host device state rx store) cs) i)
-    (runOf (afterAll (made c a b host device state rx store) cs .rx) (policyOf (negotiatedOf host device a b c) .«rx_cap») i (slotOf (afterAll (made c a b host device state rx store) cs) i))
-    (ledgerAfter (policyOf (negotiatedOf host device a b c)) i (made c a b host device state rx store) clean cs .book)
+Demand3 = (s : Start) (cs : List Call) → Apart (begins s) cs → Claims (policyIn s) (afterAll (begins s) cs) (eventsOf (begins s) cs)

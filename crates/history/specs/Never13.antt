@@ -1,19 +1,17 @@
 -- Refusal 13 is never given on a state that make began, whatever the calls (document 01, refusal 13: "It is not given
 -- otherwise, but for bytes that are no state"). Assumes nothing.
-use Prim.Native.Nat.{ℕ, _≤_}
-use mathlib.Core.Bool.{Bool, true, false}
+use Prim.Native.Nat.{ℕ}
+use mathlib.Core.Bool.{true, false}
 use mathlib.Core.List.{List, _++_}
 use mathlib.Core.Path.{_≡_}
 use lib.ListN.{length, drop}
 use Rattle.le.specs.Le.{Bytes}
-use Rattle.config.specs.declared.ConnectionConfig.{ConnectionConfig}
 use Rattle.config.specs.declared.negotiated.Negotiated.{Negotiated}
-use Rattle.config.specs.Config.{withinLimits, storesFit}
-use Rattle.config.specs.Negotiated.{negotiatedOf}
+use Rattle.config.specs.Config.{storesFit}
 use Rattle.state.specs.State.{layout, stateOf}
 use Rattle.state.specs.Valid.{isWhole}
 use Rattle.connection.specs.Answer.{numberOf}
-use Rattle.history.specs.Run.{Call, World, outcome, afterAll, made}
+use Rattle.history.specs.Run.{Call, World, outcome, afterAll, Start, begins, agreedIn}
 
 -- what holds of the lent bytes: n is what was negotiated; state, rx and store are the bytes that make was lent
 pub record Unbroken (n : Negotiated) (state rx store : List ℕ) (w : World) : Type 0 where
@@ -27,11 +25,9 @@ pub record Unbroken (n : Negotiated) (state rx store : List ℕ) (w : World) : T
   pub store-length : length (w .store) ≡ length store
   pub negotiated : stateOf (w .state) .header .negotiated ≡ n
 
--- for all limits that make does not refuse, all bytes of the state and both stores, of any length, and all lists of calls
+-- for every make that is not refused and all lists of calls
 abbrev pub Never13 : Type 0
-Never13 =
-    (c : ConnectionConfig) (a b : ℕ) (host device : Bool) (state rx store : List ℕ) → withinLimits c ≡ true → 4730 ≤ length state
-    → (cs : List Call) → Unbroken (negotiatedOf host device a b c) state rx store (afterAll (made c a b host device state rx store) cs)
+Never13 = (s : Start) (cs : List Call) → Unbroken (agreedIn s) (s .state) (s .rx) (s .store) (afterAll (begins s) cs)
 
 -- the same where the lent bytes are a whole state, whatever wrote them
 abbrev pub StaysWhole : Type 0
@@ -42,7 +38,5 @@ StaysWhole =
 -- where a store is under its length, every call answers 8 and changes nothing
 abbrev pub Always8 : Type 0
 Always8 =
-    (c : ConnectionConfig) (a b : ℕ) (host device : Bool) (state rx store : List ℕ) → withinLimits c ≡ true → 4730 ≤ length state
-    → storesFit c (length rx) (length store) ≡ false
-    → (cs : List Call) → (afterAll (made c a b host device state rx store) cs ≡ made c a b host device state rx store)
-    × ((x : Call) → numberOf (outcome (afterAll (made c a b host device state rx store) cs) x .answer) ≡ 8)
+    (s : Start) → storesFit (s .config) (length (s .rx)) (length (s .store)) ≡ false
+    → (cs : List Call) → (afterAll (begins s) cs ≡ begins s) × ((x : Call) → numberOf (outcome (afterAll (begins s) cs) x .answer) ≡ 8)

@@ -1,15 +1,13 @@
 -- Reads leak no credit: what they hand over was acknowledged. Assumes nothing.
-use Prim.Native.Nat.{ℕ, _≤_}
-use mathlib.Core.Bool.{Bool, true, false}
+use Prim.Native.Nat.{ℕ}
+use mathlib.Core.Bool.{true, false}
 use mathlib.Core.List.{List, [], _∷_}
 use mathlib.Core.Path.{_≡_}
 use lib.ListN.{length}
-use Rattle.config.specs.declared.ConnectionConfig.{ConnectionConfig}
-use Rattle.config.specs.Config.{withinLimits}
-use Rattle.config.specs.Negotiated.{negotiatedOf, policyOf}
-use Rattle.history.specs.Run.{Call, openCall, dispatchCall, settleCall, takeCall, readCall, writeCall, closeCall, frontTaken, afterAll, made}
-use Rattle.history.specs.Book.{Ledger, clean}
-use Rattle.history.specs.Demand3.{ledgerAfter, slotOf, Apart}
+use Rattle.history.specs.Run.{Call, openCall, dispatchCall, settleCall, takeCall, readCall, writeCall, closeCall, frontTaken, Start, begins, policyIn}
+use Rattle.history.specs.Seen.{eventsOf}
+use Rattle.history.specs.Book.{Book, clean, bookAt, ledgerOf}
+use Rattle.history.specs.Demand3.{Apart}
 
 -- a call that is no take from the place
 abbrev pub NoTake : ℕ → Call → Type 0
@@ -27,15 +25,13 @@ abbrev pub ReadOnly : ℕ → List Call → Type 0
 ReadOnly i [] = Unit {0}
 ReadOnly i (x ∷ cs) = NoTake i x × ReadOnly i cs
 
--- in delayed mode, closed by neither end: once all accepted bytes are handed over, all are acknowledged
+-- in delayed mode, of a channel that is there and closed by neither end: once all accepted bytes are handed over, all are
+-- acknowledged
+abbrev pub EvenAt : Book → Type 0
+EvenAt b = b .there ≡ true → b .closed ≡ false → b .handed ≡ b .accepted → b .acked ≡ length (b .accepted)
+
+-- for every make that is not refused and all lists of calls, at each place that is read by reads alone
 abbrev pub NoLeak : Type 0
 NoLeak =
-    (c : ConnectionConfig) (a b : ℕ) (host device : Bool) (state rx store : List ℕ) → withinLimits c ≡ true → 4730 ≤ length state
-    → (cs : List Call) → Apart (made c a b host device state rx store) cs
-    → (i : ℕ) → ReadOnly i cs → slotOf (afterAll (made c a b host device state rx store) cs) i .filled ≡ true
-    → policyOf (negotiatedOf host device a b c) .delayed ≡ true
-    → ledgerAfter (policyOf (negotiatedOf host device a b c)) i (made c a b host device state rx store) clean cs .book .closed ≡ false
-    → ledgerAfter (policyOf (negotiatedOf host device a b c)) i (made c a b host device state rx store) clean cs .book .handed
-    ≡ ledgerAfter (policyOf (negotiatedOf host device a b c)) i (made c a b host device state rx store) clean cs .book .accepted
-    → ledgerAfter (policyOf (negotiatedOf host device a b c)) i (made c a b host device state rx store) clean cs .book .acked
-    ≡ length (ledgerAfter (policyOf (negotiatedOf host device a b c)) i (made c a b host device state rx store) clean cs .book .accepted)
+    (s : Start) (cs : List Call) → Apart (begins s) cs → policyIn s .delayed ≡ true
+    → (i : ℕ) → ReadOnly i cs → EvenAt (bookAt (ledgerOf (policyIn s) clean (eventsOf (begins s) cs)) i)

@@ -7,8 +7,7 @@ use mathlib.Core.Path.{_≡_}
 use lib.Dec.{eqb, ltb}
 use lib.ListN.{length, take, drop}
 use Rattle.le.specs.Le.{part}
-use Rattle.config.specs.declared.ConnectionConfig.{ConnectionConfig}
-use Rattle.config.specs.Config.{withinLimits, storesFit}
+use Rattle.config.specs.Config.{storesFit}
 use Rattle.incoming.specs.Incoming.{Incoming, waits, withdrawn}
 use Rattle.protocol.specs.declared.command.Command.{Command}
 use Rattle.protocol.specs.declared.command.Command.the-variants.{Sync, Connect, Open, Ready, Close, Write, Auth, StartTls}
@@ -23,7 +22,7 @@ use Rattle.connection.specs.declared.Answer.the-variants.{Nothing, Front as Fro
 use Rattle.connection.specs.declared.Received.{Received}
 use Rattle.connection.specs.declared.Received.the-variants.{Packet as PacketIs, Stop}
 use Rattle.connection.specs.Calls.{Lent, idsIn, slotFor, receivedOf, bodyOf, isWrite, isReady, isDirect}
-use Rattle.history.specs.Run.{bytesIn, Call, openCall, dispatchCall, settleCall, takeCall, readCall, writeCall, closeCall, frontTaken, World, lent, outcome, after, afterAll, made}
+use Rattle.history.specs.Run.{bytesIn, Call, openCall, dispatchCall, settleCall, takeCall, readCall, writeCall, closeCall, frontTaken, World, lent, outcome, after, afterAll, Start, begins}
 
 -- what waits, in order: remote number, credit and destination of each
 unfoldable pub queueOf : Lent → List Incoming
@@ -128,10 +127,9 @@ pub record Queues (channels : ℕ) (w : World) : Type 0 where
   pub front : (x : Incoming) (xs : List Incoming) → queueIn w ≡ x ∷ xs → Hands x (after w frontTaken .store) (outcome w frontTaken .answer)
   pub none : queueIn w ≡ [] → outcome w frontTaken .answer ≡ Nothing
 
--- for all limits that make does not refuse, all bytes of the state, all stores that are not under their lengths, and all lists
--- of calls; at first nothing waits
+-- for every make that is not refused, all stores that are not under their lengths, and all lists of calls; at first nothing
+-- waits
 abbrev pub QueueIsRusts : Type 0
 QueueIsRusts =
-    (c : ConnectionConfig) (a b : ℕ) (host device : Bool) (state rx store : List ℕ) → withinLimits c ≡ true → 4730 ≤ length state
-    → storesFit c (length rx) (length store) ≡ true
-    → (queueIn (made c a b host device state rx store) ≡ []) × ((cs : List Call) → Queues (c .channels) (afterAll (made c a b host device state rx store) cs))
+    (s : Start) → storesFit (s .config) (length (s .rx)) (length (s .store)) ≡ true
+    → (queueIn (begins s) ≡ []) × ((cs : List Call) → Queues (s .config .channels) (afterAll (begins s) cs))

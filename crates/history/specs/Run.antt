@@ -1,24 +1,21 @@
 -- Lists of calls, each on the state and stores that the last one left (document 01, "What does demand 3 count?": "The list
 -- starts from the state that make answered, with stores of any bytes; received bytes, data and buffers are each call's
 -- own"). Assumes nothing.
-use Prim.Native.Nat.{ℕ, zero, suc, _+_, _%_}
-use mathlib.Core.Bool.{Bool}
+use Prim.Native.Nat.{ℕ, _%_, _≤_}
+use mathlib.Core.Bool.{Bool, true}
 use mathlib.Core.List.{List, [], _∷_, map}
-use lib.ListN.{length, take, drop}
-use Rattle.le.specs.Le.{put}
+use mathlib.Core.Path.{_≡_}
+use lib.ListN.{length}
 use Rattle.config.specs.declared.ConnectionConfig.{ConnectionConfig}
 use Rattle.config.specs.declared.negotiated.Negotiated.{Negotiated}
-use Rattle.protocol.specs.declared.command.Command.{Command}
-use Rattle.protocol.specs.declared.packet.Decoded.{Decoded}
-use Rattle.protocol.specs.declared.packet.Decoded.the-variants.{Waiting, InvalidCommand, InvalidMagic, PayloadTooLarge, InvalidChecksum, Accepted}
-use Rattle.protocol.specs.Packet.{maxPayload, payloadOf, decodeOf, usedOf}
+use Rattle.config.specs.declared.negotiated.RxPolicy.{RxPolicy}
+use Rattle.config.specs.Config.{withinLimits}
+use Rattle.config.specs.Negotiated.{negotiatedOf, policyOf}
 use Rattle.state.specs.Change.{putAll}
 use Rattle.state.specs.State.{stateOf}
 use Rattle.state.specs.Valid.{isWhole}
 use Rattle.table.specs.declared.ChannelId.{ChannelId}
-use Rattle.connection.specs.declared.Answer.{Answer}
-use Rattle.connection.specs.Calls.{Lent, Outcome, writtenBy, openOf, dispatchOf, settleOf, takeOf, readOf, writeOf, closeOf, frontCall, makeOf}
-use Rattle.connection.specs.Frames.{Sent, framesBytes}
+use Rattle.connection.specs.Calls.{Lent, Outcome, openOf, dispatchOf, settleOf, takeOf, readOf, writeOf, closeOf, frontCall, makeOf}
 
 -- numbers as bytes: a caller's list of any numbers stands for bytes
 unfoldable pub bytesIn : List ℕ → List ℕ
@@ -34,6 +31,39 @@ pub data Call : Type 0 where
   writeCall : List ℕ → ChannelId → List ℕ → List ℕ → Call
   closeCall : List ℕ → ChannelId → Call
   frontTaken : Call
+
+-- the outgoing buffer that a call is lent; none where it takes none
+unfoldable pub outOf : Call → List ℕ
+outOf (openCall out destination received) = out
+outOf (dispatchCall out received) = out
+outOf (settleCall out ch want) = out
+outOf (takeCall ch buf) = []
+outOf (readCall out ch buf received) = out
+outOf (writeCall out ch bytes received) = out
+outOf (closeCall out ch) = out
+outOf frontTaken = []
+
+-- the reader's buffer that it is lent
+unfoldable pub bufOf : Call → List ℕ
+bufOf (openCall out destination received) = []
+bufOf (dispatchCall out received) = []
+bufOf (settleCall out ch want) = []
+bufOf (takeCall ch buf) = buf
+bufOf (readCall out ch buf received) = buf
+bufOf (writeCall out ch bytes received) = []
+bufOf (closeCall out ch) = []
+bufOf frontTaken = []
+
+-- the received bytes that it is handed
+unfoldable pub receivedIn : Call → List ℕ
+receivedIn (openCall out destination received) = bytesIn received
+receivedIn (dispatchCall out received) = bytesIn received
+receivedIn (settleCall out ch want) = []
+receivedIn (takeCall ch buf) = []
+receivedIn (readCall out ch buf received) = bytesIn received
+receivedIn (writeCall out ch bytes received) = bytesIn received
+receivedIn (closeCall out ch) = []
+receivedIn frontTaken = []
 
 -- the lent bytes that last from call to call
 pub record World : Type 0 where
@@ -65,53 +95,34 @@ unfoldable pub afterAll : World → List Call → World
 afterAll w [] = w
 afterAll w (c ∷ cs) = afterAll (after w c) cs
 
--- ---- what a caller sees of a call
-
--- what bytes begin with, before the frames behind it
-unfoldable pub sentBy : List ℕ → List Sent → Decoded → List Sent
-sentBy l rest (Accepted p) = record { command = p .command; arg0 = p .arg0; arg1 = p .arg1; payload = payloadOf l (p .«data_length») } ∷ rest
-sentBy l rest Waiting = []
-sentBy l rest (InvalidCommand word) = []
-sentBy l rest InvalidMagic = []
-sentBy l rest PayloadTooLarge = []
-sentBy l rest (InvalidChecksum used) = []
-
--- at most n frames, one behind the other
-unfoldable pub sentIn : ℕ → List ℕ → List Sent
-sentIn zero l = []
-sentIn (suc n) l = sentBy l (sentIn n (drop (usedOf (decodeOf l maxPayload)) l)) (decodeOf l maxPayload)
-
--- the answer, the bytes used, the frames in the outgoing buffer's first bytes, as many as the call wrote, and the bytes
--- handed over in the reader's buffer
-pub record Seen : Type 0 where
-  pub answer : Answer
-  pub used : ℕ
-  pub sent : List Sent
-  pub got : List ℕ
-
--- out, buf: the buffers as the caller lent them
-unfoldable pub seenIn : Negotiated → List ℕ → List ℕ → Outcome → Seen
-seenIn n out buf o =
-    record {
-      answer = o .answer;
-      used = o .used;
-      sent = sentIn 2 (take (writtenBy n o) (put out 0 (framesBytes n (o .frames))));
-      got = take (length (o .handed)) (put buf 0 (o .handed));
-    }
-
--- what the caller of each call sees
-unfoldable pub seen : World → Call → Seen
-seen w (openCall out destination received) = seenIn (lent w .state .header .negotiated) out [] (outcome w (openCall out destination received))
-seen w (dispatchCall out received) = seenIn (lent w .state .header .negotiated) out [] (outcome w (dispatchCall out received))
-seen w (settleCall out ch want) = seenIn (lent w .state .header .negotiated) out [] (outcome w (settleCall out ch want))
-seen w (takeCall ch buf) = seenIn (lent w .state .header .negotiated) [] buf (outcome w (takeCall ch buf))
-seen w (readCall out ch buf received) = seenIn (lent w .state .header .negotiated) out buf (outcome w (readCall out ch buf received))
-seen w (writeCall out ch bytes received) = seenIn (lent w .state .header .negotiated) out [] (outcome w (writeCall out ch bytes received))
-seen w (closeCall out ch) = seenIn (lent w .state .header .negotiated) out [] (outcome w (closeCall out ch))
-seen w frontTaken = seenIn (lent w .state .header .negotiated) [] [] (outcome w frontTaken)
-
 -- ---- where a list begins
 
 -- what make leaves: c the limits, a and b the device's CNXN, host and device whether each lists delayed acknowledgement
 unfoldable pub made : ConnectionConfig → ℕ → ℕ → Bool → Bool → List ℕ → List ℕ → List ℕ → World
 made c a b host device state rx store = record { state = makeOf c a b host device state .state; rx = rx; store = store }
+
+-- a make that is not refused: limits, arg0 and arg1 of the device's CNXN, whether host and device list delayed
+-- acknowledgement; any bytes as state, of its length or more, and as stores, of any length
+pub record Start : Type 0 where
+  pub config : ConnectionConfig
+  pub version : ℕ
+  pub most : ℕ
+  pub host : Bool
+  pub device : Bool
+  pub state : List ℕ
+  pub rx : List ℕ
+  pub store : List ℕ
+  pub within : withinLimits config ≡ true
+  pub long : 4730 ≤ length state
+
+-- the bytes that it leaves
+abbrev pub begins : Start → World
+begins s = made (s .config) (s .version) (s .most) (s .host) (s .device) (s .state) (s .rx) (s .store)
+
+-- what was negotiated
+abbrev pub agreedIn : Start → Negotiated
+agreedIn s = negotiatedOf (s .host) (s .device) (s .version) (s .most) (s .config)
+
+-- and the receive policy that follows from it
+abbrev pub policyIn : Start → RxPolicy
+policyIn s = policyOf (agreedIn s)

@@ -38,7 +38,7 @@ same-length-2 c = search needs
 
 -- src/lib.rt:303:1
 returns-2 : tie.Need-returns-2
-returns-2 c = does-call (worldOf (c .before .before .before .before .before .before .before .before .before .before .before .before .before .before .args .state .now) (c .before .before .before .before .before .before .before .before .before .before .before .before .before .before .args .rx .now) (c .before .before .before .before .before .before .before .before .before .before .before .before .before .before .args .opens .now)) frontTaken [] [] (c .before .before .before .before .before .before .before .before .before .before .before .before .before .before .args .answer .now) _ (c .before .before .before .before .before .before .take-front .result) _ _ _ _ _ _ _ (sym (c .before .before .before .before .before .before .before .before .before .is-short .ensures) ∙ c .before .before .before .before .before .before .before .before .if1 .left) (front-is (c .before .before .before .before .before .before .before .before .before .before .before .before .before .before .args .state .now) (c .before .before .before .before .before .before .before .before .before .before .before .before .before .before .args .rx .now) (c .before .before .before .before .before .before .before .before .before .before .before .before .before .before .args .opens .now)) (c .before .before .before .before .before .before .take-front .ensures) (c .before .before .answered .ensures .0) (c .before .before .answered .ensures .1)
+returns-2 c = does-call (worldOf (c .before .before .before .before .before .before .before .before .before .before .before .before .before .before .args .state .now) (c .before .before .before .before .before .before .before .before .before .before .before .before .before .before .args .rx .now) (c .before .before .before .before .before .before .before .before .before .before .before .before .before .before .args .opens .now)) frontTaken [] [] (c .before .before .before .before .before .before .before .before .before .before .before .before .before .before .args .answer .now) _ (c .before .before .before .before .before .before .take-front .result) _ _ _ _ _ _ _ (sym (c .before .before .before .before .before .before .before .before .before .is-short .ensures) ∙ c .before .before .before .before .before .before .before .before .if1 .left) (front-is (c .before .before .before .before .before .before .before .before .before .before .before .before .before .before .args .state .now) (c .before .before .before .before .before .before .before .before .before .before .before .before .before .before .args .rx .now) (c .before .before .before .before .before .before .before .before .before .before .before .before .before .before .args .opens .now)) (c .before .before .before .before .before .before .take-front .ensures) (c .before .before .answered .ensures .0) (c .before .before .answered .ensures .1) (c .before .before .answered .ensures .2)
 
 pub adb-take-front-spec : {M : Type 1} → statement M
 adb-take-front-spec =

@@ -1,4 +1,4 @@
-use Rattle.adb.proofs.ExportLaws.{answer-put}
+use Rattle.adb.proofs.ExportLaws.{answer-put, answer-said}
 use borrow.Author.Needs.{needs}
 use Rattle.adb.proofs.answered.Statement.{statement}
 use Rattle.adb.proofs.answered.Tie as tie
@@ -35,7 +35,9 @@ same-length c = search needs
 
 -- src/lib.rt:118:1
 returns : tie.Need-returns
-returns c = (c .number .ensures, answer-put (c .before .before .before .before .before .before .before .before .before .before .before .before .before .before .before .args .answer .now) (c .before .before .before .before .before .before .before .before .before .before .before .before .before .before .before .args .reply) (c .before .before .before .before .values-of .result) _ _ _ (c .before .before .before .before .before .before .before .before .before .before .before .before .before .before .before .pre) (c .before .before .before .before .before .before .before .before .before .before .before .before .put-usize .ensures) (c .before .before .before .before .before .before .before .before .put-usize2 .ensures) (c .before .before .before .before .values-of .ensures) (c .before .before .before .put-values .ensures))
+returns c =
+    let said = answer-put (c .before .before .before .before .before .before .before .before .before .before .before .before .before .before .before .args .answer .now) (c .before .before .before .before .before .before .before .before .before .before .before .before .before .before .before .args .reply) (c .before .before .before .before .values-of .result) _ _ _ (c .before .before .before .before .before .before .before .before .before .before .before .before .before .before .before .pre) (c .before .before .before .before .before .before .before .before .before .before .before .before .put-usize .ensures) (c .before .before .before .before .before .before .before .before .put-usize2 .ensures) (c .before .before .before .before .values-of .ensures) (c .before .before .before .put-values .ensures) in
+    (c .number .ensures, said, answer-said (c .before .before .before .before .before .before .before .before .before .before .before .before .before .before .before .args .answer .now) _ (c .before .before .before .before .before .before .before .before .before .before .before .before .before .before .before .args .reply) (c .before .before .before .before .values-of .result) (c .before .before .before .before .before .before .before .before .before .before .before .before .before .before .before .pre) (search needs) (search needs) (search needs, search needs, search needs, search needs) (c .before .before .before .before .values-of .ensures) said)
 
 pub answered-spec : {M : Type 1} → statement M
 answered-spec =
