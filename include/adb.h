@@ -55,7 +55,7 @@
  *         if (said == ADB_DONE)
  *             consume(buf, adb_answer_length(answer));
  *         else if (said != ADB_WAITING)
- *             break;                                               (refused: said is the reason)
+ *             break;                                               // refused: said is the reason
  *         else if (used == 0)
  *             have += receive_some(fd, in + have, sizeof in - have);
  *     }
