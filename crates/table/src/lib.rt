@@ -100,14 +100,15 @@ pub fn place_below(state: &[u8], n: usize, want: Want) -> usize
     n
 }
 
-// The number after n, which is never 0.
+// The number after n: a wrapping add of 1, with 0 replaced by 1.
 pub fn next_local(n: u32) -> u32
     ensures { λ r. ⌜ r ≡ nextLocal n ⌝ }
 {
-    if n == 0xffff_ffff {
+    let next = std::num::wrapping_add_u32(n, 1);
+    if next == 0 {
         return 1;
     }
-    n + 1
+    next
 }
 
 // A header whose next number has moved on.
