@@ -73,7 +73,7 @@
 #include <stddef.h>
 #include <stdint.h>
 
-/* ---- limits, which adb_make tests */
+/* ---- limits, which adb_make tests; docs/LIMITS.md says how to choose them */
 
 #define ADB_MAX_CHANNELS 64
 #define ADB_MAX_PAYLOAD 1048576
