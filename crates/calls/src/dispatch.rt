@@ -51,9 +51,10 @@ fn dispatch_step(
             let fault = acted.fault;
             let header = acted.header;
             put_header(state, header);
+            let used = Packet::frame_len(packet.data_length);
             Reply {
                 answer: unless_fault(fault, Answer::Done),
-                used: 24 + packet.data_length,
+                used,
                 written: acted.end,
             }
         }

@@ -1,5 +1,5 @@
 -- What decoding bytes says of a packet, and which answers are never refusal 13. Assumes nothing.
-use mathlib.Core.Path.{_≡_, sym, subst, _∙_}
+use mathlib.Core.Path.{_≡_, refl, sym, subst, _∙_}
 use mathlib.Core.Bool.{not}
 use mathlib.Core.List.{List}
 use Prim.Native.Nat.{ℕ, _+_, _≤_, min}
@@ -26,6 +26,7 @@ use Rattle.slot.specs.declared.ChannelFault.{ChannelFault}
 use Rattle.slot.specs.declared.ChannelFault.the-variants.{RxOverflow, ShortReadyPayload as CreditShort, UnexpectedCommand as WriteEarly}
 use Rattle.slot.specs.declared.Failed.{Failed}
 use Rattle.slot.specs.declared.Failed.the-variants.{No, By}
+use Rattle.slot.specs.Numbers.{faultNumber, errorNumber}
 use Rattle.slot.proofs.Kept.{pick}
 use Rattle.connection.specs.declared.Answer.{Answer}
 use Rattle.connection.specs.declared.Answer.the-variants.{Refused}
@@ -51,6 +52,18 @@ pub error-fine : (x : ChannelError) → Admitted (Refused (errorRefusal x))
 unfolding errorRefusal numberOf refusalNumber
 error-fine ErrorClosed = (λ e. omega arith, λ e. omega arith)
 error-fine (Fault f) = fault-fine f
+
+-- a fault's and an error's refusal have their numbers
+pub fault-number : (f : ChannelFault) → refusalNumber (faultRefusal f) ≡ faultNumber f
+unfolding faultRefusal refusalNumber faultNumber
+fault-number RxOverflow = refl
+fault-number CreditShort = refl
+fault-number WriteEarly = refl
+
+pub error-number : (x : ChannelError) → refusalNumber (errorRefusal x) ≡ errorNumber x
+unfolding errorRefusal refusalNumber errorNumber
+error-number ErrorClosed = refl
+error-number (Fault f) = fault-number f
 
 pub unless-fine : (f : Failed) (a : Answer) → Admitted a → Admitted (unlessFault f a)
 unfolding unlessFault

@@ -1,1 +1,2 @@
 pub mod Incoming
+pub mod Numbers

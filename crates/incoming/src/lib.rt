@@ -11,6 +11,7 @@ ghost use Prim.Native.Nat.{_≤_};
 ghost use lib.ListN.{length, take, drop};
 ghost use Rattle.state.specs.Change.{Steps};
 ghost use Rattle.state.specs.State.{stateOf};
+ghost use Rattle.incoming.specs.Numbers.{pushedNumber, frontNumber};
 ghost use Rattle.incoming.specs.Incoming.{named, freeShare, staysBy, kept, withQueued, Retains, QueueOk, withdrawal, popped, PushRoom, Pushes, pushed};
 
 // Which of the waiting OPENs stay.
@@ -27,6 +28,31 @@ pub enum Pushed {
 pub enum Front {
     Open(PendingOpen, Header),
     Nothing,
+}
+
+// The scope document's number of each answer: an OPEN beyond the number of channels is answered by a CLSE and is no refusal of
+// the call; 101 for none waiting.
+
+impl Pushed {
+    pub fn number(self) -> u32
+        ensures { λ r. ⌜ r ≡ pushedNumber self ⌝ }
+    {
+        match self {
+            Pushed::Queued(_) => 0,
+            Pushed::Full => 0,
+        }
+    }
+}
+
+impl Front {
+    pub fn number(self) -> u32
+        ensures { λ r. ⌜ r ≡ frontNumber self ⌝ }
+    {
+        match self {
+            Front::Open(_, _) => 0,
+            Front::Nothing => 101,
+        }
+    }
 }
 
 // Whether one of the first `queued` uses share k.

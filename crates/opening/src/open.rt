@@ -120,7 +120,7 @@ fn open_ready(
     let ch = waited_for(h);
     let local = ch.local;
     let remote = RemoteId(packet.arg0);
-    let used = 24 + packet.data_length;
+    let used = Packet::frame_len(packet.data_length);
     let payload = Packet::payload(received, packet.data_length);
     let opening = ChannelSlot::opening(local);
     let readied = opening.accept_open_ready(remote, payload, n.rx_policy());
@@ -157,7 +157,7 @@ fn open_act(
     requires { ⌜ Admits (now state) (now rx) (now store) (length (now out)) × (h ≡ stateOf (now state) .header) × (receivedOf (lentOf (now state) (now rx) (now store)) (now received) ≡ PacketIs packet) ⌝ }
     ensures { λ r. ⌜ Leaves (agreedIn (now (state .entry))) (openActed (lentOf (now (state .entry)) (now (rx .entry)) (now (store .entry))) (frameLen packet) (actOn (stateOf (now (state .entry)) .header) (stateOf (now (state .entry)) .slots) (stateOf (now (state .entry)) .opens) (now (rx .entry)) (now (store .entry)) packet (bodyOf (now (received .entry)) packet))) 0 (now (state .entry)) (now (out .entry)) [] r (now (state .exit)) (now (rx .exit)) (now (store .exit)) (now (out .exit)) [] ⌝ }
 {
-    let used = 24 + packet.data_length;
+    let used = Packet::frame_len(packet.data_length);
     let payload = Packet::payload(received, packet.data_length);
     let acted = act_on(state, rx, store, out, 0, h, packet, payload);
     let fault = acted.fault;
@@ -192,17 +192,19 @@ fn open_packet(
     }
     if is_own(is_write(command), packet.arg1, local) {
         let end = close_open(state, out, h, packet.arg0);
+        let used = Packet::frame_len(packet.data_length);
         return Reply {
             answer: Answer::Refused(Refusal::UnexpectedCommand),
-            used: 24 + packet.data_length,
+            used,
             written: end,
         };
     }
     if is_own(is_close(command), packet.arg1, local) {
         put_header(state, drop_waiting(h));
+        let used = Packet::frame_len(packet.data_length);
         return Reply {
             answer: Answer::Refused(Refusal::ChannelClosed),
-            used: 24 + packet.data_length,
+            used,
             written: 0,
         };
     }

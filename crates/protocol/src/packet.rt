@@ -138,6 +138,14 @@ impl Packet {
         }
     }
 
+    // The length of a frame whose payload has these many bytes.
+    pub fn frame_len(data_length: usize) -> usize
+        requires { ⌜ data_length ≤ 1_048_576 ⌝ }
+        ensures { λ r. ⌜ r ≡ 24 + data_length ⌝ }
+    {
+        Packet::MESSAGE_SIZE + data_length
+    }
+
     // The frame that received bytes begin with, or why there is none.
     pub fn decode(received: &[u8], max_payload: u32) -> Decoded
         ensures { λ r. ⌜ r ≡ decodeOf (now (received .entry)) «max_payload» ⌝ }

@@ -212,7 +212,7 @@ fn read_packet(
     ensures { λ r. ⌜ Leaves (agreedIn (now (state .entry))) (readBy (lentOf (now (state .entry)) (now (rx .entry)) (now (store .entry))) ch (length (now (buf .entry))) (begun h (lentOf (now (state .entry)) (now (rx .entry)) (now (store .entry)))) s (now (received .entry)) (PacketIs packet)) at (now (state .entry)) (now (out .entry)) (now (buf .entry)) r (now (state .exit)) (now (rx .exit)) (now (store .exit)) (now (out .exit)) (now (buf .exit)) ⌝ }
 {
     let payload = Packet::payload(received, packet.data_length);
-    let used = 24 + packet.data_length;
+    let used = Packet::frame_len(packet.data_length);
     if is_direct(s, buf.len(), packet) {
         return read_direct(state, ch, s, used, payload, out, at, buf, h);
     }

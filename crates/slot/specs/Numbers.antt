@@ -1,4 +1,5 @@
--- Document 01's numbers of a slot's answers: a refusal's own, 0 for done, 101 for nothing there. Assumes nothing.
+-- Document 01's numbers of a slot's answers: a refusal's own, 0 for none, 100 for waiting, 101 for nothing there. Assumes
+-- nothing.
 use Prim.Native.Nat.{ℕ}
 use Rattle.slot.specs.declared.Credit.{Credit}
 use Rattle.slot.specs.declared.Credit.the-variants.{Of, Short}
@@ -10,6 +11,8 @@ use Rattle.slot.specs.declared.Readied.{Readied}
 use Rattle.slot.specs.declared.Readied.the-variants.{Slot, Short as ReadyShort}
 use Rattle.slot.specs.declared.AckDecision.{AckDecision}
 use Rattle.slot.specs.declared.AckDecision.the-variants.{Now, Hold, Overflow, Early}
+use Rattle.slot.specs.declared.Budget.{Budget}
+use Rattle.slot.specs.declared.Budget.the-variants.{Bytes, Nothing as NoBudget}
 use Rattle.slot.specs.declared.Taken.{Taken}
 use Rattle.slot.specs.declared.Taken.the-variants.{Data, Nothing as NothingTaken, Closed as ClosedTaken}
 
@@ -46,3 +49,8 @@ unfoldable pub takenNumber : Taken → ℕ
 takenNumber (Data s n) = 0
 takenNumber NothingTaken = 101
 takenNumber (ClosedTaken e) = errorNumber e
+
+-- 100: nothing may be sent now
+unfoldable pub budgetNumber : Budget → ℕ
+budgetNumber (Bytes n) = 0
+budgetNumber NoBudget = 100

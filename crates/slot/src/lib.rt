@@ -8,6 +8,7 @@ use ids::RemoteId;
 ghost use mathlib.Core.Path.{_≡_};
 ghost use Prim.Native.Nat.{_≤_, min};
 ghost use lib.IntN.{ℤ, pos};
+ghost use Rattle.slot.specs.Numbers.{creditNumber, readiedNumber, decisionNumber, faultNumber, errorNumber, takenNumber, budgetNumber};
 ghost use Rattle.slot.specs.Slot.{creditOf, emptySlot, openingSlot, acceptedSlot, isOpening, isClosed, isFailed, idsOf, errorOf, openedOf, readyOf, heldOf, acksNow, bufferedWith, wroteOf, someLen, deliveredOf, ackLenOf, isAck, hasData, settledSome, settledOf, takeLen, tookOf, takenOf, budgetOf, spentOf, refundedOf, reservedOf, takeAcks, closedSlot, failedSlot, withState, withRemote, withSending, withNumbers, slotOk, SlotOk};
 
 // The credit that a delayed OKAY carries.
@@ -125,6 +126,89 @@ pub enum Budget {
 pub enum Reserved {
     Bytes(ChannelSlot, usize),
     Nothing,
+}
+
+// The scope document's number of each answer: a refusal's own, 0 where there is none, 100 for waiting, 101 for nothing there.
+
+impl Credit {
+    pub fn number(self) -> u32
+        ensures { λ r. ⌜ r ≡ creditNumber self ⌝ }
+    {
+        match self {
+            Credit::Of(_) => 0,
+            Credit::Short => 5,
+        }
+    }
+}
+
+impl Readied {
+    pub fn number(self) -> u32
+        ensures { λ r. ⌜ r ≡ readiedNumber self ⌝ }
+    {
+        match self {
+            Readied::Slot(_) => 0,
+            Readied::Short => 5,
+        }
+    }
+}
+
+impl AckDecision {
+    pub fn number(self) -> u32
+        ensures { λ r. ⌜ r ≡ decisionNumber self ⌝ }
+    {
+        match self {
+            AckDecision::Now(_) => 0,
+            AckDecision::Hold => 0,
+            AckDecision::Overflow => 11,
+            AckDecision::Early => 6,
+        }
+    }
+}
+
+impl ChannelFault {
+    pub fn number(self) -> u32
+        ensures { λ r. ⌜ r ≡ faultNumber self ⌝ }
+    {
+        match self {
+            ChannelFault::RxOverflow => 11,
+            ChannelFault::ShortReadyPayload => 5,
+            ChannelFault::UnexpectedCommand => 6,
+        }
+    }
+}
+
+impl ChannelError {
+    pub fn number(self) -> u32
+        ensures { λ r. ⌜ r ≡ errorNumber self ⌝ }
+    {
+        match self {
+            ChannelError::Closed => 10,
+            ChannelError::Fault(fault) => fault.number(),
+        }
+    }
+}
+
+impl Taken {
+    pub fn number(self) -> u32
+        ensures { λ r. ⌜ r ≡ takenNumber self ⌝ }
+    {
+        match self {
+            Taken::Data(_, _) => 0,
+            Taken::Nothing => 101,
+            Taken::Closed(error) => error.number(),
+        }
+    }
+}
+
+impl Budget {
+    pub fn number(self) -> u32
+        ensures { λ r. ⌜ r ≡ budgetNumber self ⌝ }
+    {
+        match self {
+            Budget::Bytes(_) => 0,
+            Budget::Nothing => 100,
+        }
+    }
 }
 
 // The first four bytes of an OKAY's payload, signed.

@@ -5,6 +5,7 @@ use crate::header_of;
 use crate::open_at;
 use crate::slot_at;
 use crate::slot_of;
+use protocol::packet::Packet;
 ghost use mathlib.Core.Path.{_≡_};
 ghost use Prim.Native.Nat.{_+_, _-_, _*_, _≤_, _<_};
 ghost use lib.ListN.{length, take, drop};
@@ -120,7 +121,7 @@ fn header_fine(h: Header) -> bool
     let negotiated = h.negotiated;
     let config = negotiated.config;
     if config.within_limits() {
-        if negotiated.max_payload > 1_048_576 {
+        if negotiated.max_payload > Packet::MAX_PAYLOAD {
             return false;
         }
         if negotiated.protocol_version > 0x0100_0001 {

@@ -14,6 +14,7 @@ ghost use Prim.Native.Nat.{_≤_};
 ghost use lib.ListN.{length};
 ghost use Rattle.state.specs.State.{stateOf};
 ghost use Rattle.table.specs.declared.Want.the-variants.{Local, Remote};
+ghost use Rattle.table.specs.Numbers.{allocatedNumber, outcomeNumber};
 ghost use Rattle.table.specs.Table.{wantedBy, placeOf, inUse, nextLocal, numbered, allocated};
 
 // A channel as its holder names it.
@@ -49,6 +50,37 @@ pub enum DispatchOutcome {
     // Refusals 5, 6 and 11: the slot, its numbers, and whether it still was opening.
     ChannelFault(usize, ChannelIds, bool, ChannelFault),
     Unmatched,
+}
+
+// The scope document's number of each answer: a refusal's own, 0 where there is none.
+
+impl Allocated {
+    pub fn number(self) -> u32
+        ensures { λ r. ⌜ r ≡ allocatedNumber self ⌝ }
+    {
+        match self {
+            Allocated::Channel(_) => 0,
+            Allocated::NoFree => 12,
+        }
+    }
+}
+
+impl DispatchOutcome {
+    pub fn number(self) -> u32
+        ensures { λ r. ⌜ r ≡ outcomeNumber self ⌝ }
+    {
+        match self {
+            DispatchOutcome::AckWrite(_, _, _) => 0,
+            DispatchOutcome::CreditGranted(_) => 0,
+            DispatchOutcome::SlotClosed(_) => 0,
+            DispatchOutcome::DataBuffered(_) => 0,
+            DispatchOutcome::IncomingOpen(_, _) => 0,
+            DispatchOutcome::CancelPendingOpen(_) => 0,
+            DispatchOutcome::StrayReady(_) => 0,
+            DispatchOutcome::ChannelFault(_, _, _, fault) => fault.number(),
+            DispatchOutcome::Unmatched => 0,
+        }
+    }
 }
 
 pub fn has_local(s: ChannelSlot, n: LocalId) -> bool

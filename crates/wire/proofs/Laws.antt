@@ -2,7 +2,7 @@
 --     comes-back   what is put at a place is decoded to the frame that was meant; okay-back, close-back: an OKAY, a CLSE
 --     okay-credit  the credit of a delayed OKAY is the length
 --     behind       a frame right behind another leaves it; first-back: which is decoded as before
-use mathlib.Core.Path.{_≡_, refl, ap, _∙_}
+use mathlib.Core.Path.{_≡_, refl, ap, subst, _∙_}
 use mathlib.Core.Bool.{Bool, true, false, cond}
 use mathlib.Core.List.{List, [], _∷_, _++_, append-assoc}
 use Prim.Native.Nat.{ℕ, _+_, _≤_, _<_, _^_, min}
@@ -15,8 +15,9 @@ use Rattle.le.proofs.Parts.{length-put, put-put, part-put-same, part-put-below}
 use Rattle.protocol.specs.declared.checksum.Checksum.{Checksum}
 use Rattle.protocol.specs.declared.command.Command.{Command}
 use Rattle.protocol.specs.declared.command.Command.the-variants.{Ready, Close}
+use Rattle.protocol.specs.declared.packet.Packet.{Packet}
 use Rattle.protocol.specs.Checksum.{checkFor}
-use Rattle.protocol.specs.Packet.{maxPayload, payloadOf, frameFor, Puts}
+use Rattle.protocol.specs.Packet.{maxPayload, emptyPacket, payloadOf, frameFor, Puts}
 use Rattle.protocol.proofs.PacketLaws.{frame-length}
 use Rattle.protocol.proofs.ChecksumLaws.{check-small}
 use Rattle.protocol.proofs.RoundTrip.{frame-payload, not-refused, own-check, Comes-back}
@@ -137,3 +138,9 @@ behind d at f g h =
       first = part-put-below (put d at f) (at + length f) g at (length f) (omega arith) (omega arith) ∙ part-put-same d at f (omega arith);
       second = part-put-same (put d at f) (at + length f) g (omega arith);
     }
+
+-- a frame with no payload, made by `Packet::empty`
+pub empty-puts : (d : List ℕ) (at : ℕ) (f : Packet) (c : Command) (a b : ℕ) (k : Checksum) (r : ℕ) (x : List ℕ) → f ≡ emptyPacket c a b
+    → Puts d at (frameFor (f .command) (f .arg0) (f .arg1) [] k) r x → Puts d at (frameFor c a b [] k) r x
+unfolding emptyPacket
+empty-puts d at f c a b k r x e p = subst (λ (g : Packet). Puts d at (frameFor (g .command) (g .arg0) (g .arg1) [] k) r x) e p

@@ -11,18 +11,20 @@ ghost use Rattle.protocol.specs.Packet.{frameFor, Room, Puts};
 ghost use Rattle.wire.specs.Wire.{okayBytes, closeBytes, openBytes, writeBytes};
 
 // A frame with no payload.
-fn put_empty(
-    out: &mut [u8],
-    at: usize,
-    command: Command,
-    arg0: u32,
-    arg1: u32,
-    checksum: Checksum,
-) -> usize
+fn put_empty(out: &mut [u8], at: usize, frame: Packet, checksum: Checksum) -> usize
     requires { ⌜ at + 24 ≤ length (now out) ⌝ }
-    ensures { λ r. ⌜ Puts (now (out .entry)) at (frameFor command arg0 arg1 [] checksum) r (now (out .exit)) ⌝ }
+    ensures { λ r. ⌜ Puts (now (out .entry)) at (frameFor (frame .command) (frame .arg0) (frame .arg1) [] checksum) r (now (out .exit)) ⌝ }
 {
-    Packet::put_at(out, at, command, arg0, arg1, &[0u8; 0], checksum)
+    let command = frame.command;
+    Packet::put_at(
+        out,
+        at,
+        command,
+        frame.arg0,
+        frame.arg1,
+        &[0u8; 0],
+        checksum,
+    )
 }
 
 // An OKAY: with the acknowledged length where acknowledgements are delayed, with no payload otherwise.
@@ -52,7 +54,8 @@ pub fn send_okay(
             checksum,
         );
     }
-    put_empty(out, at, Command::Ready, local.0, remote.0, checksum)
+    let frame = Packet::empty(Command::Ready, local.0, remote.0);
+    put_empty(out, at, frame, checksum)
 }
 
 // A CLSE for a channel.
@@ -62,7 +65,8 @@ pub fn send_close(out: &mut [u8], at: usize, ids: ChannelIds, checksum: Checksum
 {
     let local = ids.local;
     let remote = ids.remote;
-    put_empty(out, at, Command::Close, local.0, remote.0, checksum)
+    let frame = Packet::empty(Command::Close, local.0, remote.0);
+    put_empty(out, at, frame, checksum)
 }
 
 // An OPEN, with the credit that we give the device.

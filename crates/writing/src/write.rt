@@ -65,7 +65,7 @@ fn send_some(
 {
     let n = h.negotiated;
     let len = send_len(bytes.len(), n.max_payload, most);
-    if out.len() < 24 + len {
+    if out.len() < Packet::MESSAGE_SIZE + len {
         return refused(Refusal::OutShort);
     }
     let end = put_write(out, 0, n, ids_in(s), &bytes[0..len]);
@@ -160,7 +160,7 @@ fn write_packet(
     ensures { λ r. ⌜ Leaves (agreedIn (now (state .entry))) (writeBy (lentOf (now (state .entry)) (now (rx .entry)) (now (store .entry))) ch (length (now (out .entry))) (now (bytes .entry)) (starts (now (state .entry)) (now (rx .entry)) (now (store .entry))) s (now (received .entry)) (PacketIs packet)) 0 (now (state .entry)) (now (out .entry)) [] r (now (state .exit)) (now (rx .exit)) (now (store .exit)) (now (out .exit)) [] ⌝ }
 {
     let payload = Packet::payload(received, packet.data_length);
-    let used = 24 + packet.data_length;
+    let used = Packet::frame_len(packet.data_length);
     let command = packet.command;
     let local = s.local;
     if is_own(is_ready(command), packet.arg1, local) {

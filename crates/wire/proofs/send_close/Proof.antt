@@ -1,17 +1,29 @@
+use Rattle.wire.proofs.Laws.{empty-puts}
 use Rattle.wire.specs.Wire.{closeBytes}
 use borrow.Author.Needs.{needs}
 use Rattle.wire.proofs.send_close.Statement.{statement}
 use Rattle.wire.proofs.send_close.Tie as tie
+use Rattle.wire.proofs.send_close.Reads as reads
+use Rattle.wire.proofs.send_close.Lts as lts
+use Rattle.protocol.proofs.packet.Packet.empty.Reads as empty-reads
+use Rattle.wire.proofs.put_empty.Reads as put-empty-reads
 
+-- src/lib.rt:60:9
+empty-requires : tie.Need-empty-requires
+empty-requires c κs = search needs
+
+-- src/lib.rt:61:5
 put-empty-requires : tie.Need-put-empty-requires
 put-empty-requires c κs = search needs
 
+-- src/lib.rt:54:1
 same-length : tie.Need-same-length
 same-length c = search needs
 
+-- src/lib.rt:54:1
 returns : tie.Need-returns
 unfolding closeBytes
-returns c = c .before .before .put-empty .ensures
+returns c = empty-puts _ _ _ _ _ _ _ _ _ (c .before .before .before .before .empty .ensures) (c .before .before .put-empty .ensures)
 
 pub send-close-spec : {M : Type 1} → statement M
-send-close-spec = tie.close (tie.spec put-empty-requires same-length returns)
+send-close-spec = tie.close (tie.spec empty-requires put-empty-requires same-length returns)

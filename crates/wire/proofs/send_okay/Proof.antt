@@ -1,4 +1,4 @@
-use Rattle.wire.proofs.Laws.{delayed-okay, classic-okay}
+use Rattle.wire.proofs.Laws.{delayed-okay, classic-okay, empty-puts}
 use borrow.Author.Needs.{needs}
 use Rattle.wire.proofs.send_okay.Statement.{statement}
 use Rattle.wire.proofs.send_okay.Tie as tie
@@ -23,6 +23,9 @@ returns c =
     let a = c .before .before .before .before .before .before .before .before .before .before .before .before .args in
     delayed-okay _ _ _ _ _ (a .len) (a .ids) (a .delayed) _ (c .before .before .before .before .before .before .before .before .if1 .taken) (c .before .before .before .before .before .before .put-u32 .ensures) (c .before .before .put-at .ensures)
 
+empty-requires : tie.Need-empty-requires
+empty-requires c κs = search needs
+
 put-empty-requires : tie.Need-put-empty-requires
 put-empty-requires c κs = search needs
 
@@ -31,8 +34,9 @@ same-length-2 c = search needs
 
 returns-2 : tie.Need-returns-2
 returns-2 c =
-    let a = c .before .before .before .before .before .before .before .before .args in
-    classic-okay _ _ _ _ (a .len) (a .ids) (a .delayed) _ (c .before .before .before .before .if1 .left) (c .before .before .put-empty .ensures)
+    let a = c .before .before .before .before .before .before .before .before .before .args in
+    classic-okay _ _ _ _ (a .len) (a .ids) (a .delayed) _ (c .before .before .before .before .before .if1 .left)
+    (empty-puts _ _ _ _ _ _ _ _ _ (c .before .before .before .before .empty .ensures) (c .before .before .put-empty .ensures))
 
 pub send-okay-spec : {M : Type 1} → statement M
 send-okay-spec =
@@ -44,6 +48,7 @@ send-okay-spec =
     put-at-requires
     same-length
     returns
+    empty-requires
     put-empty-requires
     same-length-2
     returns-2)

@@ -1,12 +1,14 @@
+use Prim.Native.Nat.{ℕ}
 use Rattle.calls.proofs.CallLaws.{call-room, dispatch-stops, dispatch-acts}
 use Rattle.connection.proofs.Decoding.{packet-room}
 use native.Mathlib.Omega.{arith}
-use mathlib.Core.Path.{refl}
+use mathlib.Core.Path.{ap, refl}
 use borrow.Author.Needs.{needs}
 use Rattle.calls.proofs.dispatch.dispatch_step.Statement.{statement}
 use Rattle.calls.proofs.dispatch.dispatch_step.Tie as tie
 use Rattle.calls.proofs.dispatch.dispatch_step.Reads as reads
 use Rattle.calls.proofs.dispatch.dispatch_step.Lts as lts
+use Rattle.protocol.proofs.packet.Packet.frame_len.Reads as frame-len-reads
 use Rattle.calls.proofs.act.act_on.Reads as act-on-reads
 use Rattle.calls.proofs.recv.recv_pkt.Reads as recv-pkt-reads
 use Rattle.calls.proofs.recv.unless_fault.Reads as unless-fault-reads
@@ -41,13 +43,12 @@ act-on-requires c κs = let k = c .before .before .before .before .before .befor
 put-header-requires-2 : tie.Need-put-header-requires-2
 put-header-requires-2 c κs = omega (arith, c .before .before .before .before .before .before .before .before .before .before .before .before .before .before .before .before .before .before .before .before .before .before .before .before .before .before .before .pre, c .before .before .before .before .before .before .before .before .before .state2 .given)
 
+frame-len-requires : tie.Need-frame-len-requires
+frame-len-requires c κs = (packet-room (c .before .before .before .before .before .before .before .before .before .before .before .before .before .before .before .before .before .before .before .before .before .before .before .before .before .before .before .before .before .before .args .received .now) (c .before .before .before .before .before .before .before .before .before .before .before .before .before .before .before .before .before .before .before .before .before .before .before .before .before .before .before .before .before .before .args .h .negotiated .config .«max_payload») (c .before .before .before .before .before .before .before .before .before .before .before .before .before .before .before .before .before .before .before .before .before .before .recv-pkt .result) _ (c .before .before .before .before .before .before .before .before .before .before .before .before .before .before .before .before .before .before .before .before .before .before .recv-pkt .ensures) (c .before .before .before .before .before .before .before .before .before .before .before .before .before .before .before .before .before .before .before .before .found2 .given .1)) .most
+
 -- src/dispatch.rt:53:25
 unless-fault-requires : tie.Need-unless-fault-requires
 unless-fault-requires c κs = search needs
-
--- src/dispatch.rt:54:23
-add-t34 : tie.Need-add-t34
-add-t34 c = let k = (packet-room (c .before .before .before .before .before .before .before .before .before .before .before .before .before .before .before .before .before .before .before .before .before .before .before .before .before .before .before .before .before .before .before .before .args .received .now) (c .before .before .before .before .before .before .before .before .before .before .before .before .before .before .before .before .before .before .before .before .before .before .before .before .before .before .before .before .before .before .before .before .args .h .negotiated .config .«max_payload») (c .before .before .before .before .before .before .before .before .before .before .before .before .before .before .before .before .before .before .before .before .before .before .before .before .recv-pkt .result) _ (c .before .before .before .before .before .before .before .before .before .before .before .before .before .before .before .before .before .before .before .before .before .before .before .before .recv-pkt .ensures) (c .before .before .before .before .before .before .before .before .before .before .before .before .before .before .before .before .before .before .before .before .before .before .found2 .given .1)) .most in omega arith
 
 -- src/dispatch.rt:23:1
 same-length : tie.Need-same-length
@@ -75,7 +76,7 @@ same-length-5 c = search needs
 
 -- src/dispatch.rt:23:1
 returns-2 : tie.Need-returns-2
-returns-2 c = dispatch-acts (c .before .before .before .before .before .before .before .before .before .before .before .before .before .before .before .before .before .before .before .before .before .before .before .before .before .before .before .before .before .before .before .before .args .state .now) (c .before .before .before .before .before .before .before .before .before .before .before .before .before .before .before .before .before .before .before .before .before .before .before .before .before .before .before .before .before .before .before .before .args .rx .now) (c .before .before .before .before .before .before .before .before .before .before .before .before .before .before .before .before .before .before .before .before .before .before .before .before .before .before .before .before .before .before .before .before .args .store .now) (c .before .before .before .before .before .before .before .before .before .before .before .before .before .before .before .before .before .before .before .before .before .before .before .before .before .before .before .before .before .before .before .before .args .out .now) (c .before .before .before .before .before .before .before .before .before .before .before .before .before .before .before .before .before .before .before .before .before .before .before .before .before .before .before .before .before .before .before .before .args .h) (c .before .before .before .before .before .before .before .before .before .before .before .before .before .before .before .before .before .before .before .before .before .before .before .before .before .before .before .before .before .before .before .before .pre .1) (c .before .before .before .before .before .before .before .before .before .before .before .before .before .before .before .before .before .before .before .before .before .before .before .before .before .before .before .before .before .before .before .before .args .received .now) (c .before .before .before .before .before .before .before .before .before .before .before .before .before .before .before .before .before .before .before .before .before .before .before .before .recv-pkt .result) (c .before .before .before .before .before .before .before .before .before .before .before .before .before .before .before .before .before .before .before .before .before .before .before .before .recv-pkt .ensures) _ (c .before .before .before .before .before .before .before .before .before .before .before .before .before .before .before .before .before .before .before .before .payload .result .now) (c .before .before .before .before .before .before .before .before .before .before .before .before .before .before .before .act-on .result) (c .before .unless-fault .result) _ _ _ _ _ _ (c .before .before .before .before .before .before .before .before .before .before .before .before .before .before .before .before .before .before .before .before .before .before .found2 .given .1) (c .before .before .before .before .before .before .before .before .before .before .before .before .before .before .before .before .before .before .before .before .payload .ensures) (c .before .before .before .before .before .before .before .before .before .before .before .before .before .before .before .act-on .ensures) (c .before .unless-fault .ensures) (c .before .before .before .before .put-header2 .ensures) refl
+returns-2 c = dispatch-acts (c .before .before .before .before .before .before .before .before .before .before .before .before .before .before .before .before .before .before .before .before .before .before .before .before .before .before .before .before .before .before .before .before .args .state .now) (c .before .before .before .before .before .before .before .before .before .before .before .before .before .before .before .before .before .before .before .before .before .before .before .before .before .before .before .before .before .before .before .before .args .rx .now) (c .before .before .before .before .before .before .before .before .before .before .before .before .before .before .before .before .before .before .before .before .before .before .before .before .before .before .before .before .before .before .before .before .args .store .now) (c .before .before .before .before .before .before .before .before .before .before .before .before .before .before .before .before .before .before .before .before .before .before .before .before .before .before .before .before .before .before .before .before .args .out .now) (c .before .before .before .before .before .before .before .before .before .before .before .before .before .before .before .before .before .before .before .before .before .before .before .before .before .before .before .before .before .before .before .before .args .h) (c .before .before .before .before .before .before .before .before .before .before .before .before .before .before .before .before .before .before .before .before .before .before .before .before .before .before .before .before .before .before .before .before .pre .1) (c .before .before .before .before .before .before .before .before .before .before .before .before .before .before .before .before .before .before .before .before .before .before .before .before .before .before .before .before .before .before .before .before .args .received .now) (c .before .before .before .before .before .before .before .before .before .before .before .before .before .before .before .before .before .before .before .before .before .before .before .before .recv-pkt .result) (c .before .before .before .before .before .before .before .before .before .before .before .before .before .before .before .before .before .before .before .before .before .before .before .before .recv-pkt .ensures) _ (c .before .before .before .before .before .before .before .before .before .before .before .before .before .before .before .before .before .before .before .before .payload .result .now) (c .before .before .before .before .before .before .before .before .before .before .before .before .before .before .before .act-on .result) (c .unless-fault .result) _ _ _ _ _ _ (c .before .before .before .before .before .before .before .before .before .before .before .before .before .before .before .before .before .before .before .before .before .before .found2 .given .1) (c .before .before .before .before .before .before .before .before .before .before .before .before .before .before .before .before .before .before .before .before .payload .ensures) (c .before .before .before .before .before .before .before .before .before .before .before .before .before .before .before .act-on .ensures) (c .unless-fault .ensures) (c .before .before .before .before .put-header2 .ensures) (ap (λ (x : ℕ). record { answer = c .unless-fault .result; used = x; written = c .before .before .before .before .before .before .before .before .before .before .before .before .before .before .before .act-on .result .end }) (c .before .frame-len .ensures))
 
 pub dispatch-step-spec : {M : Type 1} → statement M
 dispatch-step-spec =
@@ -88,8 +89,8 @@ dispatch-step-spec =
     payload-requires
     act-on-requires
     put-header-requires-2
+    frame-len-requires
     unless-fault-requires
-    add-t34
     same-length
     returns
     same-length-2

@@ -1,11 +1,15 @@
+use Rattle.connection.specs.declared.Refusal.the-variants.{UnexpectedCommand, ChannelClosed}
+use Rattle.connection.specs.declared.Answer.the-variants.{Refused}
+use Prim.Native.Nat.{ℕ}
 use Rattle.opening.proofs.OpenLaws.{packet-fits, own-is, packet-ready, packet-acts, packet-early, packet-closes}
 use native.Mathlib.Omega.{arith}
-use mathlib.Core.Path.{refl, sym, _∙_}
+use mathlib.Core.Path.{sym, _∙_, ap}
 use borrow.Author.Needs.{needs}
 use Rattle.opening.proofs.open.open_packet.Statement.{statement}
 use Rattle.opening.proofs.open.open_packet.Tie as tie
 use Rattle.opening.proofs.open.open_packet.Reads as reads
 use Rattle.opening.proofs.open.open_packet.Lts as lts
+use Rattle.protocol.proofs.packet.Packet.frame_len.Reads as frame-len-reads
 use Rattle.calls.proofs.admit.drop_waiting.Reads as drop-waiting-reads
 use Rattle.opening.proofs.open.close_open.Reads as close-open-reads
 use Rattle.calls.proofs.recv.is_own.Reads as is-own-reads
@@ -66,8 +70,8 @@ close-open-requires : tie.Need-close-open-requires
 close-open-requires c κs = search needs
 
 -- src/open.rt:208:19
-add-t29 : tie.Need-add-t29
-add-t29 c = let k = (packet-fits (c .before .before .before .before .before .before .before .before .before .before .before .before .before .before .before .before .before .before .before .before .before .args .state .now) (c .before .before .before .before .before .before .before .before .before .before .before .before .before .before .before .before .before .before .before .before .before .args .rx .now) (c .before .before .before .before .before .before .before .before .before .before .before .before .before .before .before .before .before .before .before .before .before .args .store .now) (c .before .before .before .before .before .before .before .before .before .before .before .before .before .before .before .before .before .before .before .before .before .args .out .now) (c .before .before .before .before .before .before .before .before .before .before .before .before .before .before .before .before .before .before .before .before .before .args .h) (c .before .before .before .before .before .before .before .before .before .before .before .before .before .before .before .before .before .before .before .before .before .pre .1) (c .before .before .before .before .before .before .before .before .before .before .before .before .before .before .before .before .before .before .before .before .before .args .received .now) (c .before .before .before .before .before .before .before .before .before .before .before .before .before .before .before .before .before .before .before .before .before .args .packet) (c .before .before .before .before .before .before .before .before .before .before .before .before .before .before .before .before .before .before .before .before .before .pre .3)) .most in omega arith
+frame-len-requires : tie.Need-frame-len-requires
+frame-len-requires c κs = (packet-fits (c .before .before .before .before .before .before .before .before .before .before .before .before .before .before .before .before .before .before .before .before .args .state .now) (c .before .before .before .before .before .before .before .before .before .before .before .before .before .before .before .before .before .before .before .before .args .rx .now) (c .before .before .before .before .before .before .before .before .before .before .before .before .before .before .before .before .before .before .before .before .args .store .now) (c .before .before .before .before .before .before .before .before .before .before .before .before .before .before .before .before .before .before .before .before .args .out .now) (c .before .before .before .before .before .before .before .before .before .before .before .before .before .before .before .before .before .before .before .before .args .h) (c .before .before .before .before .before .before .before .before .before .before .before .before .before .before .before .before .before .before .before .before .pre .1) (c .before .before .before .before .before .before .before .before .before .before .before .before .before .before .before .before .before .before .before .before .args .received .now) (c .before .before .before .before .before .before .before .before .before .before .before .before .before .before .before .before .before .before .before .before .args .packet) (c .before .before .before .before .before .before .before .before .before .before .before .before .before .before .before .before .before .before .before .before .pre .3)) .most
 
 -- src/open.rt:206:9
 same-length-5 : tie.Need-same-length-5
@@ -79,7 +83,7 @@ same-length-6 c = search needs
 
 -- src/open.rt:206:9
 returns-2 : tie.Need-returns-2
-returns-2 c = packet-early (c .before .before .before .before .before .before .before .before .before .before .before .before .before .before .before .before .before .before .before .before .before .args .state .now) (c .before .before .before .before .before .before .before .before .before .before .before .before .before .before .before .before .before .before .before .before .before .args .rx .now) (c .before .before .before .before .before .before .before .before .before .before .before .before .before .before .before .before .before .before .before .before .before .args .store .now) (c .before .before .before .before .before .before .before .before .before .before .before .before .before .before .before .before .before .before .before .before .before .args .out .now) (c .before .before .before .before .before .before .before .before .before .before .before .before .before .before .before .before .before .before .before .before .before .args .h) (c .before .before .before .before .before .before .before .before .before .before .before .before .before .before .before .before .before .before .before .before .before .pre .1) (c .before .before .before .before .before .before .before .before .before .before .before .before .before .before .before .before .before .before .before .before .before .args .received .now) (c .before .before .before .before .before .before .before .before .before .before .before .before .before .before .before .before .before .before .before .before .before .args .packet) _ _ _ _ (c .before .before .before .before .before .before .before .before .before .before .before .before .before .before .before .before .before .before .before .before .before .pre .0 .room) (sym (own-is (c .before .before .before .before .before .before .before .before .before .before .before .before .before .before .before .before .before .before .before .before .before .args .state .now) (c .before .before .before .before .before .before .before .before .before .before .before .before .before .before .before .before .before .before .before .before .before .args .rx .now) (c .before .before .before .before .before .before .before .before .before .before .before .before .before .before .before .before .before .before .before .before .before .args .store .now) (c .before .before .before .before .before .before .before .before .before .before .before .before .before .before .before .before .before .before .before .before .before .args .out .now) (c .before .before .before .before .before .before .before .before .before .before .before .before .before .before .before .before .before .before .before .before .before .args .h) (c .before .before .before .before .before .before .before .before .before .before .before .before .before .before .before .before .before .before .before .before .before .pre .1) (c .before .before .before .before .before .before .before .before .before .before .before .before .before .before .before .before .before .before .before .before .before .args .received .now) (c .before .before .before .before .before .before .before .before .before .before .before .before .before .before .before .before .before .before .before .before .before .args .packet) (c .before .before .before .before .before .before .before .before .before .before .before .before .is-own .result) (c .before .before .before .before .before .before .before .before .before .before .before .before .before .is-ready .result) _ (c .before .before .before .before .before .before .before .before .before .before .before .before .before .before .before .waited-for .result) (c .before .before .before .before .before .before .before .before .before .before .before .before .before .before .before .waited-for .ensures) (c .before .before .before .before .before .before .before .before .before .before .before .before .before .is-ready .ensures) (c .before .before .before .before .before .before .before .before .before .before .before .before .is-own .ensures)) ∙ c .before .before .before .before .before .before .before .before .before .before .before .if1 .left) (sym (own-is (c .before .before .before .before .before .before .before .before .before .before .before .before .before .before .before .before .before .before .before .before .before .args .state .now) (c .before .before .before .before .before .before .before .before .before .before .before .before .before .before .before .before .before .before .before .before .before .args .rx .now) (c .before .before .before .before .before .before .before .before .before .before .before .before .before .before .before .before .before .before .before .before .before .args .store .now) (c .before .before .before .before .before .before .before .before .before .before .before .before .before .before .before .before .before .before .before .before .before .args .out .now) (c .before .before .before .before .before .before .before .before .before .before .before .before .before .before .before .before .before .before .before .before .before .args .h) (c .before .before .before .before .before .before .before .before .before .before .before .before .before .before .before .before .before .before .before .before .before .pre .1) (c .before .before .before .before .before .before .before .before .before .before .before .before .before .before .before .before .before .before .before .before .before .args .received .now) (c .before .before .before .before .before .before .before .before .before .before .before .before .before .before .before .before .before .before .before .before .before .args .packet) (c .before .before .before .before .before .before .before .before .before .is-own2 .result) (c .before .before .before .before .before .before .before .before .before .before .is-write .result) _ (c .before .before .before .before .before .before .before .before .before .before .before .before .before .before .before .waited-for .result) (c .before .before .before .before .before .before .before .before .before .before .before .before .before .before .before .waited-for .ensures) (c .before .before .before .before .before .before .before .before .before .before .is-write .ensures) (c .before .before .before .before .before .before .before .before .before .is-own2 .ensures)) ∙ c .before .before .before .before .before .before .before .before .if2 .taken) (c .before .before .before .before .before .close-open .ensures .0) (c .before .before .before .before .before .close-open .ensures .1) refl
+returns-2 c = packet-early (c .before .before .before .before .before .before .before .before .before .before .before .before .before .before .before .before .before .before .before .before .before .args .state .now) (c .before .before .before .before .before .before .before .before .before .before .before .before .before .before .before .before .before .before .before .before .before .args .rx .now) (c .before .before .before .before .before .before .before .before .before .before .before .before .before .before .before .before .before .before .before .before .before .args .store .now) (c .before .before .before .before .before .before .before .before .before .before .before .before .before .before .before .before .before .before .before .before .before .args .out .now) (c .before .before .before .before .before .before .before .before .before .before .before .before .before .before .before .before .before .before .before .before .before .args .h) (c .before .before .before .before .before .before .before .before .before .before .before .before .before .before .before .before .before .before .before .before .before .pre .1) (c .before .before .before .before .before .before .before .before .before .before .before .before .before .before .before .before .before .before .before .before .before .args .received .now) (c .before .before .before .before .before .before .before .before .before .before .before .before .before .before .before .before .before .before .before .before .before .args .packet) _ _ _ _ (c .before .before .before .before .before .before .before .before .before .before .before .before .before .before .before .before .before .before .before .before .before .pre .0 .room) (sym (own-is (c .before .before .before .before .before .before .before .before .before .before .before .before .before .before .before .before .before .before .before .before .before .args .state .now) (c .before .before .before .before .before .before .before .before .before .before .before .before .before .before .before .before .before .before .before .before .before .args .rx .now) (c .before .before .before .before .before .before .before .before .before .before .before .before .before .before .before .before .before .before .before .before .before .args .store .now) (c .before .before .before .before .before .before .before .before .before .before .before .before .before .before .before .before .before .before .before .before .before .args .out .now) (c .before .before .before .before .before .before .before .before .before .before .before .before .before .before .before .before .before .before .before .before .before .args .h) (c .before .before .before .before .before .before .before .before .before .before .before .before .before .before .before .before .before .before .before .before .before .pre .1) (c .before .before .before .before .before .before .before .before .before .before .before .before .before .before .before .before .before .before .before .before .before .args .received .now) (c .before .before .before .before .before .before .before .before .before .before .before .before .before .before .before .before .before .before .before .before .before .args .packet) (c .before .before .before .before .before .before .before .before .before .before .before .before .is-own .result) (c .before .before .before .before .before .before .before .before .before .before .before .before .before .is-ready .result) _ (c .before .before .before .before .before .before .before .before .before .before .before .before .before .before .before .waited-for .result) (c .before .before .before .before .before .before .before .before .before .before .before .before .before .before .before .waited-for .ensures) (c .before .before .before .before .before .before .before .before .before .before .before .before .before .is-ready .ensures) (c .before .before .before .before .before .before .before .before .before .before .before .before .is-own .ensures)) ∙ c .before .before .before .before .before .before .before .before .before .before .before .if1 .left) (sym (own-is (c .before .before .before .before .before .before .before .before .before .before .before .before .before .before .before .before .before .before .before .before .before .args .state .now) (c .before .before .before .before .before .before .before .before .before .before .before .before .before .before .before .before .before .before .before .before .before .args .rx .now) (c .before .before .before .before .before .before .before .before .before .before .before .before .before .before .before .before .before .before .before .before .before .args .store .now) (c .before .before .before .before .before .before .before .before .before .before .before .before .before .before .before .before .before .before .before .before .before .args .out .now) (c .before .before .before .before .before .before .before .before .before .before .before .before .before .before .before .before .before .before .before .before .before .args .h) (c .before .before .before .before .before .before .before .before .before .before .before .before .before .before .before .before .before .before .before .before .before .pre .1) (c .before .before .before .before .before .before .before .before .before .before .before .before .before .before .before .before .before .before .before .before .before .args .received .now) (c .before .before .before .before .before .before .before .before .before .before .before .before .before .before .before .before .before .before .before .before .before .args .packet) (c .before .before .before .before .before .before .before .before .before .is-own2 .result) (c .before .before .before .before .before .before .before .before .before .before .is-write .result) _ (c .before .before .before .before .before .before .before .before .before .before .before .before .before .before .before .waited-for .result) (c .before .before .before .before .before .before .before .before .before .before .before .before .before .before .before .waited-for .ensures) (c .before .before .before .before .before .before .before .before .before .before .is-write .ensures) (c .before .before .before .before .before .before .before .before .before .is-own2 .ensures)) ∙ c .before .before .before .before .before .before .before .before .if2 .taken) (c .before .before .before .before .before .close-open .ensures .0) (c .before .before .before .before .before .close-open .ensures .1) (ap (λ (x : ℕ). record { answer = Refused UnexpectedCommand; used = x; written = c .before .before .before .before .before .close-open .result }) (c .frame-len .ensures))
 
 -- src/open.rt:212:15
 is-close-requires : tie.Need-is-close-requires
@@ -98,8 +102,8 @@ put-header-requires : tie.Need-put-header-requires
 put-header-requires c κs = omega (arith, c .before .before .before .before .before .before .before .before .before .before .before .before .before .before .before .before .before .before .pre)
 
 -- src/open.rt:216:19
-add-t37 : tie.Need-add-t37
-add-t37 c = let k = (packet-fits (c .before .before .before .before .before .before .before .before .before .before .before .before .before .before .before .before .before .before .before .before .before .before .args .state .now) (c .before .before .before .before .before .before .before .before .before .before .before .before .before .before .before .before .before .before .before .before .before .before .args .rx .now) (c .before .before .before .before .before .before .before .before .before .before .before .before .before .before .before .before .before .before .before .before .before .before .args .store .now) (c .before .before .before .before .before .before .before .before .before .before .before .before .before .before .before .before .before .before .before .before .before .before .args .out .now) (c .before .before .before .before .before .before .before .before .before .before .before .before .before .before .before .before .before .before .before .before .before .before .args .h) (c .before .before .before .before .before .before .before .before .before .before .before .before .before .before .before .before .before .before .before .before .before .before .pre .1) (c .before .before .before .before .before .before .before .before .before .before .before .before .before .before .before .before .before .before .before .before .before .before .args .received .now) (c .before .before .before .before .before .before .before .before .before .before .before .before .before .before .before .before .before .before .before .before .before .before .args .packet) (c .before .before .before .before .before .before .before .before .before .before .before .before .before .before .before .before .before .before .before .before .before .before .pre .3)) .most in omega arith
+frame-len-requires-2 : tie.Need-frame-len-requires-2
+frame-len-requires-2 c κs = (packet-fits (c .before .before .before .before .before .before .before .before .before .before .before .before .before .before .before .before .before .before .before .before .before .args .state .now) (c .before .before .before .before .before .before .before .before .before .before .before .before .before .before .before .before .before .before .before .before .before .args .rx .now) (c .before .before .before .before .before .before .before .before .before .before .before .before .before .before .before .before .before .before .before .before .before .args .store .now) (c .before .before .before .before .before .before .before .before .before .before .before .before .before .before .before .before .before .before .before .before .before .args .out .now) (c .before .before .before .before .before .before .before .before .before .before .before .before .before .before .before .before .before .before .before .before .before .args .h) (c .before .before .before .before .before .before .before .before .before .before .before .before .before .before .before .before .before .before .before .before .before .pre .1) (c .before .before .before .before .before .before .before .before .before .before .before .before .before .before .before .before .before .before .before .before .before .args .received .now) (c .before .before .before .before .before .before .before .before .before .before .before .before .before .before .before .before .before .before .before .before .before .args .packet) (c .before .before .before .before .before .before .before .before .before .before .before .before .before .before .before .before .before .before .before .before .before .pre .3)) .most
 
 -- src/open.rt:214:9
 same-length-7 : tie.Need-same-length-7
@@ -107,7 +111,7 @@ same-length-7 c = search needs
 
 -- src/open.rt:214:9
 returns-3 : tie.Need-returns-3
-returns-3 c = packet-closes (c .before .before .before .before .before .before .before .before .before .before .before .before .before .before .before .before .before .before .before .before .before .before .args .state .now) (c .before .before .before .before .before .before .before .before .before .before .before .before .before .before .before .before .before .before .before .before .before .before .args .rx .now) (c .before .before .before .before .before .before .before .before .before .before .before .before .before .before .before .before .before .before .before .before .before .before .args .store .now) (c .before .before .before .before .before .before .before .before .before .before .before .before .before .before .before .before .before .before .before .before .before .before .args .out .now) (c .before .before .before .before .before .before .before .before .before .before .before .before .before .before .before .before .before .before .before .before .before .before .args .h) (c .before .before .before .before .before .before .before .before .before .before .before .before .before .before .before .before .before .before .before .before .before .before .pre .1) (c .before .before .before .before .before .before .before .before .before .before .before .before .before .before .before .before .before .before .before .before .before .before .args .received .now) (c .before .before .before .before .before .before .before .before .before .before .before .before .before .before .before .before .before .before .before .before .before .before .args .packet) (c .before .before .before .before .drop-waiting .result) _ _ (sym (own-is (c .before .before .before .before .before .before .before .before .before .before .before .before .before .before .before .before .before .before .before .before .before .before .args .state .now) (c .before .before .before .before .before .before .before .before .before .before .before .before .before .before .before .before .before .before .before .before .before .before .args .rx .now) (c .before .before .before .before .before .before .before .before .before .before .before .before .before .before .before .before .before .before .before .before .before .before .args .store .now) (c .before .before .before .before .before .before .before .before .before .before .before .before .before .before .before .before .before .before .before .before .before .before .args .out .now) (c .before .before .before .before .before .before .before .before .before .before .before .before .before .before .before .before .before .before .before .before .before .before .args .h) (c .before .before .before .before .before .before .before .before .before .before .before .before .before .before .before .before .before .before .before .before .before .before .pre .1) (c .before .before .before .before .before .before .before .before .before .before .before .before .before .before .before .before .before .before .before .before .before .before .args .received .now) (c .before .before .before .before .before .before .before .before .before .before .before .before .before .before .before .before .before .before .before .before .before .before .args .packet) (c .before .before .before .before .before .before .before .before .before .before .before .before .before .is-own .result) (c .before .before .before .before .before .before .before .before .before .before .before .before .before .before .is-ready .result) _ (c .before .before .before .before .before .before .before .before .before .before .before .before .before .before .before .before .waited-for .result) (c .before .before .before .before .before .before .before .before .before .before .before .before .before .before .before .before .waited-for .ensures) (c .before .before .before .before .before .before .before .before .before .before .before .before .before .before .is-ready .ensures) (c .before .before .before .before .before .before .before .before .before .before .before .before .before .is-own .ensures)) ∙ c .before .before .before .before .before .before .before .before .before .before .before .before .if1 .left) (sym (own-is (c .before .before .before .before .before .before .before .before .before .before .before .before .before .before .before .before .before .before .before .before .before .before .args .state .now) (c .before .before .before .before .before .before .before .before .before .before .before .before .before .before .before .before .before .before .before .before .before .before .args .rx .now) (c .before .before .before .before .before .before .before .before .before .before .before .before .before .before .before .before .before .before .before .before .before .before .args .store .now) (c .before .before .before .before .before .before .before .before .before .before .before .before .before .before .before .before .before .before .before .before .before .before .args .out .now) (c .before .before .before .before .before .before .before .before .before .before .before .before .before .before .before .before .before .before .before .before .before .before .args .h) (c .before .before .before .before .before .before .before .before .before .before .before .before .before .before .before .before .before .before .before .before .before .before .pre .1) (c .before .before .before .before .before .before .before .before .before .before .before .before .before .before .before .before .before .before .before .before .before .before .args .received .now) (c .before .before .before .before .before .before .before .before .before .before .before .before .before .before .before .before .before .before .before .before .before .before .args .packet) (c .before .before .before .before .before .before .before .before .before .before .is-own2 .result) (c .before .before .before .before .before .before .before .before .before .before .before .is-write .result) _ (c .before .before .before .before .before .before .before .before .before .before .before .before .before .before .before .before .waited-for .result) (c .before .before .before .before .before .before .before .before .before .before .before .before .before .before .before .before .waited-for .ensures) (c .before .before .before .before .before .before .before .before .before .before .before .is-write .ensures) (c .before .before .before .before .before .before .before .before .before .before .is-own2 .ensures)) ∙ c .before .before .before .before .before .before .before .before .before .if2 .left) (sym (own-is (c .before .before .before .before .before .before .before .before .before .before .before .before .before .before .before .before .before .before .before .before .before .before .args .state .now) (c .before .before .before .before .before .before .before .before .before .before .before .before .before .before .before .before .before .before .before .before .before .before .args .rx .now) (c .before .before .before .before .before .before .before .before .before .before .before .before .before .before .before .before .before .before .before .before .before .before .args .store .now) (c .before .before .before .before .before .before .before .before .before .before .before .before .before .before .before .before .before .before .before .before .before .before .args .out .now) (c .before .before .before .before .before .before .before .before .before .before .before .before .before .before .before .before .before .before .before .before .before .before .args .h) (c .before .before .before .before .before .before .before .before .before .before .before .before .before .before .before .before .before .before .before .before .before .before .pre .1) (c .before .before .before .before .before .before .before .before .before .before .before .before .before .before .before .before .before .before .before .before .before .before .args .received .now) (c .before .before .before .before .before .before .before .before .before .before .before .before .before .before .before .before .before .before .before .before .before .before .args .packet) (c .before .before .before .before .before .before .before .is-own3 .result) (c .before .before .before .before .before .before .before .before .is-close .result) _ (c .before .before .before .before .before .before .before .before .before .before .before .before .before .before .before .before .waited-for .result) (c .before .before .before .before .before .before .before .before .before .before .before .before .before .before .before .before .waited-for .ensures) (c .before .before .before .before .before .before .before .before .is-close .ensures) (c .before .before .before .before .before .before .before .is-own3 .ensures)) ∙ c .before .before .before .before .before .before .if3 .taken) (c .before .before .before .before .drop-waiting .ensures) (c .before .before .before .put-header .ensures) refl
+returns-3 c = packet-closes (c .before .before .before .before .before .before .before .before .before .before .before .before .before .before .before .before .before .before .before .before .before .before .args .state .now) (c .before .before .before .before .before .before .before .before .before .before .before .before .before .before .before .before .before .before .before .before .before .before .args .rx .now) (c .before .before .before .before .before .before .before .before .before .before .before .before .before .before .before .before .before .before .before .before .before .before .args .store .now) (c .before .before .before .before .before .before .before .before .before .before .before .before .before .before .before .before .before .before .before .before .before .before .args .out .now) (c .before .before .before .before .before .before .before .before .before .before .before .before .before .before .before .before .before .before .before .before .before .before .args .h) (c .before .before .before .before .before .before .before .before .before .before .before .before .before .before .before .before .before .before .before .before .before .before .pre .1) (c .before .before .before .before .before .before .before .before .before .before .before .before .before .before .before .before .before .before .before .before .before .before .args .received .now) (c .before .before .before .before .before .before .before .before .before .before .before .before .before .before .before .before .before .before .before .before .before .before .args .packet) (c .before .before .before .before .drop-waiting .result) _ _ (sym (own-is (c .before .before .before .before .before .before .before .before .before .before .before .before .before .before .before .before .before .before .before .before .before .before .args .state .now) (c .before .before .before .before .before .before .before .before .before .before .before .before .before .before .before .before .before .before .before .before .before .before .args .rx .now) (c .before .before .before .before .before .before .before .before .before .before .before .before .before .before .before .before .before .before .before .before .before .before .args .store .now) (c .before .before .before .before .before .before .before .before .before .before .before .before .before .before .before .before .before .before .before .before .before .before .args .out .now) (c .before .before .before .before .before .before .before .before .before .before .before .before .before .before .before .before .before .before .before .before .before .before .args .h) (c .before .before .before .before .before .before .before .before .before .before .before .before .before .before .before .before .before .before .before .before .before .before .pre .1) (c .before .before .before .before .before .before .before .before .before .before .before .before .before .before .before .before .before .before .before .before .before .before .args .received .now) (c .before .before .before .before .before .before .before .before .before .before .before .before .before .before .before .before .before .before .before .before .before .before .args .packet) (c .before .before .before .before .before .before .before .before .before .before .before .before .before .is-own .result) (c .before .before .before .before .before .before .before .before .before .before .before .before .before .before .is-ready .result) _ (c .before .before .before .before .before .before .before .before .before .before .before .before .before .before .before .before .waited-for .result) (c .before .before .before .before .before .before .before .before .before .before .before .before .before .before .before .before .waited-for .ensures) (c .before .before .before .before .before .before .before .before .before .before .before .before .before .before .is-ready .ensures) (c .before .before .before .before .before .before .before .before .before .before .before .before .before .is-own .ensures)) ∙ c .before .before .before .before .before .before .before .before .before .before .before .before .if1 .left) (sym (own-is (c .before .before .before .before .before .before .before .before .before .before .before .before .before .before .before .before .before .before .before .before .before .before .args .state .now) (c .before .before .before .before .before .before .before .before .before .before .before .before .before .before .before .before .before .before .before .before .before .before .args .rx .now) (c .before .before .before .before .before .before .before .before .before .before .before .before .before .before .before .before .before .before .before .before .before .before .args .store .now) (c .before .before .before .before .before .before .before .before .before .before .before .before .before .before .before .before .before .before .before .before .before .before .args .out .now) (c .before .before .before .before .before .before .before .before .before .before .before .before .before .before .before .before .before .before .before .before .before .before .args .h) (c .before .before .before .before .before .before .before .before .before .before .before .before .before .before .before .before .before .before .before .before .before .before .pre .1) (c .before .before .before .before .before .before .before .before .before .before .before .before .before .before .before .before .before .before .before .before .before .before .args .received .now) (c .before .before .before .before .before .before .before .before .before .before .before .before .before .before .before .before .before .before .before .before .before .before .args .packet) (c .before .before .before .before .before .before .before .before .before .before .is-own2 .result) (c .before .before .before .before .before .before .before .before .before .before .before .is-write .result) _ (c .before .before .before .before .before .before .before .before .before .before .before .before .before .before .before .before .waited-for .result) (c .before .before .before .before .before .before .before .before .before .before .before .before .before .before .before .before .waited-for .ensures) (c .before .before .before .before .before .before .before .before .before .before .before .is-write .ensures) (c .before .before .before .before .before .before .before .before .before .before .is-own2 .ensures)) ∙ c .before .before .before .before .before .before .before .before .before .if2 .left) (sym (own-is (c .before .before .before .before .before .before .before .before .before .before .before .before .before .before .before .before .before .before .before .before .before .before .args .state .now) (c .before .before .before .before .before .before .before .before .before .before .before .before .before .before .before .before .before .before .before .before .before .before .args .rx .now) (c .before .before .before .before .before .before .before .before .before .before .before .before .before .before .before .before .before .before .before .before .before .before .args .store .now) (c .before .before .before .before .before .before .before .before .before .before .before .before .before .before .before .before .before .before .before .before .before .before .args .out .now) (c .before .before .before .before .before .before .before .before .before .before .before .before .before .before .before .before .before .before .before .before .before .before .args .h) (c .before .before .before .before .before .before .before .before .before .before .before .before .before .before .before .before .before .before .before .before .before .before .pre .1) (c .before .before .before .before .before .before .before .before .before .before .before .before .before .before .before .before .before .before .before .before .before .before .args .received .now) (c .before .before .before .before .before .before .before .before .before .before .before .before .before .before .before .before .before .before .before .before .before .before .args .packet) (c .before .before .before .before .before .before .before .is-own3 .result) (c .before .before .before .before .before .before .before .before .is-close .result) _ (c .before .before .before .before .before .before .before .before .before .before .before .before .before .before .before .before .waited-for .result) (c .before .before .before .before .before .before .before .before .before .before .before .before .before .before .before .before .waited-for .ensures) (c .before .before .before .before .before .before .before .before .is-close .ensures) (c .before .before .before .before .before .before .before .is-own3 .ensures)) ∙ c .before .before .before .before .before .before .if3 .taken) (c .before .before .before .before .drop-waiting .ensures) (c .before .before .before .put-header .ensures) (ap (λ (x : ℕ). record { answer = Refused ChannelClosed; used = x; written = 0 }) (c .frame-len2 .ensures))
 
 -- src/open.rt:220:5
 open-act-requires : tie.Need-open-act-requires
@@ -149,7 +153,7 @@ open-packet-spec =
     is-write-requires
     is-own-requires-2
     close-open-requires
-    add-t29
+    frame-len-requires
     same-length-5
     same-length-6
     returns-2
@@ -157,7 +161,7 @@ open-packet-spec =
     is-own-requires-3
     drop-waiting-requires
     put-header-requires
-    add-t37
+    frame-len-requires-2
     same-length-7
     returns-3
     open-act-requires

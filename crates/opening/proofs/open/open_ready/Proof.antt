@@ -1,14 +1,17 @@
+use Rattle.connection.specs.declared.Refusal.the-variants.{ShortReadyPayload}
+use Rattle.connection.specs.declared.Answer.the-variants.{Opened, Refused}
 use Rattle.opening.proofs.OpenLaws.{packet-fits, open-limits, open-place, ready-fills, ready-short}
 use Rattle.table.specs.declared.ChannelId.{ChannelId}
 use lib.ListN.{length}
-use Prim.Native.Nat.{_≤_, _<_}
+use Prim.Native.Nat.{_≤_, _<_, ℕ}
 use native.Mathlib.Omega.{arith}
-use mathlib.Core.Path.{refl, sym, subst}
+use mathlib.Core.Path.{sym, subst, ap}
 use borrow.Author.Needs.{needs}
 use Rattle.opening.proofs.open.open_ready.Statement.{statement}
 use Rattle.opening.proofs.open.open_ready.Tie as tie
 use Rattle.opening.proofs.open.open_ready.Reads as reads
 use Rattle.opening.proofs.open.open_ready.Lts as lts
+use Rattle.protocol.proofs.packet.Packet.frame_len.Reads as frame-len-reads
 use Rattle.config.proofs.negotiated.Negotiated.rx_policy.Reads as rx-policy-reads
 use Rattle.calls.proofs.admit.drop_waiting.Reads as drop-waiting-reads
 use Rattle.opening.proofs.open.close_open.Reads as close-open-reads
@@ -23,8 +26,8 @@ waited-for-requires : tie.Need-waited-for-requires
 waited-for-requires c κs = search needs
 
 -- src/open.rt:134:16
-add-used : tie.Need-add-used
-add-used c = let k = (packet-fits (c .before .before .before .before .before .before .before .before .before .args .state .now) (c .before .before .before .before .before .before .before .before .before .args .rx .now) (c .before .before .before .before .before .before .before .before .before .args .store .now) (c .before .before .before .before .before .before .before .before .before .args .out .now) (c .before .before .before .before .before .before .before .before .before .args .h) (c .before .before .before .before .before .before .before .before .before .pre .1) (c .before .before .before .before .before .before .before .before .before .args .received .now) (c .before .before .before .before .before .before .before .before .before .args .packet) (c .before .before .before .before .before .before .before .before .before .pre .3)) .most in omega arith
+frame-len-requires : tie.Need-frame-len-requires
+frame-len-requires c κs = (packet-fits (c .before .before .before .before .before .before .before .before .args .state .now) (c .before .before .before .before .before .before .before .before .args .rx .now) (c .before .before .before .before .before .before .before .before .args .store .now) (c .before .before .before .before .before .before .before .before .args .out .now) (c .before .before .before .before .before .before .before .before .args .h) (c .before .before .before .before .before .before .before .before .pre .1) (c .before .before .before .before .before .before .before .before .args .received .now) (c .before .before .before .before .before .before .before .before .args .packet) (c .before .before .before .before .before .before .before .before .pre .3)) .most
 
 -- src/open.rt:135:9
 payload-requires : tie.Need-payload-requires
@@ -68,7 +71,7 @@ same-length c = search needs
 
 -- src/open.rt:118:1
 returns : tie.Need-returns
-returns c = ready-fills (c .before .before .before .before .before .before .before .before .before .before .before .before .before .before .before .before .before .before .before .before .before .args .state .now) (c .before .before .before .before .before .before .before .before .before .before .before .before .before .before .before .before .before .before .before .before .before .args .rx .now) (c .before .before .before .before .before .before .before .before .before .before .before .before .before .before .before .before .before .before .before .before .before .args .store .now) (c .before .before .before .before .before .before .before .before .before .before .before .before .before .before .before .before .before .before .before .before .before .args .out .now) (c .before .before .before .before .before .before .before .before .before .before .before .before .before .before .before .before .before .before .before .before .before .args .h) (c .before .before .before .before .before .before .before .before .before .before .before .before .before .before .before .before .before .before .before .before .before .pre .1) (c .before .before .before .before .before .before .before .before .before .before .before .before .before .before .before .before .before .before .before .before .before .args .received .now) (c .before .before .before .before .before .before .before .before .before .before .before .before .before .before .before .before .before .before .before .before .before .args .packet) (c .before .before .before .before .before .before .before .before .before .before .before .before .before .before .waited-for .result) (c .before .before .before .before .before .before .before .before .before .before .before .before .before .before .waited-for .ensures) (c .before .before .before .before .before .before .before .before .before .before .before .payload .result .now) (c .before .before .before .before .before .before .before .before .before .before .before .payload .ensures) (c .before .before .before .before .before .before .before .before .before .rx-policy .result) (c .before .before .before .before .before .before .before .before .before .rx-policy .ensures) (c .before .before .before .before .before .before .before .before .before .before .opening .result) (c .before .before .before .before .before .before .before .before .before .before .opening .ensures) (c .before .before .before .before .before .before .before .before .accept-open-ready .result) (c .before .before .before .before .before .before .before .before .accept-open-ready .ensures) _ (c .before .before .before .drop-waiting .result) _ _ (c .before .before .before .before .before .before .readied .given .1) (c .before .before .before .drop-waiting .ensures) (c .before .before .store-slot .ensures) refl
+returns c = ready-fills (c .before .before .before .before .before .before .before .before .before .before .before .before .before .before .before .before .before .before .before .before .before .args .state .now) (c .before .before .before .before .before .before .before .before .before .before .before .before .before .before .before .before .before .before .before .before .before .args .rx .now) (c .before .before .before .before .before .before .before .before .before .before .before .before .before .before .before .before .before .before .before .before .before .args .store .now) (c .before .before .before .before .before .before .before .before .before .before .before .before .before .before .before .before .before .before .before .before .before .args .out .now) (c .before .before .before .before .before .before .before .before .before .before .before .before .before .before .before .before .before .before .before .before .before .args .h) (c .before .before .before .before .before .before .before .before .before .before .before .before .before .before .before .before .before .before .before .before .before .pre .1) (c .before .before .before .before .before .before .before .before .before .before .before .before .before .before .before .before .before .before .before .before .before .args .received .now) (c .before .before .before .before .before .before .before .before .before .before .before .before .before .before .before .before .before .before .before .before .before .args .packet) (c .before .before .before .before .before .before .before .before .before .before .before .before .before .before .waited-for .result) (c .before .before .before .before .before .before .before .before .before .before .before .before .before .before .waited-for .ensures) (c .before .before .before .before .before .before .before .before .before .before .before .payload .result .now) (c .before .before .before .before .before .before .before .before .before .before .before .payload .ensures) (c .before .before .before .before .before .before .before .before .before .rx-policy .result) (c .before .before .before .before .before .before .before .before .before .rx-policy .ensures) (c .before .before .before .before .before .before .before .before .before .before .opening .result) (c .before .before .before .before .before .before .before .before .before .before .opening .ensures) (c .before .before .before .before .before .before .before .before .accept-open-ready .result) (c .before .before .before .before .before .before .before .before .accept-open-ready .ensures) _ (c .before .before .before .drop-waiting .result) _ _ (c .before .before .before .before .before .before .readied .given .1) (c .before .before .before .drop-waiting .ensures) (c .before .before .store-slot .ensures) (ap (λ (x : ℕ). record { answer = Opened (c .before .before .before .before .before .before .before .before .before .before .before .before .before .before .waited-for .result); used = x; written = 0 }) (c .before .before .before .before .before .before .before .before .before .before .before .before .frame-len .ensures))
 
 -- src/open.rt:118:1
 same-length-2 : tie.Need-same-length-2
@@ -80,14 +83,14 @@ same-length-3 c = search needs
 
 -- src/open.rt:118:1
 returns-2 : tie.Need-returns-2
-returns-2 c = ready-short (c .before .before .before .before .before .before .before .before .before .before .before .before .before .before .before .before .before .before .before .before .before .before .args .state .now) (c .before .before .before .before .before .before .before .before .before .before .before .before .before .before .before .before .before .before .before .before .before .before .args .rx .now) (c .before .before .before .before .before .before .before .before .before .before .before .before .before .before .before .before .before .before .before .before .before .before .args .store .now) (c .before .before .before .before .before .before .before .before .before .before .before .before .before .before .before .before .before .before .before .before .before .before .args .out .now) (c .before .before .before .before .before .before .before .before .before .before .before .before .before .before .before .before .before .before .before .before .before .before .args .h) (c .before .before .before .before .before .before .before .before .before .before .before .before .before .before .before .before .before .before .before .before .before .before .pre .1) (c .before .before .before .before .before .before .before .before .before .before .before .before .before .before .before .before .before .before .before .before .before .before .args .received .now) (c .before .before .before .before .before .before .before .before .before .before .before .before .before .before .before .before .before .before .before .before .before .before .args .packet) (c .before .before .before .before .before .before .before .before .before .before .before .before .before .before .before .waited-for .result) (c .before .before .before .before .before .before .before .before .before .before .before .before .before .before .before .waited-for .ensures) (c .before .before .before .before .before .before .before .before .before .before .before .before .payload .result .now) (c .before .before .before .before .before .before .before .before .before .before .before .before .payload .ensures) (c .before .before .before .before .before .before .before .before .before .before .rx-policy .result) (c .before .before .before .before .before .before .before .before .before .before .rx-policy .ensures) (c .before .before .before .before .before .before .before .before .before .before .before .opening .result) (c .before .before .before .before .before .before .before .before .before .before .before .opening .ensures) (c .before .before .before .before .before .before .before .before .before .accept-open-ready .result) (c .before .before .before .before .before .before .before .before .before .accept-open-ready .ensures) _ _ _ _ (c .before .before .before .before .before .before .before .before .before .before .before .before .before .before .before .before .before .before .before .before .before .before .pre .0 .room) (c .before .before .before .before .before .before .before .enum-told .given .1) (c .before .before .before .before .close-open .ensures .0) (c .before .before .before .before .close-open .ensures .1) refl
+returns-2 c = ready-short (c .before .before .before .before .before .before .before .before .before .before .before .before .before .before .before .before .before .before .before .before .before .before .args .state .now) (c .before .before .before .before .before .before .before .before .before .before .before .before .before .before .before .before .before .before .before .before .before .before .args .rx .now) (c .before .before .before .before .before .before .before .before .before .before .before .before .before .before .before .before .before .before .before .before .before .before .args .store .now) (c .before .before .before .before .before .before .before .before .before .before .before .before .before .before .before .before .before .before .before .before .before .before .args .out .now) (c .before .before .before .before .before .before .before .before .before .before .before .before .before .before .before .before .before .before .before .before .before .before .args .h) (c .before .before .before .before .before .before .before .before .before .before .before .before .before .before .before .before .before .before .before .before .before .before .pre .1) (c .before .before .before .before .before .before .before .before .before .before .before .before .before .before .before .before .before .before .before .before .before .before .args .received .now) (c .before .before .before .before .before .before .before .before .before .before .before .before .before .before .before .before .before .before .before .before .before .before .args .packet) (c .before .before .before .before .before .before .before .before .before .before .before .before .before .before .before .waited-for .result) (c .before .before .before .before .before .before .before .before .before .before .before .before .before .before .before .waited-for .ensures) (c .before .before .before .before .before .before .before .before .before .before .before .before .payload .result .now) (c .before .before .before .before .before .before .before .before .before .before .before .before .payload .ensures) (c .before .before .before .before .before .before .before .before .before .before .rx-policy .result) (c .before .before .before .before .before .before .before .before .before .before .rx-policy .ensures) (c .before .before .before .before .before .before .before .before .before .before .before .opening .result) (c .before .before .before .before .before .before .before .before .before .before .before .opening .ensures) (c .before .before .before .before .before .before .before .before .before .accept-open-ready .result) (c .before .before .before .before .before .before .before .before .before .accept-open-ready .ensures) _ _ _ _ (c .before .before .before .before .before .before .before .before .before .before .before .before .before .before .before .before .before .before .before .before .before .before .pre .0 .room) (c .before .before .before .before .before .before .before .enum-told .given .1) (c .before .before .before .before .close-open .ensures .0) (c .before .before .before .before .close-open .ensures .1) (ap (λ (x : ℕ). record { answer = Refused ShortReadyPayload; used = x; written = c .before .before .before .before .close-open .result }) (c .before .before .before .before .before .before .before .before .before .before .before .before .before .frame-len .ensures))
 
 pub open-ready-spec : {M : Type 1} → statement M
 open-ready-spec =
     tie.close
     (tie.spec
     waited-for-requires
-    add-used
+    frame-len-requires
     payload-requires
     opening-requires
     rx-policy-requires

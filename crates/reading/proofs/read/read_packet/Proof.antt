@@ -1,3 +1,6 @@
+use Rattle.connection.specs.declared.Refusal.the-variants.{ChannelClosed}
+use Rattle.connection.specs.declared.Answer.the-variants.{Refused}
+use Prim.Native.Nat.{ℕ}
 use Rattle.slot.specs.Ids.{closedBy}
 use Rattle.slot.specs.declared.ids.ChannelIds.{ChannelIds}
 use mathlib.Core.Path.{refl, sym, ap, _∙_}
@@ -9,6 +12,7 @@ use Rattle.reading.proofs.read.read_packet.Statement.{statement}
 use Rattle.reading.proofs.read.read_packet.Tie as tie
 use Rattle.reading.proofs.read.read_packet.Reads as reads
 use Rattle.reading.proofs.read.read_packet.Lts as lts
+use Rattle.protocol.proofs.packet.Packet.frame_len.Reads as frame-len-reads
 use Rattle.calls.proofs.frames.ids_in.Reads as ids-in-reads
 use Rattle.reading.proofs.read.is_direct.Reads as is-direct-reads
 use Rattle.reading.proofs.read.read_direct.Reads as read-direct-reads
@@ -23,8 +27,8 @@ payload-requires : tie.Need-payload-requires
 payload-requires c κs = look-packet (c .before .before .before .before .before .before .args .state .now) (c .before .before .before .before .before .before .args .rx .now) (c .before .before .before .before .before .before .args .store .now) (c .before .before .before .before .before .before .args .out .now) (c .before .before .before .before .before .before .args .h) (c .before .before .before .before .before .before .args .ch) (c .before .before .before .before .before .before .args .s) _ (c .before .before .before .before .before .before .args .at) (c .before .before .before .before .before .before .pre .0) (c .before .before .before .before .before .before .pre .1) (c .before .before .before .before .before .before .args .received .now) (c .before .before .before .before .before .before .args .packet) (c .before .before .before .before .before .before .pre .2) .whole
 
 -- src/read.rt:232:16
-add-used : tie.Need-add-used
-add-used c = let k = look-packet (c .before .before .before .before .before .before .before .before .args .state .now) (c .before .before .before .before .before .before .before .before .args .rx .now) (c .before .before .before .before .before .before .before .before .args .store .now) (c .before .before .before .before .before .before .before .before .args .out .now) (c .before .before .before .before .before .before .before .before .args .h) (c .before .before .before .before .before .before .before .before .args .ch) (c .before .before .before .before .before .before .before .before .args .s) _ (c .before .before .before .before .before .before .before .before .args .at) (c .before .before .before .before .before .before .before .before .pre .0) (c .before .before .before .before .before .before .before .before .pre .1) (c .before .before .before .before .before .before .before .before .args .received .now) (c .before .before .before .before .before .before .before .before .args .packet) (c .before .before .before .before .before .before .before .before .pre .2) .most in omega arith
+frame-len-requires : tie.Need-frame-len-requires
+frame-len-requires c κs = look-packet (c .before .before .before .before .before .before .before .args .state .now) (c .before .before .before .before .before .before .before .args .rx .now) (c .before .before .before .before .before .before .before .args .store .now) (c .before .before .before .before .before .before .before .args .out .now) (c .before .before .before .before .before .before .before .args .h) (c .before .before .before .before .before .before .before .args .ch) (c .before .before .before .before .before .before .before .args .s) _ (c .before .before .before .before .before .before .before .args .at) (c .before .before .before .before .before .before .before .pre .0) (c .before .before .before .before .before .before .before .pre .1) (c .before .before .before .before .before .before .before .args .received .now) (c .before .before .before .before .before .before .before .args .packet) (c .before .before .before .before .before .before .before .pre .2) .most
 
 -- src/read.rt:233:8
 is-direct-requires : tie.Need-is-direct-requires
@@ -48,7 +52,7 @@ same-length-3 c = search needs
 
 -- src/read.rt:234:9
 returns : tie.Need-returns
-returns c = look-direct (c .before .before .before .before .before .before .before .before .before .before .before .before .before .before .before .before .before .before .before .before .args .state .now) (c .before .before .before .before .before .before .before .before .before .before .before .before .before .before .before .before .before .before .before .before .args .rx .now) (c .before .before .before .before .before .before .before .before .before .before .before .before .before .before .before .before .before .before .before .before .args .store .now) (c .before .before .before .before .before .before .before .before .before .before .before .before .before .before .before .before .before .before .before .before .args .out .now) (c .before .before .before .before .before .before .before .before .before .before .before .before .before .before .before .before .before .before .before .before .args .h) (c .before .before .before .before .before .before .before .before .before .before .before .before .before .before .before .before .before .before .before .before .args .ch) (c .before .before .before .before .before .before .before .before .before .before .before .before .before .before .before .before .before .before .before .before .args .s) _ (c .before .before .before .before .before .before .before .before .before .before .before .before .before .before .before .before .before .before .before .before .args .at) (c .before .before .before .before .before .before .before .before .before .before .before .before .before .before .before .before .before .before .before .before .pre .0) (c .before .before .before .before .before .before .before .before .before .before .before .before .before .before .before .before .before .before .before .before .pre .1) (c .before .before .before .before .before .before .before .before .before .before .before .before .before .before .before .before .before .before .before .before .args .received .now) (c .before .before .before .before .before .before .before .before .before .before .before .before .before .before .before .before .before .before .before .before .args .packet) (c .before .before .before .before .before .before .before .before .before .before .before .before .before .before .before .before .before .before .before .before .pre .2) (c .before .before .before .before .before .before .before .before .before .before .before .before .before .payload .result .now) (c .before .before .before .before .before .before .before .before .before .before .before .before .before .payload .ensures) (c .before .before .before .before .before .before .before .before .before .before .before .before .before .before .before .before .before .before .before .before .args .buf .now) refl _ _ (c .before .before .before .before .before .before .before .before .before .before .before .before .before .before .before .before .before .before .before .before .args .rx .now) (c .before .before .before .before .before .before .before .before .before .before .before .before .before .before .before .before .before .before .before .before .args .store .now) _ _ (sym (c .before .before .before .before .before .before .before .before .before .before .before .is-direct .ensures) ∙ c .before .before .before .before .before .before .before .before .before .before .if1 .taken) (c .before .before .before .before .before .before .read-direct .ensures (c .before .before .before .before .before .before .before .before .before .before .before .before .before .before .before .before .before .before .before .before .args .rx .now) (c .before .before .before .before .before .before .before .before .before .before .before .before .before .before .before .before .before .before .before .before .args .store .now))
+returns c = look-direct (c .before .before .before .before .before .before .before .before .before .before .before .before .before .before .before .before .before .before .before .before .args .state .now) (c .before .before .before .before .before .before .before .before .before .before .before .before .before .before .before .before .before .before .before .before .args .rx .now) (c .before .before .before .before .before .before .before .before .before .before .before .before .before .before .before .before .before .before .before .before .args .store .now) (c .before .before .before .before .before .before .before .before .before .before .before .before .before .before .before .before .before .before .before .before .args .out .now) (c .before .before .before .before .before .before .before .before .before .before .before .before .before .before .before .before .before .before .before .before .args .h) (c .before .before .before .before .before .before .before .before .before .before .before .before .before .before .before .before .before .before .before .before .args .ch) (c .before .before .before .before .before .before .before .before .before .before .before .before .before .before .before .before .before .before .before .before .args .s) _ (c .before .before .before .before .before .before .before .before .before .before .before .before .before .before .before .before .before .before .before .before .args .at) (c .before .before .before .before .before .before .before .before .before .before .before .before .before .before .before .before .before .before .before .before .pre .0) (c .before .before .before .before .before .before .before .before .before .before .before .before .before .before .before .before .before .before .before .before .pre .1) (c .before .before .before .before .before .before .before .before .before .before .before .before .before .before .before .before .before .before .before .before .args .received .now) (c .before .before .before .before .before .before .before .before .before .before .before .before .before .before .before .before .before .before .before .before .args .packet) (c .before .before .before .before .before .before .before .before .before .before .before .before .before .before .before .before .before .before .before .before .pre .2) (c .before .before .before .before .before .before .before .before .before .before .before .before .before .payload .result .now) (c .before .before .before .before .before .before .before .before .before .before .before .before .before .payload .ensures) (c .before .before .before .before .before .before .before .before .before .before .before .before .before .before .before .before .before .before .before .before .args .buf .now) refl _ _ (c .before .before .before .before .before .before .before .before .before .before .before .before .before .before .before .before .before .before .before .before .args .rx .now) (c .before .before .before .before .before .before .before .before .before .before .before .before .before .before .before .before .before .before .before .before .args .store .now) _ _ (sym (c .before .before .before .before .before .before .before .before .before .before .before .is-direct .ensures) ∙ c .before .before .before .before .before .before .before .before .before .before .if1 .taken) (rw (c .before .before .before .before .before .before .before .before .before .before .before .before .frame-len .ensures) at (c .before .before .before .before .before .before .read-direct .ensures (c .before .before .before .before .before .before .before .before .before .before .before .before .before .before .before .before .before .before .before .before .args .rx .now) (c .before .before .before .before .before .before .before .before .before .before .before .before .before .before .before .before .before .before .before .before .args .store .now)))
 
 -- src/read.rt:236:8
 ids-in-requires : tie.Need-ids-in-requires
@@ -72,7 +76,7 @@ same-length-4 c = search needs
 
 -- src/read.rt:238:9
 returns-2 : tie.Need-returns-2
-returns-2 c = look-closed (c .before .before .before .before .before .before .before .before .before .before .before .before .before .before .before .before .before .before .args .state .now) (c .before .before .before .before .before .before .before .before .before .before .before .before .before .before .before .before .before .before .args .rx .now) (c .before .before .before .before .before .before .before .before .before .before .before .before .before .before .before .before .before .before .args .store .now) (c .before .before .before .before .before .before .before .before .before .before .before .before .before .before .before .before .before .before .args .out .now) (c .before .before .before .before .before .before .before .before .before .before .before .before .before .before .before .before .before .before .args .h) (c .before .before .before .before .before .before .before .before .before .before .before .before .before .before .before .before .before .before .args .ch) (c .before .before .before .before .before .before .before .before .before .before .before .before .before .before .before .before .before .before .args .s) _ (c .before .before .before .before .before .before .before .before .before .before .before .before .before .before .before .before .before .before .args .at) (c .before .before .before .before .before .before .before .before .before .before .before .before .before .before .before .before .before .before .pre .0) (c .before .before .before .before .before .before .before .before .before .before .before .before .before .before .before .before .before .before .pre .1) (c .before .before .before .before .before .before .before .before .before .before .before .before .before .before .before .before .before .before .args .received .now) (c .before .before .before .before .before .before .before .before .before .before .before .before .before .before .before .before .before .before .args .packet) (c .before .before .before .before .before .before .before .before .before .before .before .before .before .before .before .before .before .before .pre .2) (c .before .before .before .before .before .before .before .before .before .before .before .payload .result .now) (c .before .before .before .before .before .before .before .before .before .before .before .payload .ensures) (c .before .before .before .before .before .before .before .before .before .before .before .before .before .before .before .before .before .before .args .buf .now) refl _ _ (c .before .before .before .before .before .before .before .before .before .before .before .before .before .before .before .before .before .before .args .rx .now) (c .before .before .before .before .before .before .before .before .before .before .before .before .before .before .before .before .before .before .args .store .now) (c .before .before .before .before .before .before .before .before .before .before .before .before .before .before .before .before .before .before .args .out .now) (c .before .before .before .before .before .before .before .before .before .before .before .before .before .before .before .before .before .before .args .buf .now) (sym (c .before .before .before .before .before .before .before .before .before .is-direct .ensures) ∙ c .before .before .before .before .before .before .before .before .if1 .left) (ap (λ (x : ChannelIds). closedBy x (c .before .before .before .before .before .before .before .before .before .before .before .before .before .before .before .before .before .before .args .packet)) (sym (c .before .before .before .before .before .before .before .ids-in .ensures)) ∙ sym (c .before .before .before .before .before .before .closed-by .ensures) ∙ c .before .before .before .before .before .if2 .taken) (c .before .before .before .apply-close .result) (c .before .before .before .apply-close .ensures) (c .before .before .store-slot .ensures) refl
+returns-2 c = look-closed (c .before .before .before .before .before .before .before .before .before .before .before .before .before .before .before .before .before .before .args .state .now) (c .before .before .before .before .before .before .before .before .before .before .before .before .before .before .before .before .before .before .args .rx .now) (c .before .before .before .before .before .before .before .before .before .before .before .before .before .before .before .before .before .before .args .store .now) (c .before .before .before .before .before .before .before .before .before .before .before .before .before .before .before .before .before .before .args .out .now) (c .before .before .before .before .before .before .before .before .before .before .before .before .before .before .before .before .before .before .args .h) (c .before .before .before .before .before .before .before .before .before .before .before .before .before .before .before .before .before .before .args .ch) (c .before .before .before .before .before .before .before .before .before .before .before .before .before .before .before .before .before .before .args .s) _ (c .before .before .before .before .before .before .before .before .before .before .before .before .before .before .before .before .before .before .args .at) (c .before .before .before .before .before .before .before .before .before .before .before .before .before .before .before .before .before .before .pre .0) (c .before .before .before .before .before .before .before .before .before .before .before .before .before .before .before .before .before .before .pre .1) (c .before .before .before .before .before .before .before .before .before .before .before .before .before .before .before .before .before .before .args .received .now) (c .before .before .before .before .before .before .before .before .before .before .before .before .before .before .before .before .before .before .args .packet) (c .before .before .before .before .before .before .before .before .before .before .before .before .before .before .before .before .before .before .pre .2) (c .before .before .before .before .before .before .before .before .before .before .before .payload .result .now) (c .before .before .before .before .before .before .before .before .before .before .before .payload .ensures) (c .before .before .before .before .before .before .before .before .before .before .before .before .before .before .before .before .before .before .args .buf .now) refl _ _ (c .before .before .before .before .before .before .before .before .before .before .before .before .before .before .before .before .before .before .args .rx .now) (c .before .before .before .before .before .before .before .before .before .before .before .before .before .before .before .before .before .before .args .store .now) (c .before .before .before .before .before .before .before .before .before .before .before .before .before .before .before .before .before .before .args .out .now) (c .before .before .before .before .before .before .before .before .before .before .before .before .before .before .before .before .before .before .args .buf .now) (sym (c .before .before .before .before .before .before .before .before .before .is-direct .ensures) ∙ c .before .before .before .before .before .before .before .before .if1 .left) (ap (λ (x : ChannelIds). closedBy x (c .before .before .before .before .before .before .before .before .before .before .before .before .before .before .before .before .before .before .args .packet)) (sym (c .before .before .before .before .before .before .before .ids-in .ensures)) ∙ sym (c .before .before .before .before .before .before .closed-by .ensures) ∙ c .before .before .before .before .before .if2 .taken) (c .before .before .before .apply-close .result) (c .before .before .before .apply-close .ensures) (c .before .before .store-slot .ensures) (ap (λ (x : ℕ). record { answer = Refused ChannelClosed; used = x; written = c .before .before .before .before .before .before .before .before .before .before .before .before .before .before .before .before .before .before .args .at }) (c .before .before .before .before .before .before .before .before .before .before .frame-len .ensures))
 
 -- src/read.rt:244:5
 read-other-requires : tie.Need-read-other-requires
@@ -100,14 +104,14 @@ same-length-9 c = search needs
 
 -- src/read.rt:215:1
 returns-3 : tie.Need-returns-3
-returns-3 c = look-other (c .before .before .before .before .before .before .before .before .before .before .before .before .before .before .before .before .before .before .before .before .before .before .before .before .before .before .before .before .before .args .state .now) (c .before .before .before .before .before .before .before .before .before .before .before .before .before .before .before .before .before .before .before .before .before .before .before .before .before .before .before .before .before .args .rx .now) (c .before .before .before .before .before .before .before .before .before .before .before .before .before .before .before .before .before .before .before .before .before .before .before .before .before .before .before .before .before .args .store .now) (c .before .before .before .before .before .before .before .before .before .before .before .before .before .before .before .before .before .before .before .before .before .before .before .before .before .before .before .before .before .args .out .now) (c .before .before .before .before .before .before .before .before .before .before .before .before .before .before .before .before .before .before .before .before .before .before .before .before .before .before .before .before .before .args .h) (c .before .before .before .before .before .before .before .before .before .before .before .before .before .before .before .before .before .before .before .before .before .before .before .before .before .before .before .before .before .args .ch) (c .before .before .before .before .before .before .before .before .before .before .before .before .before .before .before .before .before .before .before .before .before .before .before .before .before .before .before .before .before .args .s) _ (c .before .before .before .before .before .before .before .before .before .before .before .before .before .before .before .before .before .before .before .before .before .before .before .before .before .before .before .before .before .args .at) (c .before .before .before .before .before .before .before .before .before .before .before .before .before .before .before .before .before .before .before .before .before .before .before .before .before .before .before .before .before .pre .0) (c .before .before .before .before .before .before .before .before .before .before .before .before .before .before .before .before .before .before .before .before .before .before .before .before .before .before .before .before .before .pre .1) (c .before .before .before .before .before .before .before .before .before .before .before .before .before .before .before .before .before .before .before .before .before .before .before .before .before .before .before .before .before .args .received .now) (c .before .before .before .before .before .before .before .before .before .before .before .before .before .before .before .before .before .before .before .before .before .before .before .before .before .before .before .before .before .args .packet) (c .before .before .before .before .before .before .before .before .before .before .before .before .before .before .before .before .before .before .before .before .before .before .before .before .before .before .before .before .before .pre .2) (c .before .before .before .before .before .before .before .before .before .before .before .before .before .before .before .before .before .before .before .before .before .before .payload .result .now) (c .before .before .before .before .before .before .before .before .before .before .before .before .before .before .before .before .before .before .before .before .before .before .payload .ensures) (c .before .before .before .before .before .before .before .before .before .before .before .before .before .before .before .before .before .before .before .before .before .before .before .before .before .before .before .before .before .args .buf .now) refl _ _ _ _ _ _ (sym (c .before .before .before .before .before .before .before .before .before .before .before .before .before .before .before .before .before .before .before .before .is-direct .ensures) ∙ c .before .before .before .before .before .before .before .before .before .before .before .before .before .before .before .before .before .before .before .if1 .left) (ap (λ (x : ChannelIds). closedBy x (c .before .before .before .before .before .before .before .before .before .before .before .before .before .before .before .before .before .before .before .before .before .before .before .before .before .before .before .before .before .args .packet)) (sym (c .before .before .before .before .before .before .before .before .before .before .before .before .before .before .before .before .before .before .ids-in .ensures)) ∙ sym (c .before .before .before .before .before .before .before .before .before .before .before .before .before .before .before .before .before .closed-by .ensures) ∙ c .before .before .before .before .before .before .before .before .before .before .before .before .before .before .before .before .if2 .left) (c .before .before .before .before .before .before .before .before .before .before .read-other .ensures)
+returns-3 c = look-other (c .before .before .before .before .before .before .before .before .before .before .before .before .before .before .before .before .before .before .before .before .before .before .before .before .before .before .before .before .before .args .state .now) (c .before .before .before .before .before .before .before .before .before .before .before .before .before .before .before .before .before .before .before .before .before .before .before .before .before .before .before .before .before .args .rx .now) (c .before .before .before .before .before .before .before .before .before .before .before .before .before .before .before .before .before .before .before .before .before .before .before .before .before .before .before .before .before .args .store .now) (c .before .before .before .before .before .before .before .before .before .before .before .before .before .before .before .before .before .before .before .before .before .before .before .before .before .before .before .before .before .args .out .now) (c .before .before .before .before .before .before .before .before .before .before .before .before .before .before .before .before .before .before .before .before .before .before .before .before .before .before .before .before .before .args .h) (c .before .before .before .before .before .before .before .before .before .before .before .before .before .before .before .before .before .before .before .before .before .before .before .before .before .before .before .before .before .args .ch) (c .before .before .before .before .before .before .before .before .before .before .before .before .before .before .before .before .before .before .before .before .before .before .before .before .before .before .before .before .before .args .s) _ (c .before .before .before .before .before .before .before .before .before .before .before .before .before .before .before .before .before .before .before .before .before .before .before .before .before .before .before .before .before .args .at) (c .before .before .before .before .before .before .before .before .before .before .before .before .before .before .before .before .before .before .before .before .before .before .before .before .before .before .before .before .before .pre .0) (c .before .before .before .before .before .before .before .before .before .before .before .before .before .before .before .before .before .before .before .before .before .before .before .before .before .before .before .before .before .pre .1) (c .before .before .before .before .before .before .before .before .before .before .before .before .before .before .before .before .before .before .before .before .before .before .before .before .before .before .before .before .before .args .received .now) (c .before .before .before .before .before .before .before .before .before .before .before .before .before .before .before .before .before .before .before .before .before .before .before .before .before .before .before .before .before .args .packet) (c .before .before .before .before .before .before .before .before .before .before .before .before .before .before .before .before .before .before .before .before .before .before .before .before .before .before .before .before .before .pre .2) (c .before .before .before .before .before .before .before .before .before .before .before .before .before .before .before .before .before .before .before .before .before .before .payload .result .now) (c .before .before .before .before .before .before .before .before .before .before .before .before .before .before .before .before .before .before .before .before .before .before .payload .ensures) (c .before .before .before .before .before .before .before .before .before .before .before .before .before .before .before .before .before .before .before .before .before .before .before .before .before .before .before .before .before .args .buf .now) refl _ _ _ _ _ _ (sym (c .before .before .before .before .before .before .before .before .before .before .before .before .before .before .before .before .before .before .before .before .is-direct .ensures) ∙ c .before .before .before .before .before .before .before .before .before .before .before .before .before .before .before .before .before .before .before .if1 .left) (ap (λ (x : ChannelIds). closedBy x (c .before .before .before .before .before .before .before .before .before .before .before .before .before .before .before .before .before .before .before .before .before .before .before .before .before .before .before .before .before .args .packet)) (sym (c .before .before .before .before .before .before .before .before .before .before .before .before .before .before .before .before .before .before .ids-in .ensures)) ∙ sym (c .before .before .before .before .before .before .before .before .before .before .before .before .before .before .before .before .before .closed-by .ensures) ∙ c .before .before .before .before .before .before .before .before .before .before .before .before .before .before .before .before .if2 .left) (rw (c .before .before .before .before .before .before .before .before .before .before .before .before .before .before .before .before .before .before .before .before .before .frame-len .ensures) at (c .before .before .before .before .before .before .before .before .before .before .read-other .ensures))
 
 pub read-packet-spec : {M : Type 1} → statement M
 read-packet-spec =
     tie.close
     (tie.spec
     payload-requires
-    add-used
+    frame-len-requires
     is-direct-requires
     read-direct-requires
     same-length

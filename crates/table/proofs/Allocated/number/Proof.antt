@@ -1,0 +1,27 @@
+use Rattle.table.specs.Numbers.{allocatedNumber}
+use borrow.Author.Needs.{needs}
+use Rattle.table.proofs.Allocated.number.Statement.{statement}
+use Rattle.table.proofs.Allocated.number.Tie as tie
+use Rattle.table.proofs.Allocated.number.Reads as reads
+use Rattle.table.proofs.Allocated.number.Lts as lts
+
+-- src/lib.rt:62:38
+enum-told : tie.Need-enum-told
+enum-told c = search needs
+
+-- src/lib.rt:63:34
+enum-told-2 : tie.Need-enum-told-2
+enum-told-2 c = search needs
+
+-- src/lib.rt:58:5
+returns : tie.Need-returns
+unfolding allocatedNumber
+returns c = rw (c .enum-told .given .1)
+
+-- src/lib.rt:58:5
+returns-2 : tie.Need-returns-2
+unfolding allocatedNumber
+returns-2 c = rw (c .enum-told2 .given .1)
+
+pub number-spec : {M : Type 1} → statement M
+number-spec = tie.close (tie.spec enum-told enum-told-2 returns returns-2)
