@@ -76,7 +76,7 @@ leaves w (x ∷ xs) = leaves (leftIn x) xs
 abbrev pub events : List Step → List Event
 events xs = map eventIn xs
 
--- "whether numbers are shared is asked after every call"
+-- that no two channels share a local number is asked after every call
 abbrev pub ApartIn : List Step → Type 0
 ApartIn [] = Unit {0}
 ApartIn (x ∷ xs) = Distinct (leftIn x) × ApartIn xs

@@ -1,4 +1,4 @@
--- A connection's limits (document 01, "Limits" and config.rs). Assumes nothing.
+-- A connection's limits (docs/SCOPE.md, 3; config.rs). Assumes nothing.
 use Prim.Native.Nat.{ℕ, _+_, _-_, _*_, _≤_, min, max}
 use mathlib.Core.Bool.{Bool, _&&_}
 use lib.Dec.{leb}

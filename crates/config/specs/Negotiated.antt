@@ -1,4 +1,4 @@
--- What the two ends agreed on (document 01, negotiated.rs). Assumes nothing.
+-- What the two ends agreed on (docs/SCOPE.md, 3; negotiated.rs). Assumes nothing.
 use Prim.Native.Nat.{ℕ, min}
 use mathlib.Core.Bool.{Bool, _&&_, cond}
 use Rattle.config.specs.declared.ConnectionConfig.{ConnectionConfig}

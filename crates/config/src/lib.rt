@@ -23,7 +23,7 @@ impl ConnectionConfig {
 
     pub const MAX_INITIAL_ACK_BYTES: u32 = 2_147_483_647;
 
-    // Whether every limit of document 01 is kept.
+    // Whether every limit is kept (docs/SCOPE.md, 3).
     pub fn within_limits(self) -> bool
         ensures { λ r. ⌜ r ≡ withinLimits self ⌝ }
     {

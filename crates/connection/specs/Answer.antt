@@ -1,4 +1,4 @@
--- The numbers and values of answers (document 01's two lists of refusals; docs/LAYOUT.md, "The answer"). Assumes nothing.
+-- The numbers and values of answers (docs/SCOPE.md, 6; docs/LAYOUT.md, "The answer"). Assumes nothing.
 use Prim.Native.Nat.{ℕ}
 use mathlib.Core.List.{List, [], _∷_}
 use Rattle.slot.specs.declared.PendingAck.{PendingAck}
@@ -8,7 +8,7 @@ use Rattle.connection.specs.declared.Answer.the-variants.{Done, Waiting,
 use Rattle.connection.specs.declared.Refusal.{Refusal}
 use Rattle.connection.specs.declared.Refusal.the-variants.{InvalidCommand, InvalidMagic, PayloadTooLarge, InvalidChecksum, ShortReadyPayload, UnexpectedCommand, BadConfig, StoreShort, OutShort, ChannelClosed, ChannelRxOverflow, NoFreeChannels, BrokenState}
 
--- document 01's number of a refusal
+-- a refusal's number
 unfoldable pub refusalNumber : Refusal → ℕ
 refusalNumber (InvalidCommand word) = 1
 refusalNumber InvalidMagic = 2

@@ -1,4 +1,4 @@
--- The calls (document 01, "How the calls change", both lists of refusals, "Order"; connection.rs), each as a function of what
+-- The calls (docs/SCOPE.md, 5 and 6; connection.rs), each as a function of what
 -- its caller lends and hands in. Assumes nothing.
 use Prim.Native.Nat.{ℕ, _+_, _*_, min, max}
 use mathlib.Core.Bool.{Bool, true, false, not, cond, _&&_}

@@ -7,7 +7,7 @@ use table::ChannelId;
 ghost use mathlib.Core.Path.{_≡_};
 ghost use Rattle.connection.specs.Answer.{refusalNumber, numberOf};
 
-// The scope document's refusals.
+// The refusals (docs/SCOPE.md, 6).
 pub enum Refusal {
     // With the word that names no command, in 64 bits as the other values of answers: an answer is loaded in words of 64
     // bits, and the processor does not forward a store of 32 to such a load.

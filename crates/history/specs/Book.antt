@@ -1,4 +1,4 @@
--- The book of each channel (document 01, "What does demand 3 count?"; a sentence in quotes is that section's): fed with each
+-- The book of each channel (docs/SCOPE.md, 8, whose words for what it counts are the names here): told from each
 -- call's arguments, its answer and the frames that it wrote, its steps in the Rust's order but for its OKAYs, which are counted
 -- last: where a call settles twice nothing was buffered at the first time, so that its OKAY carries 0. Assumes nothing.
 use Prim.Native.Nat.{ℕ, suc, _+_, _-_, min}
@@ -68,7 +68,7 @@ emptyBook there l r c =
 abbrev pub noBook : Book
 noBook = emptyBook false 0 0 0
 
--- "empty at filling"
+-- empty when its slot is filled
 abbrev pub newBook : ℕ → ℕ → ℕ → Book
 newBook l r c = emptyBook true l r c
 
@@ -110,31 +110,31 @@ withMarks b closed kept over =
 
 -- ---- entries: names in B change a book
 
--- the device's rule: "sent before it is below the credit in our OPEN plus acknowledged as it stood before that call"
+-- the device's rule: what was sent before is below the opening credit and what was acknowledged before that call
 abbrev pub withinRule : ℕ → Book → Bool
 withinRule before b = ltb (b .sent) (b .opening + before)
 
--- "adds its length to sent"
+-- sent: its length
 abbrev pub sentB : ℕ → ℕ → Book → Book
 sentB before n b = withMarks (withBytes b (b .sent + n) (b .accepted) (b .handed) (b .acked) (b .aside)) (b .closed) (b .kept && withinRule before b) (b .over)
 
--- "its payload joins accepted"
+-- accepted: its payload
 abbrev pub acceptedB : List ℕ → Book → Book
 acceptedB bs b = withBytes b (b .sent) (b .accepted ++ bs) (b .handed) (b .acked) (b .aside)
 
--- "adds the bytes its answer counts in the reader's buffer to handed over, and takes their number off set aside, down to 0"
+-- handed over: the bytes that the answer counts in the reader's buffer; their number is taken off set aside, down to 0
 abbrev pub handedB : List ℕ → Book → Book
 handedB bs b = withBytes b (b .sent) (b .accepted) (b .handed ++ bs) (b .acked) (b .aside - length bs)
 
--- "adds the credit it carries to acknowledged"
+-- acknowledged: an OKAY's credit
 abbrev pub ackedB : ℕ → Book → Book
 ackedB k b = withBytes b (b .sent) (b .accepted) (b .handed) (b .acked + k) (b .aside)
 
--- "adds to set aside"
+-- set aside: what a settling newly sets aside
 abbrev pub asideB : ℕ → Book → Book
 asideB n b = withBytes b (b .sent) (b .accepted) (b .handed) (b .acked) (b .aside + n)
 
--- "closes it"
+-- closed
 abbrev pub closedB : Book → Book
 closedB b = withMarks b true (b .kept) (b .over)
 
@@ -142,11 +142,11 @@ closedB b = withMarks b true (b .kept) (b .over)
 abbrev pub overB : Bool → Book → Book
 overB t b = withMarks b (b .closed) (b .kept) (b .over || t)
 
--- "taking accepted less handed over as buffered and accepted less acknowledged as unacknowledged"
+-- buffered is accepted less handed over, unacknowledged is accepted less acknowledged
 unfoldable pub bookSlot : Book → ChannelSlot
 bookSlot b = withNumbers (withRemote emptySlot (record { 0 = b .remote })) (length (b .accepted) - b .acked) (b .aside) 0 (length (b .accepted) - length (b .handed))
 
--- "what `settle_take`, within cap as above, newly sets aside"
+-- what `settle_take` newly sets aside, within cap
 unfoldable pub newAside : RxPolicy → ℕ → Book → ℕ
 newAside p want b = min (settledOf (bookSlot b) p want .slot .settled) (p .«rx_cap») - b .aside
 
@@ -310,7 +310,7 @@ openedB i asked (writeCall out ch bytes received) o b = b
 openedB i asked (closeCall out ch) o b = b
 openedB i asked frontTaken o b = b
 
--- "An OKAY written with its local number in arg0, by a refused call too", after the call's other steps
+-- with the OKAYs written that have its local number in arg0, by a refused call too, after the call's other steps
 unfoldable pub acksB : Seen → Book → Book
 acksB o b = cond (b .there) (ackedB (acksOf (b .local) (o .sent)) b) b
 

@@ -1,4 +1,4 @@
--- Demand 3: one statement over every list of calls (document 01, "What does demand 3 count?"). Assumes nothing.
+-- Demand 3: one statement over every list of calls (docs/SCOPE.md, 7 and 8). Assumes nothing.
 use Prim.Native.Nat.{ℕ, _+_, _^_, _≤_, _<_}
 use mathlib.Core.Bool.{true, false}
 use mathlib.Core.List.{List, [], _∷_, _++_}
@@ -30,7 +30,7 @@ runOf rx cap i s = part (shareOf rx cap i) (s .head) (s .buffered)
 abbrev pub Distinct : World → Type 0
 Distinct w = (i j : ℕ) → slotOf w i .filled ≡ true → slotOf w j .filled ≡ true → slotOf w i .local .0 ≡ slotOf w j .local .0 → i ≡ j
 
--- "whether numbers are shared is asked after every call"
+-- asked after every call
 unfoldable pub Apart : World → List Call → Type 0
 Apart w [] = Unit {0}
 Apart w (c ∷ cs) = Distinct (after w c) × Apart (after w c) cs

@@ -1,5 +1,5 @@
--- Refusal 13 is never given on a state that make began, whatever the calls (document 01, refusal 13: "It is not given
--- otherwise, but for bytes that are no state"). Assumes nothing.
+-- Refusal 13 is never given on a state that make began, whatever the calls (docs/SCOPE.md, 6: it is given for a state that is
+-- not whole and for nothing else). Assumes nothing.
 use Prim.Native.Nat.{ℕ}
 use mathlib.Core.Bool.{true, false}
 use mathlib.Core.List.{List, _++_}

@@ -1,6 +1,5 @@
--- Lists of calls, each on the state and stores that the last one left (document 01, "What does demand 3 count?": "The list
--- starts from the state that make answered, with stores of any bytes; received bytes, data and buffers are each call's
--- own"). Assumes nothing.
+-- Lists of calls, each on the state and stores that the last one left (docs/SCOPE.md, 8: a list begins with the state that
+-- make left, and stores of any bytes; received bytes, data and buffers are each call's own). Assumes nothing.
 use Prim.Native.Nat.{ℕ, _%_, _≤_}
 use mathlib.Core.Bool.{Bool, true}
 use mathlib.Core.List.{List, [], _∷_, map}

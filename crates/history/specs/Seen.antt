@@ -1,6 +1,5 @@
--- What a caller sees of a call (document 01, "What does demand 3 count?": a book is "fed the calls' arguments, their answers and
--- the frames they wrote"): a function of the number, the answer and the two buffers that it holds after the call. Assumes
--- nothing.
+-- What a caller sees of a call (docs/SCOPE.md, 8: a book is told from the arguments, the answers and the frames written): a
+-- function of the number, the answer and the two buffers that it holds after the call. Assumes nothing.
 use Prim.Native.Nat.{ℕ, zero, suc}
 use mathlib.Core.Bool.{cond}
 use mathlib.Core.List.{List, [], _∷_}

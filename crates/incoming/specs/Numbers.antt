@@ -1,4 +1,4 @@
--- Document 01's numbers of the queue's answers. Assumes nothing.
+-- The numbers of the queue's answers (docs/SCOPE.md, 6). Assumes nothing.
 use Prim.Native.Nat.{ℕ}
 use Rattle.incoming.specs.declared.Front.{Front}
 use Rattle.incoming.specs.declared.Front.the-variants.{Open, Nothing}

@@ -30,7 +30,7 @@ pub enum Front {
     Nothing,
 }
 
-// The scope document's number of each answer: an OPEN beyond the number of channels is answered by a CLSE and is no refusal of
+// The number of each answer (docs/SCOPE.md, 6): an OPEN beyond the number of channels is answered by a CLSE and is no refusal of
 // the call; 101 for none waiting.
 
 impl Pushed {

@@ -1,4 +1,4 @@
--- Document 01's marked cases: for each, what the definitions give and what the document says. Assumes nothing.
+-- The marked cases (docs/SCOPE.md, 9): for each, what the definitions give and what they are to give. Assumes nothing.
 use Prim.Native.Nat.{ℕ, suc}
 use lib.IntN.{ℤ, pos, negsuc}
 use mathlib.Core.Bool.{Bool, true, false}

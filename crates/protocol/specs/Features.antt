@@ -1,4 +1,4 @@
--- Whether an identity text lists a feature (document 01, features.rs): from the first "features=" on, the rest of the
+-- Whether an identity text lists a feature (docs/SCOPE.md, 2; features.rs): from the first "features=" on, the rest of the
 -- text is cut at every comma and semicolon, and one part equals the name. Assumes nothing.
 use Prim.Native.Nat.{ℕ, _≤_}
 use mathlib.Core.Path.{_≡_}

@@ -1,4 +1,4 @@
--- Frames (document 01, packet.rs; protocol.txt, "protocol overview and basics"). Assumes nothing.
+-- Frames (docs/SCOPE.md, 2; packet.rs; protocol.txt, "protocol overview and basics"). Assumes nothing.
 use Prim.Native.Nat.{ℕ, _+_, _-_, _≤_, min}
 use mathlib.Core.Path.{_≡_}
 use mathlib.Core.Bool.{Bool, true, cond, not}
@@ -59,7 +59,7 @@ unfoldable pub decodeOf : List ℕ → ℕ → Decoded
 decodeOf s limit =
     cond (ltb (length s) 24) Waiting (namedOf s limit (messageOf s) (commandOf (messageOf s .command)))
 
--- document 01's number of an answer: a refusal's own, 100 for waiting, 0 for a frame
+-- the number of an answer (docs/SCOPE.md, 6): a refusal's own, 100 for waiting, 0 for a frame
 unfoldable pub numberOf : Decoded → ℕ
 numberOf Waiting = 100
 numberOf (InvalidCommand word) = 1
@@ -121,7 +121,7 @@ pub record Encodes (o : Outcome) (r : Encoded) (out : List ℕ) : Type 0 where
   pub result-is : r ≡ o .result
   pub out-is : out ≡ o .out
 
--- document 01's number of its answer: a refusal's own, 0 for a frame
+-- the number of its answer: a refusal's own, 0 for a frame
 unfoldable pub encodedNumber : Encoded → ℕ
 encodedNumber (Written n) = 0
 encodedNumber TooLarge = 3

@@ -35,7 +35,7 @@ pub enum Decoded {
 }
 
 impl Decoded {
-    // Document 01's number of the answer: a refusal's own, 100 for waiting, 0 for a frame.
+    // The number of the answer (docs/SCOPE.md, 6): a refusal's own, 100 for waiting, 0 for a frame.
     pub fn number(self) -> u32
         ensures { λ r. ⌜ r ≡ numberOf self ⌝ }
     {
@@ -61,7 +61,7 @@ pub enum Encoded {
 }
 
 impl Encoded {
-    // Document 01's number of the answer: a refusal's own, 0 for a frame.
+    // The number of the answer (docs/SCOPE.md, 6): a refusal's own, 0 for a frame.
     pub fn number(self) -> u32
         ensures { λ r. ⌜ r ≡ encodedNumber self ⌝ }
     {

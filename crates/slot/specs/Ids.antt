@@ -1,4 +1,4 @@
--- The numbers of a channel (document 01, ids.rs). Assumes nothing.
+-- The numbers of a channel (docs/SCOPE.md, 4; ids.rs). Assumes nothing.
 use Prim.Native.Nat.{ℕ}
 use mathlib.Core.Bool.{Bool, true, false, cond}
 use lib.Dec.{eqb}

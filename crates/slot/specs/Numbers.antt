@@ -1,5 +1,5 @@
--- Document 01's numbers of a slot's answers: a refusal's own, 0 for none, 100 for waiting, 101 for nothing there. Assumes
--- nothing.
+-- The numbers of a slot's answers (docs/SCOPE.md, 6): a refusal's own, 0 for none, 100 for waiting, 101 for nothing there.
+-- Assumes nothing.
 use Prim.Native.Nat.{ℕ}
 use Rattle.slot.specs.declared.Credit.{Credit}
 use Rattle.slot.specs.declared.Credit.the-variants.{Of, Short}

@@ -1,4 +1,4 @@
--- One channel's numbers (document 01, slot.rs). A name in backquotes is the function of slot.rs that a definition follows.
+-- One channel's numbers (docs/SCOPE.md, 4; slot.rs). A name in backquotes is the function of slot.rs that a definition follows.
 -- Assumes nothing.
 use Prim.Native.Nat.{ℕ, _+_, _-_, _*_, _≤_, _<_, min}
 use mathlib.Core.Bool.{Bool, true, false, not, cond, _&&_}

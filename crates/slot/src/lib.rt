@@ -128,7 +128,7 @@ pub enum Reserved {
     Nothing,
 }
 
-// The scope document's number of each answer: a refusal's own, 0 where there is none, 100 for waiting, 101 for nothing there.
+// The number of each answer (docs/SCOPE.md, 6): a refusal's own, 0 where there is none, 100 for waiting, 101 for nothing there.
 
 impl Credit {
     pub fn number(self) -> u32

@@ -1,4 +1,4 @@
--- What makes a state whole: refusal 13's list in document 01, and nothing else. Assumes nothing.
+-- What makes a state whole: refusal 13's list in docs/SCOPE.md, 6, and nothing else. Assumes nothing.
 use Prim.Native.Nat.{ℕ, zero, suc, _≤_}
 use mathlib.Core.Bool.{Bool, true, false, not, cond, _&&_}
 use mathlib.Core.List.{List, [], _∷_}

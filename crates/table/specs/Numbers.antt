@@ -1,4 +1,4 @@
--- Document 01's numbers of the table's answers: a refusal's own, 0 for none. Assumes nothing.
+-- The numbers of the table's answers (docs/SCOPE.md, 6): a refusal's own, 0 for none. Assumes nothing.
 use Prim.Native.Nat.{ℕ}
 use Rattle.slot.specs.Numbers.{faultNumber}
 use Rattle.table.specs.declared.Allocated.{Allocated}

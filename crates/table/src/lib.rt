@@ -52,7 +52,7 @@ pub enum DispatchOutcome {
     Unmatched,
 }
 
-// The scope document's number of each answer: a refusal's own, 0 where there is none.
+// The number of each answer (docs/SCOPE.md, 6): a refusal's own, 0 where there is none.
 
 impl Allocated {
     pub fn number(self) -> u32

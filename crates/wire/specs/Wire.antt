@@ -1,4 +1,4 @@
--- Outgoing frames (document 01, wire.rs and packet.rs). Assumes nothing.
+-- Outgoing frames (docs/SCOPE.md, 2; wire.rs and packet.rs). Assumes nothing.
 use Prim.Native.Nat.{ℕ}
 use mathlib.Core.Bool.{Bool, cond}
 use mathlib.Core.List.{List, []}
