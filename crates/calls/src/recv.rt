@@ -2,7 +2,6 @@
 use connection::Answer;
 use connection::Received;
 use connection::Refusal;
-use protocol::command::Command;
 use protocol::packet::Decoded;
 use protocol::packet::Packet;
 use slot::ChannelError;
@@ -13,7 +12,7 @@ ghost use mathlib.Core.Path.{_≡_};
 ghost use mathlib.Core.Bool.{_&&_};
 ghost use lib.Dec.{eqb};
 ghost use Rattle.protocol.specs.Packet.{decodeOf};
-ghost use Rattle.connection.specs.Calls.{receivedBy, faultRefusal, errorRefusal, unlessFault, isWrite, isReady};
+ghost use Rattle.connection.specs.Calls.{receivedBy, faultRefusal, errorRefusal, unlessFault};
 
 // Waiting and refusals 1 to 3 use nothing; 4 uses the frame.
 pub fn recv_pkt(received: &[u8], max_payload: u32) -> Received
@@ -62,36 +61,6 @@ pub fn unless_fault(fault: Failed, answer: Answer) -> Answer
     match fault {
         Failed::No => answer,
         Failed::By(why) => Answer::Refused(fault_refusal(why)),
-    }
-}
-
-pub fn is_write(command: Command) -> bool
-    ensures { λ r. ⌜ r ≡ isWrite command ⌝ }
-{
-    match command {
-        Command::Sync => false,
-        Command::Connect => false,
-        Command::Open => false,
-        Command::Ready => false,
-        Command::Close => false,
-        Command::Write => true,
-        Command::Auth => false,
-        Command::StartTls => false,
-    }
-}
-
-pub fn is_ready(command: Command) -> bool
-    ensures { λ r. ⌜ r ≡ isReady command ⌝ }
-{
-    match command {
-        Command::Sync => false,
-        Command::Connect => false,
-        Command::Open => false,
-        Command::Ready => true,
-        Command::Close => false,
-        Command::Write => false,
-        Command::Auth => false,
-        Command::StartTls => false,
     }
 }
 

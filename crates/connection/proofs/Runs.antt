@@ -15,10 +15,10 @@ use Rattle.rx_store.specs.RxStore.{slid, fitsBehind, appendedHead, appended, ta
 use Rattle.config.specs.Config.{withinLimits, capOf, ceilingOf, watermarkOf, openingCredit, rxStoreLen, openStoreLen, storesFit}
 use Rattle.config.specs.Negotiated.{both, negotiatedOf, policyOf, creditOf as creditOf-config}
 use Rattle.protocol.specs.Checksum.{total, sumOf, policyFor, checkFor}
-use Rattle.protocol.specs.Command.{lettersOf, wordOf, magicOf, commands, amongOf, commandOf}
+use Rattle.protocol.specs.Command.{lettersOf, wordOf, magicOf, commands, amongOf, commandOf, isReady, isClose, isWrite, isThe}
 use Rattle.protocol.specs.Message.{messageOf, headerBytes as headerBytes-protocol}
 use Rattle.protocol.specs.Packet.{payloadOf, checkPasses, packetOf, knownOf, namedOf, decodeOf, messageFor, frameBytes as frameBytes-protocol}
-use Rattle.slot.specs.Ids.{isClose, namedBy, closedBy}
+use Rattle.slot.specs.Ids.{namedBy, closedBy}
 use Rattle.slot.specs.Slot.{creditOf, openingSlot, emptySlot, isOpening, isClosed, isFailed, errorOf, openedBy, openedOf, readyBy, readyOf, heldOf, acksNow, bufferedWith, wroteOf, someLen, deliveredOf, ackLenOf, hasData, settledBy, settledSome, settledOf, takeLen, tookOf, takenOf, someBudget, budgetOf, spentOf, closedSlot, slotOk}
 use Rattle.wire.specs.Wire.{creditBytes, okayBytes, closeBytes}
 use Rattle.state.specs.Rows.{flat}
@@ -29,7 +29,7 @@ use Rattle.incoming.specs.Incoming.{waitsAs, waits, named, freeFrom, freeShare,
 use Rattle.connection.specs.Frames.{frameBytes, framesBytes}
 use Rattle.connection.specs.Act.{pushedBy, actedBy, tableOf, actOn}
 use Rattle.connection.specs.Answer.{refusalNumber, numberOf, ackLength, refusalWord, valuesOf}
-use Rattle.connection.specs.Calls.{ends, checked, checkedOut, isThere, slotFor, ackFrames, faultRefusal, errorRefusal, unlessFault, receivedBy, receivedOf, isWrite, isReady, fresh, dispatchBy, dispatchStep, settledAs, settleStep, frontOf, takenBy, takeStep, reread, readSettled, readActed, isDirect, readDirect, readBy, readTaken, readFirst, readStep, sendLen, sendSome, sendBy, sendAgain, writeReadied, writeActed, writeAct, writeBy, writeFirst, writeOn, writeStep, closeStep, frontBy, frontStep, openOn, stillWaits, openReadied, openActed, openBy, openStep, openOf, dispatchOf, settleOf, takeOf, readOf, writeOf, closeOf, frontCall}
+use Rattle.connection.specs.Calls.{ends, checked, checkedOut, isThere, slotFor, ackFrames, faultRefusal, errorRefusal, unlessFault, receivedBy, receivedOf, fresh, dispatchBy, dispatchStep, settledAs, settleStep, frontOf, takenBy, takeStep, reread, readSettled, readActed, isDirect, readDirect, readBy, readTaken, readFirst, readStep, sendLen, sendSome, sendBy, sendAgain, writeReadied, writeActed, writeAct, writeBy, writeFirst, writeOn, writeStep, closeStep, frontBy, frontStep, openOn, stillWaits, openReadied, openActed, openBy, openStep, openOf, dispatchOf, settleOf, takeOf, readOf, writeOf, closeOf, frontCall}
 
 pub data Call : Type 0 where
   opens : List ℕ → List ℕ → Call
@@ -162,5 +162,5 @@ classicSteps =
     ∷ []
 
 pub agrees : given (start delayed) delayedSteps ++ given (start classic) classicSteps ≡ map (λ (s : Step). s .said) (delayedSteps ++ classicSteps)
-unfolding numOf bytesOf signed part put clamp satSum positivePart slid fitsBehind appendedHead appended takenHead withinLimits capOf ceilingOf watermarkOf openingCredit rxStoreLen openStoreLen storesFit both negotiatedOf policyOf creditOf-config total sumOf policyFor checkFor lettersOf wordOf magicOf commands amongOf commandOf messageOf headerBytes-protocol payloadOf checkPasses packetOf knownOf namedOf decodeOf messageFor frameBytes-protocol isClose namedBy closedBy creditOf openingSlot emptySlot isOpening isClosed isFailed errorOf openedBy openedOf readyBy readyOf heldOf acksNow bufferedWith wroteOf someLen deliveredOf ackLenOf hasData settledBy settledSome settledOf takeLen tookOf takenOf someBudget budgetOf spentOf closedSlot slotOk creditBytes okayBytes closeBytes flat filledOk slotFine slotsFine openFine opensFine waitingFine headerFine filledAt whole first wantedBy placeOf nextLocal allocated slotIn remotePlace closedAt closeOf-table readiedOf granted readyAt strayOf grantOf shareOf bufferedIn wroteBy wroteAt writeOf-table routeOf dispatchOf-table waitsAs waits named freeFrom freeShare staysBy kept withdrawal popped nextShare pushed frameBytes framesBytes pushedBy actedBy tableOf actOn refusalNumber numberOf ackLength refusalWord valuesOf ends checked checkedOut isThere slotFor ackFrames faultRefusal errorRefusal unlessFault receivedBy receivedOf isWrite isReady fresh dispatchBy dispatchStep settledAs settleStep frontOf takenBy takeStep reread readSettled readActed isDirect readDirect readBy readTaken readFirst readStep sendLen sendSome sendBy sendAgain writeReadied writeActed writeAct writeBy writeFirst writeOn writeStep closeStep frontBy frontStep openOn stillWaits openReadied openActed openBy openStep openOf dispatchOf settleOf takeOf readOf writeOf closeOf frontCall
+unfolding numOf bytesOf signed part put clamp satSum positivePart slid fitsBehind appendedHead appended takenHead withinLimits capOf ceilingOf watermarkOf openingCredit rxStoreLen openStoreLen storesFit both negotiatedOf policyOf creditOf-config total sumOf policyFor checkFor lettersOf wordOf magicOf commands amongOf commandOf messageOf headerBytes-protocol payloadOf checkPasses packetOf knownOf namedOf decodeOf messageFor frameBytes-protocol isClose namedBy closedBy creditOf openingSlot emptySlot isOpening isClosed isFailed errorOf openedBy openedOf readyBy readyOf heldOf acksNow bufferedWith wroteOf someLen deliveredOf ackLenOf hasData settledBy settledSome settledOf takeLen tookOf takenOf someBudget budgetOf spentOf closedSlot slotOk creditBytes okayBytes closeBytes flat filledOk slotFine slotsFine openFine opensFine waitingFine headerFine filledAt whole first wantedBy placeOf nextLocal allocated slotIn remotePlace closedAt closeOf-table readiedOf granted readyAt strayOf grantOf shareOf bufferedIn wroteBy wroteAt writeOf-table routeOf dispatchOf-table waitsAs waits named freeFrom freeShare staysBy kept withdrawal popped nextShare pushed frameBytes framesBytes pushedBy actedBy tableOf actOn refusalNumber numberOf ackLength refusalWord valuesOf ends checked checkedOut isThere slotFor ackFrames faultRefusal errorRefusal unlessFault receivedBy receivedOf isWrite isReady fresh dispatchBy dispatchStep settledAs settleStep frontOf takenBy takeStep reread readSettled readActed isDirect readDirect readBy readTaken readFirst readStep sendLen sendSome sendBy sendAgain writeReadied writeActed writeAct writeBy writeFirst writeOn writeStep closeStep frontBy frontStep openOn stillWaits openReadied openActed openBy openStep openOf dispatchOf settleOf takeOf readOf writeOf closeOf frontCall isThe
 agrees = refl

@@ -14,6 +14,7 @@ use Rattle.incoming.specs.declared.Front.{Front}
 use Rattle.incoming.specs.declared.Front.the-variants.{Open as FrontOpen, Nothing as NoFront}
 use Rattle.protocol.specs.declared.packet.Packet.{Packet}
 use Rattle.protocol.specs.Packet.{maxPayload}
+use Rattle.protocol.specs.Command.{isReady, isClose, isWrite}
 use Rattle.slot.specs.declared.Budget.{Budget}
 use Rattle.slot.specs.declared.Budget.the-variants.{Bytes as Most, Nothing as NoBudget}
 use Rattle.slot.specs.declared.ChannelSlot.{ChannelSlot}
@@ -26,7 +27,7 @@ use Rattle.slot.specs.declared.Settled.{Settled as SettledSlot}
 use Rattle.slot.specs.declared.Taken.{Taken}
 use Rattle.slot.specs.declared.Taken.the-variants.{Data, Nothing as NothingTaken, Closed as ClosedTaken}
 use Rattle.slot.specs.declared.ids.RemoteId.{RemoteId}
-use Rattle.slot.specs.Ids.{isClose, closedBy}
+use Rattle.slot.specs.Ids.{closedBy}
 use Rattle.slot.specs.Slot.{emptySlot, isClosed, readyOf, takenOf, budgetOf, closedSlot}
 use Rattle.slot.proofs.Kept.{pick}
 use Rattle.state.specs.declared.Header.{Header}
@@ -46,7 +47,7 @@ use Rattle.connection.specs.declared.Received.the-variants.{Packet as Pa
 use Rattle.connection.specs.declared.Refusal.the-variants.{PayloadTooLarge, ShortReadyPayload, UnexpectedCommand, OutShort, ChannelClosed, NoFreeChannels}
 use Rattle.connection.specs.Answer.{refusalNumber, numberOf}
 use Rattle.connection.specs.Act.{Acted, actOn}
-use Rattle.connection.specs.Calls.{Lent, Work, begun, then, thenActed, ends, dropped, waitingFor, policy, idsIn, isThere, slotFor, ackFrames, faultRefusal, errorRefusal, unlessFault, receivedOf, bodyOf, frameLen, isWrite, isReady, dispatchBy, dispatchStep, settledAs, settleStep, takenBy, takeStep, reread, readSettled, readActed, isDirect, readDirect, readBy, readTaken, readFirst, readStep, sendLen, sendSome, sendBy, sendAgain, writeReadied, writeActed, writeAct, writeBy, writeFirst, writeOn, writeStep, closeStep, frontBy, frontStep, openOn, stillWaits, openReadied, openActed, openBy, openStep}
+use Rattle.connection.specs.Calls.{Lent, Work, begun, then, thenActed, ends, dropped, waitingFor, policy, idsIn, isThere, slotFor, ackFrames, faultRefusal, errorRefusal, unlessFault, receivedOf, bodyOf, frameLen, dispatchBy, dispatchStep, settledAs, settleStep, takenBy, takeStep, reread, readSettled, readActed, isDirect, readDirect, readBy, readTaken, readFirst, readStep, sendLen, sendSome, sendBy, sendAgain, writeReadied, writeActed, writeAct, writeBy, writeFirst, writeOn, writeStep, closeStep, frontBy, frontStep, openOn, stillWaits, openReadied, openActed, openBy, openStep}
 use Rattle.connection.specs.Frames.{Frame, framesBytes}
 use Rattle.state.proofs.WholeLaws.{Live, Whole, live-whole, empty-whole}
 use Rattle.state.proofs.LiveLaws.{ReadiedLive, ready-live, opened-live, TakenLive, taken-live, settled-live, delivered-live, spent-live, closed-live}

@@ -14,12 +14,11 @@ use Rattle.config.specs.Negotiated.{negotiatedOf, policyOf, creditOf}
 use Rattle.incoming.specs.declared.Front.{Front}
 use Rattle.incoming.specs.declared.Front.the-variants.{Open as FrontOpen, Nothing as NoFront}
 use Rattle.incoming.specs.Incoming.{noOpen, popped}
-use Rattle.protocol.specs.declared.command.Command.{Command}
-use Rattle.protocol.specs.declared.command.Command.the-variants.{Sync, Connect, Open, Ready, Close, Write, Auth, StartTls}
 use Rattle.protocol.specs.declared.packet.Packet.{Packet}
 use Rattle.protocol.specs.declared.packet.Decoded.{Decoded}
 use Rattle.protocol.specs.declared.packet.Decoded.the-variants.{Waiting as FrameWaiting, InvalidCommand as WordInvalid, InvalidMagic as MagicInvalid, PayloadTooLarge as LengthTooLarge, InvalidChecksum as SumInvalid, Accepted}
 use Rattle.protocol.specs.Packet.{maxPayload, payloadOf, decodeOf}
+use Rattle.protocol.specs.Command.{isReady, isClose, isWrite}
 use Rattle.slot.specs.declared.Budget.{Budget}
 use Rattle.slot.specs.declared.Budget.the-variants.{Bytes, Nothing as NoBudget}
 use Rattle.slot.specs.declared.ChannelError.{ChannelError}
@@ -37,14 +36,12 @@ use Rattle.slot.specs.declared.Settled.{Settled as SettledSlot}
 use Rattle.slot.specs.declared.Taken.{Taken}
 use Rattle.slot.specs.declared.Taken.the-variants.{Data, Nothing as NothingTaken, Closed as ClosedTaken}
 use Rattle.slot.specs.declared.ids.ChannelIds.{ChannelIds}
-use Rattle.slot.specs.declared.ids.LocalId.{LocalId}
-use Rattle.slot.specs.Ids.{isClose, closedBy}
+use Rattle.slot.specs.Ids.{closedBy}
 use Rattle.slot.specs.Slot.{emptySlot, openingSlot, isClosed, openedOf, readyOf, deliveredOf, settledOf, takenOf, budgetOf, spentOf, closedSlot}
 use Rattle.state.specs.declared.Header.{Header}
-use Rattle.state.specs.declared.PendingOpen.{PendingOpen}
 use Rattle.state.specs.declared.Waiting.{Waiting as WaitingOpen}
 use Rattle.state.specs.Change.{Change, slotTo, headerTo, changedAll}
-use Rattle.state.specs.State.{Connection, layout, withSlot}
+use Rattle.state.specs.State.{Connection, layout}
 use Rattle.table.specs.declared.Allocated.{Allocated}
 use Rattle.table.specs.declared.Allocated.the-variants.{Channel, NoFree}
 use Rattle.table.specs.declared.ChannelId.{ChannelId}
@@ -198,28 +195,6 @@ bodyOf received p = payloadOf received (p .«data_length»)
 -- the bytes that a packet uses
 abbrev pub frameLen : Packet → ℕ
 frameLen p = 24 + p .«data_length»
-
--- a WRTE
-unfoldable pub isWrite : Command → Bool
-isWrite Sync = false
-isWrite Connect = false
-isWrite Open = false
-isWrite Ready = false
-isWrite Close = false
-isWrite Write = true
-isWrite Auth = false
-isWrite StartTls = false
-
--- an OKAY
-unfoldable pub isReady : Command → Bool
-isReady Sync = false
-isReady Connect = false
-isReady Open = false
-isReady Ready = true
-isReady Close = false
-isReady Write = false
-isReady Auth = false
-isReady StartTls = false
 
 -- ---- make (`Handshake::assemble`)
 

@@ -7,6 +7,7 @@ use native.Mathlib.Omega.{arith}
 use lib.Dec.{eqb, ltb, leb}
 use lib.ListN.{length}
 use borrow.Author.Tests.{eq-eqb, ne-eqb, ltb-true}
+use Rattle.le.specs.Le.{numOf}
 use Rattle.table.proofs.DispatchLaws.{share-in, length-buffered}
 use Rattle.le.proofs.Parts.{by-test}
 use Rattle.config.specs.declared.negotiated.RxPolicy.{RxPolicy}
@@ -18,6 +19,7 @@ use Rattle.protocol.specs.declared.command.Command.{Command}
 use Rattle.protocol.specs.declared.command.Command.the-variants.{Sync, Connect, Open, Ready, Close, Write, Auth, StartTls}
 use Rattle.protocol.specs.declared.message.Message.{Message}
 use Rattle.protocol.specs.declared.packet.Packet.{Packet}
+use Rattle.protocol.specs.Command.{isClose, isWrite, isThe, wordOf, lettersOf}
 use Rattle.slot.specs.declared.ids.LocalId.{LocalId}
 use Rattle.slot.specs.declared.ids.RemoteId.{RemoteId}
 use Rattle.slot.specs.declared.AckDecision.{AckDecision}
@@ -33,7 +35,6 @@ use Rattle.slot.specs.declared.PendingAck.the-variants.{Len, Nothing}
 use Rattle.slot.specs.declared.Readied.{Readied}
 use Rattle.slot.specs.declared.Readied.the-variants.{Slot, Short}
 use Rattle.slot.specs.declared.Wrote.{Wrote}
-use Rattle.slot.specs.Ids.{isClose}
 use Rattle.slot.specs.Slot.{isOpening, isClosed, bufferedWith, isFailed, acksNow, wroteOf, creditOf, readyBy, readyOf, closedSlot, heldOf, SlotOk}
 use Rattle.slot.proofs.Stays.{Stays, stays-same, ReadiedStays, ready-stays, wrote-stays, closed-stays}
 use Rattle.slot.proofs.Kept.{pick, wrote-sound, Readied-sound, ready-sound, closed-sound}
@@ -49,7 +50,7 @@ use Rattle.table.specs.Dispatch.{remotePlace, readiedOf, slotIn, Dispatched, wr
 use Rattle.connection.specs.declared.Answer.{Answer}
 use Rattle.connection.specs.Act.{Acted, pushedBy, actedBy, tableOf, actOn}
 use Rattle.connection.specs.Answer.{ackLength, numberOf}
-use Rattle.connection.specs.Calls.{ackFrames, isWrite}
+use Rattle.connection.specs.Calls.{ackFrames}
 use Rattle.connection.specs.Frames.{Frame, okayFrame, closeFrame, openFrame, writeFrame}
 use Rattle.history.specs.Book.{Book, sentB, closedB, overB, isRefused, isWrte, closesB, wrteB, frameB}
 use Rattle.history.specs.Demand3.{runOf}
@@ -279,7 +280,7 @@ unfolding closedAt
 faultless-closed f n ss other e = pick Faultless (ltb f n) (λ t. refl) (λ t. e)
 
 faultless-route : (p : RxPolicy) (n : ℕ) (ss : List ChannelSlot) (c : Command) (a l : ℕ) (payload rx : List ℕ) → isClose c ≡ true → Faultless (routeOf p n ss c a l payload rx .step)
-unfolding routeOf isClose closeOf
+unfolding routeOf isClose closeOf isThe wordOf lettersOf numOf
 faultless-route p n ss Connect a l payload rx e = absurd (true≢false (sym e))
 faultless-route p n ss Auth a l payload rx e = absurd (true≢false (sym e))
 faultless-route p n ss StartTls a l payload rx e = absurd (true≢false (sym e))

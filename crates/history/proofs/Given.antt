@@ -8,11 +8,14 @@ use lib.Dec.{eqb, ltb}
 use lib.ListN.{length, set, drop, length-map}
 use lib.Seq.{set-out}
 use borrow.Author.Tests.{eqb-true, eqb-false, ltb-true, ltb-false, lt-ltb}
+use Rattle.le.specs.Le.{numOf}
 use Rattle.le.proofs.Parts.{by-test}
 use Rattle.config.specs.declared.negotiated.Negotiated.{Negotiated}
 use Rattle.config.specs.Config.{storesFit, capOf}
 use Rattle.config.specs.Negotiated.{policyOf}
+use Rattle.protocol.specs.declared.command.Command.the-variants.{Open}
 use Rattle.protocol.specs.Packet.{maxPayload}
+use Rattle.protocol.specs.Command.{lettersOf, wordOf, isThe, isOpen}
 use Rattle.slot.specs.declared.ChannelSlot.{ChannelSlot}
 use Rattle.slot.specs.Slot.{emptySlot}
 use Rattle.slot.proofs.Kept.{pick}
@@ -36,7 +39,6 @@ use Rattle.connection.proofs.Slots.{slotsBy, slots-by, slot-set-same, slot-set-
 use Rattle.connection.proofs.Sending.{sentOf}
 use Rattle.history.specs.Run.{bytesIn, Call, openCall, dispatchCall, settleCall, takeCall, readCall, writeCall, closeCall, frontTaken, World, lent, outcome, after, begins, agreedIn}
 use Rattle.history.specs.Seen.{heldOf, Seen, Event, seenOf, eventsOf}
-use Rattle.history.specs.Book.{isOpen}
 use Rattle.history.specs.Demand3.{Distinct, Apart}
 use Rattle.history.specs.Numbers.{opensIn, givenBy, givenIn, NumbersApart, Demand3Free}
 use Rattle.history.proofs.Good.{Good, Leaves, new-good}
@@ -48,6 +50,10 @@ use Rattle.history.proofs.Places.{TableOk}
 use Rattle.history.proofs.Theorem.{table, fits-long, fresh-start, fresh-far, no-slot, after-8, demand-3}
 use Rattle.history.proofs.Told.{or-true}
 use Rattle.history.proofs.Written.{seen-is}
+
+open-told : isOpen Open ≡ true
+unfolding isOpen isThe wordOf lettersOf numOf
+open-told = refl
 
 -- ---- the numbers given out: 1 to k, at most g
 
@@ -261,7 +267,7 @@ module _ (w : World) (r : List ℕ) (rx store : ℕ) where
         let y = ok .size in
         given-fills g _ c (to o) (c .header .waiting .slot) t (omega arith) (omega arith) (slots-by c (o .changes) ∙ e2) (sym (ng .loc)) (a .next) on off v
     open-given out destination received small o z (asks ch q e f fr) (leaves o1 e1 t) =
-        next-given o _ (open-one out destination received _ (ap (λ (x : Outcome). x .frames) (sym z) ∙ fr) refl) small (tame-shrinks (c .slots) (o .changes) t)
+        next-given o _ (open-one out destination received _ (ap (λ (x : Outcome). x .frames) (sym z) ∙ fr) open-told) small (tame-shrinks (c .slots) (o .changes) t)
         (ap (λ (x : Header). x .«next_local») f) (λ u. ap (λ (x : Header). x .waiting .local .0) f ∙ begun-local ch e)
     open-given out destination received small o z (asks ch q e f fr) (fills o1 t k sy e1 e2 e3 e5 on off e4) = absurd (true≢false (sym on ∙ q))
     open-given out destination received small o z (skips q f a lt) (leaves o1 e1 t) =

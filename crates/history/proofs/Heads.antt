@@ -16,6 +16,7 @@ use Rattle.incoming.specs.declared.Pushed.the-variants.{Queued, Full}
 use Rattle.incoming.specs.Incoming.{PushOutcome, pushed, withdrawal, popped}
 use Rattle.protocol.specs.declared.packet.Packet.{Packet}
 use Rattle.protocol.specs.Packet.{maxPayload}
+use Rattle.protocol.specs.Command.{isReady, isClose, isWrite}
 use Rattle.slot.specs.declared.ids.RemoteId.{RemoteId}
 use Rattle.slot.specs.declared.Budget.{Budget}
 use Rattle.slot.specs.declared.Budget.the-variants.{Bytes, Nothing as NoBudget}
@@ -26,7 +27,7 @@ use Rattle.slot.specs.declared.Readied.{Readied}
 use Rattle.slot.specs.declared.Readied.the-variants.{Slot, Short}
 use Rattle.slot.specs.declared.Taken.{Taken}
 use Rattle.slot.specs.declared.Taken.the-variants.{Data, Nothing as NothingTaken, Closed as ClosedTaken}
-use Rattle.slot.specs.Ids.{isClose, closedBy}
+use Rattle.slot.specs.Ids.{closedBy}
 use Rattle.slot.specs.Slot.{isClosed, takenOf, budgetOf, spentOf, readyOf}
 use Rattle.slot.proofs.Kept.{pick}
 use Rattle.state.specs.declared.Header.{Header}
@@ -47,7 +48,7 @@ use Rattle.connection.specs.declared.Received.the-variants.{Packet as PacketIs,
 use Rattle.connection.specs.declared.Refusal.{Refusal}
 use Rattle.connection.specs.declared.Refusal.the-variants.{StoreShort, OutShort, NoFreeChannels, PayloadTooLarge, BrokenState}
 use Rattle.connection.specs.Act.{Acted, pushedBy, actedBy, tableOf, actOn}
-use Rattle.connection.specs.Calls.{Lent, Outcome, Work, begun, then, thenActed, withHeader, ends, untouched, checked, checkedOut, openOf, dispatchOf, settleOf, takeOf, readOf, writeOf, closeOf, frontCall, dropped, waitingFor, policy, bodyOf, frameLen, idsIn, isThere, slotFor, receivedOf, unlessFault, stillWaits, isWrite, isReady, dispatchBy, dispatchStep, settledAs, settleStep, takenBy, takeStep, reread, readSettled, readActed, isDirect, readDirect, readBy, readTaken, readFirst, readStep, sendSome, sendBy, sendAgain, writeReadied, writeActed, writeAct, writeBy, writeFirst, writeOn, writeStep, closeStep, frontBy, frontStep, openOn, openReadied, openActed, openBy, openStep}
+use Rattle.connection.specs.Calls.{Lent, Outcome, Work, begun, then, thenActed, withHeader, ends, untouched, checked, checkedOut, openOf, dispatchOf, settleOf, takeOf, readOf, writeOf, closeOf, frontCall, dropped, waitingFor, policy, bodyOf, frameLen, idsIn, isThere, slotFor, receivedOf, unlessFault, stillWaits, dispatchBy, dispatchStep, settledAs, settleStep, takenBy, takeStep, reread, readSettled, readActed, isDirect, readDirect, readBy, readTaken, readFirst, readStep, sendSome, sendBy, sendAgain, writeReadied, writeActed, writeAct, writeBy, writeFirst, writeOn, writeStep, closeStep, frontBy, frontStep, openOn, openReadied, openActed, openBy, openStep}
 use Rattle.connection.specs.Frames.{Frame, openFrame, writeFrame, framesBytes}
 use Rattle.history.specs.Run.{bytesIn, Call, openCall, dispatchCall, settleCall, takeCall, readCall, writeCall, closeCall, frontTaken, World, lent, outcome}
 use Rattle.history.proofs.Heard.{openIn}

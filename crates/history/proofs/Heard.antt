@@ -12,7 +12,7 @@ use lib.Dec.{eqb}
 use lib.ListN.{length, take}
 use lib.Seq.{drop-at}
 use borrow.Author.Tests.{eqb-true, eq-eqb}
-use Rattle.le.specs.Le.{bytesOf, part, put}
+use Rattle.le.specs.Le.{bytesOf, part, put, numOf}
 use Rattle.le.proofs.Laws.{write-read}
 use Rattle.le.proofs.Parts.{by-test, part-put-same}
 use Rattle.slot.proofs.Laws.{cond-true, cond-false}
@@ -21,6 +21,7 @@ use Rattle.config.specs.declared.negotiated.RxPolicy.{RxPolicy}
 use Rattle.protocol.specs.Checksum.{policyFor}
 use Rattle.protocol.specs.Packet.{maxPayload, decodeOf, usedOf, frameFor}
 use Rattle.protocol.proofs.RoundTrip.{Comes-back}
+use Rattle.protocol.specs.Command.{isOpen, isReady, isThe, wordOf, lettersOf}
 use Rattle.state.specs.Rows.{flat}
 use Rattle.state.proofs.RowLaws.{Every}
 use Rattle.wire.specs.Wire.{creditBytes, okayBytes, closeBytes}
@@ -28,7 +29,7 @@ use Rattle.wire.proofs.Laws.{back}
 use Rattle.connection.specs.declared.Answer.{Answer}
 use Rattle.connection.specs.declared.Refusal.the-variants.{StoreShort}
 use Rattle.connection.specs.Answer.{refusalNumber, numberOf, refusalWord, valuesOf}
-use Rattle.connection.specs.Calls.{Lent, Outcome, writtenBy, untouched, isReady}
+use Rattle.connection.specs.Calls.{Lent, Outcome, writtenBy, untouched}
 use Rattle.connection.specs.Frames.{Frame, okayFrame, closeFrame, openFrame, writeFrame, frameBytes, framesBytes, Sent}
 use Rattle.connection.proofs.Sending.{sentOf, SentFits, FrameFits}
 use Rattle.history.specs.Book.{creditIn, acksOf, lastOpen}
@@ -102,7 +103,7 @@ credit-back false len h = refl
 -- is the one that the frames carry
 pub heard-acks : (p : RxPolicy) (n : Negotiated) (l : ℕ) (fs : List Frame) → p .delayed ≡ n .«delayed_ack» → Every (FrameFits n) fs
     → acksOf l (map (sentOf n) fs) ≡ acksIn p l fs
-unfolding acksOf isReady
+unfolding acksOf isReady isThe wordOf lettersOf numOf
 heard-acks p n l [] d e = refl
 heard-acks p n l (okayFrame ids len ∷ fs) d e =
     let c : creditIn (creditBytes (n .«delayed_ack») len) ≡ cond (p .delayed) len 0 = credit-back (n .«delayed_ack») len (e .0 .len-fits) ∙ ap (λ (t : Bool). cond t len 0) (sym d) in
@@ -122,7 +123,7 @@ openIn (writeFrame ids bytes ∷ fs) a = openIn fs a
 
 -- is the one that is read
 pub heard-open : (n : Negotiated) (fs : List Frame) (a : ℕ) → lastOpen (map (sentOf n) fs) a ≡ openIn fs a
-unfolding lastOpen
+unfolding lastOpen isOpen isThe wordOf lettersOf numOf
 heard-open n [] a = refl
 heard-open n (okayFrame ids len ∷ fs) a = heard-open n fs a
 heard-open n (closeFrame ids ∷ fs) a = heard-open n fs a

@@ -15,12 +15,12 @@ use Rattle.protocol.specs.declared.message.Message.{Message}
 use Rattle.protocol.specs.declared.packet.Packet.{Packet}
 use Rattle.protocol.specs.Packet.{maxPayload}
 use Rattle.protocol.proofs.RoundTrip.{Says}
+use Rattle.protocol.specs.Command.{isReady, isClose, isWrite}
 use Rattle.slot.specs.declared.ChannelSlot.{ChannelSlot}
 use Rattle.slot.specs.declared.Failed.{Failed}
 use Rattle.slot.specs.declared.Failed.the-variants.{No, By}
 use Rattle.slot.specs.declared.Readied.{Readied}
 use Rattle.slot.specs.declared.Readied.the-variants.{Slot, Short}
-use Rattle.slot.specs.Ids.{isClose}
 use Rattle.slot.specs.Slot.{openingSlot, openedOf}
 use Rattle.slot.proofs.Kept.{pick}
 use Rattle.slot.proofs.Laws.{cond-true, cond-false}
@@ -39,7 +39,7 @@ use Rattle.connection.specs.declared.Refusal.{Refusal}
 use Rattle.connection.specs.declared.Refusal.the-variants.{InvalidCommand, InvalidMagic, PayloadTooLarge, InvalidChecksum, ShortReadyPayload, UnexpectedCommand, BadConfig, StoreShort, OutShort, ChannelClosed, ChannelRxOverflow, NoFreeChannels, BrokenState}
 use Rattle.connection.specs.Act.{Acted, actOn}
 use Rattle.connection.specs.Answer.{refusalNumber, numberOf}
-use Rattle.connection.specs.Calls.{Lent, Outcome, Work, begun, then, thenActed, withHeader, ends, untouched, dropped, waitingFor, policy, bodyOf, frameLen, receivedOf, unlessFault, faultRefusal, stillWaits, isWrite, isReady, openOn, openReadied, openActed, openBy, openStep}
+use Rattle.connection.specs.Calls.{Lent, Outcome, Work, begun, then, thenActed, withHeader, ends, untouched, dropped, waitingFor, policy, bodyOf, frameLen, receivedOf, unlessFault, faultRefusal, stillWaits, openOn, openReadied, openActed, openBy, openStep}
 use Rattle.connection.specs.Frames.{closeFrame, openFrame, Sent}
 use Rattle.history.specs.Book.{Book, hasRemote, ackedB, acksOf, packetB, frameB, headerAt, isWrte, isClse, isRefused, endsOpen}
 use Rattle.history.specs.Demand3.{runOf}

@@ -7,6 +7,7 @@ use native.Mathlib.Omega.{arith}
 use lib.Dec.{eqb, ltb}
 use lib.ListN.{length, take, set}
 use borrow.Author.Tests.{ltb-true}
+use Rattle.le.specs.Le.{numOf}
 use Rattle.config.specs.declared.negotiated.RxPolicy.{RxPolicy}
 use Rattle.config.specs.Negotiated.{policyOf, creditOf}
 use Rattle.incoming.specs.declared.Front.{Front}
@@ -17,6 +18,7 @@ use Rattle.protocol.specs.declared.command.Command.the-variants.{Sync, Connect,
 use Rattle.protocol.specs.declared.packet.Packet.{Packet}
 use Rattle.protocol.specs.Packet.{maxPayload}
 use Rattle.protocol.proofs.RoundTrip.{Says}
+use Rattle.protocol.specs.Command.{isReady, isClose, isWrite, isThe, wordOf, lettersOf}
 use Rattle.slot.specs.declared.Budget.{Budget}
 use Rattle.slot.specs.declared.Budget.the-variants.{Bytes, Nothing as NoBudget}
 use Rattle.slot.specs.declared.ChannelFault.the-variants.{RxOverflow, ShortReadyPayload, UnexpectedCommand as WriteEarly}
@@ -28,7 +30,7 @@ use Rattle.slot.specs.declared.Readied.the-variants.{Slot, Short}
 use Rattle.slot.specs.declared.Taken.{Taken}
 use Rattle.slot.specs.declared.ids.LocalId.{LocalId}
 use Rattle.slot.specs.declared.ids.RemoteId.{RemoteId}
-use Rattle.slot.specs.Ids.{isClose, closedBy}
+use Rattle.slot.specs.Ids.{closedBy}
 use Rattle.slot.specs.Slot.{isFailed, isClosed, errorOf, hasData, takeLen, tookOf, takenOf, settledOf, budgetOf, spentOf, readyOf, openingSlot, openedOf}
 use Rattle.slot.proofs.Kept.{pick, settled-sound}
 use Rattle.slot.proofs.Stays.{settled-stays}
@@ -49,7 +51,7 @@ use Rattle.connection.specs.declared.Received.the-variants.{Packet as PacketIs}
 use Rattle.connection.specs.declared.Refusal.the-variants.{ChannelClosed, NoFreeChannels, PayloadTooLarge, ShortReadyPayload as ReadyShort, UnexpectedCommand}
 use Rattle.connection.specs.Act.{Acted, tableOf, actOn}
 use Rattle.connection.specs.Answer.{refusalNumber, numberOf}
-use Rattle.connection.specs.Calls.{Lent, Outcome, Work, begun, then, thenActed, ends, dropped, waitingFor, policy, idsIn, isThere, slotFor, faultRefusal, errorRefusal, unlessFault, receivedOf, bodyOf, frameLen, isWrite, isReady, isDirect, dispatchBy, dispatchStep, settledAs, settleStep, takenBy, takeStep, reread, readSettled, readActed, readDirect, readBy, readTaken, readFirst, readStep, sendSome, sendBy, sendAgain, writeReadied, writeActed, writeAct, writeBy, writeFirst, writeOn, writeStep, closeStep, frontBy, frontStep, openOn, stillWaits, openReadied, openActed, openBy, openStep}
+use Rattle.connection.specs.Calls.{Lent, Outcome, Work, begun, then, thenActed, ends, dropped, waitingFor, policy, idsIn, isThere, slotFor, faultRefusal, errorRefusal, unlessFault, receivedOf, bodyOf, frameLen, isDirect, dispatchBy, dispatchStep, settledAs, settleStep, takenBy, takeStep, reread, readSettled, readActed, readDirect, readBy, readTaken, readFirst, readStep, sendSome, sendBy, sendAgain, writeReadied, writeActed, writeAct, writeBy, writeFirst, writeOn, writeStep, closeStep, frontBy, frontStep, openOn, stillWaits, openReadied, openActed, openBy, openStep}
 use Rattle.connection.specs.Frames.{openFrame, writeFrame, framesBytes}
 use Rattle.connection.proofs.Slots.{slotsBy, slots-by, slot-set-same}
 use Rattle.history.proofs.Acts.{acted-fault, acted-at, at-named}
@@ -103,7 +105,7 @@ module _ (p : RxPolicy) (n : ℕ) (ss : List ChannelSlot) (rx : List ℕ) (ok : 
 
   -- a WRTE finds its channel by the number
   over-write : (remote : RemoteId) (local : LocalId) → overIn (faultOf (writeOf p n ss remote local payload rx .step .result)) ≡ true → Over ss Write (local .0)
-  unfolding writeOf isWrite
+  unfolding writeOf isWrite isThe wordOf lettersOf numOf
   over-write remote local =
       let f = placeOf (Local local) n ss in
       pick (λ (d : Dispatched). overIn (faultOf (d .step .result)) ≡ true → Over ss Write (local .0)) (ltb f n)

@@ -17,14 +17,14 @@ use Rattle.protocol.specs.declared.command.Command.the-variants.{Sync, Connect,
 use Rattle.protocol.specs.declared.packet.Decoded.{Decoded}
 use Rattle.protocol.specs.declared.packet.Decoded.the-variants.{Waiting as FrameWaiting, InvalidCommand as WordInvalid, InvalidMagic as MagicInvalid, PayloadTooLarge as LengthTooLarge, InvalidChecksum as SumInvalid, Accepted}
 use Rattle.protocol.specs.declared.packet.Packet.{Packet}
-use Rattle.protocol.specs.Command.{lettersOf, wordOf}
+use Rattle.protocol.specs.Command.{lettersOf, wordOf, isReady, isClose, isWrite, isThe}
 use Rattle.protocol.specs.Message.{messageOf}
 use Rattle.protocol.specs.Packet.{payloadOf, packetOf, decodeOf}
 use Rattle.protocol.proofs.RoundTrip.{Says, says}
 use Rattle.slot.specs.declared.ChannelSlot.{ChannelSlot}
 use Rattle.slot.specs.declared.ids.ChannelIds.{ChannelIds}
 use Rattle.slot.specs.declared.ids.RemoteId.{RemoteId}
-use Rattle.slot.specs.Ids.{isClose, namedBy, closedBy}
+use Rattle.slot.specs.Ids.{namedBy, closedBy}
 use Rattle.slot.specs.Slot.{emptySlot}
 use Rattle.table.specs.declared.Want.the-variants.{Remote}
 use Rattle.table.specs.Table.{first, wantedBy, placeOf}
@@ -36,7 +36,7 @@ use Rattle.connection.specs.declared.Received.{Received}
 use Rattle.connection.specs.declared.Received.the-variants.{Packet as PacketIs, Stop}
 use Rattle.connection.specs.declared.Refusal.the-variants.{InvalidCommand, InvalidMagic, PayloadTooLarge, InvalidChecksum}
 use Rattle.connection.specs.Answer.{refusalNumber, numberOf}
-use Rattle.connection.specs.Calls.{Lent, receivedBy, receivedOf, isWrite, isReady, bodyOf, frameLen}
+use Rattle.connection.specs.Calls.{Lent, receivedBy, receivedOf, bodyOf, frameLen}
 use Rattle.history.specs.Book.{Book, noBook, hasRemote, isWrte, isClse, isEarly, headerAt, payloadAt, closesB, ownEnd}
 use Rattle.history.proofs.Places.{TableOk, first-le, found-there, place-le}
 use Rattle.history.proofs.Acts.{endsOf}
@@ -74,7 +74,7 @@ got l received = got-by received (l .state .header .negotiated .config .«max_pa
 -- ---- what the book reads of a packet
 
 word-write : (c : Command) → eqb (wordOf c) (wordOf Write) ≡ isWrite c
-unfolding wordOf lettersOf numOf isWrite
+unfolding wordOf lettersOf numOf isWrite isThe
 word-write Sync = refl
 word-write Connect = refl
 word-write Open = refl
@@ -86,7 +86,7 @@ word-write StartTls = refl
 
 -- a WRTE is no CLSE
 pub write-no-close : (c : Command) → isWrite c ≡ true → isClose c ≡ false
-unfolding isWrite isClose
+unfolding isWrite isClose isThe wordOf lettersOf numOf
 write-no-close Sync e = refl
 write-no-close Connect e = refl
 write-no-close Open e = refl
@@ -98,7 +98,7 @@ write-no-close StartTls e = refl
 
 -- an OKAY is neither
 pub ready-no-write : (c : Command) → isReady c ≡ true → (isWrite c ≡ false) × (isClose c ≡ false)
-unfolding isReady isWrite isClose
+unfolding isReady isWrite isClose isThe wordOf lettersOf numOf
 ready-no-write Sync e = (refl, refl)
 ready-no-write Connect e = (refl, refl)
 ready-no-write Open e = (refl, refl)
@@ -109,7 +109,7 @@ ready-no-write Auth e = (refl, refl)
 ready-no-write StartTls e = (refl, refl)
 
 word-close : (c : Command) → eqb (wordOf c) (wordOf Close) ≡ isClose c
-unfolding wordOf lettersOf numOf isClose
+unfolding wordOf lettersOf numOf isClose isThe
 word-close Sync = refl
 word-close Connect = refl
 word-close Open = refl

@@ -8,12 +8,13 @@ use lib.Dec.{eqb, ltb}
 use lib.ListN.{length, take, getD, set}
 use lib.Seq.{getD-take, length-take-le}
 use borrow.Author.Tests.{eqb-true, eqb-false, eq-eqb, ltb-true, ltb-false, lt-ltb, le-ltb}
-use Rattle.le.specs.Le.{part}
+use Rattle.le.specs.Le.{part, numOf}
 use Rattle.le.proofs.Parts.{by-test, length-part}
 use Rattle.config.specs.declared.negotiated.RxPolicy.{RxPolicy}
 use Rattle.config.proofs.Laws.{and-true}
 use Rattle.protocol.specs.declared.command.Command.{Command}
 use Rattle.protocol.specs.declared.command.Command.the-variants.{Sync, Connect, Open, Ready, Close, Write, Auth, StartTls}
+use Rattle.protocol.specs.Command.{isClose, isWrite, isThe, wordOf, lettersOf}
 use Rattle.rx_store.specs.RxStore.{Room, appended, appendedHead}
 use Rattle.rx_store.proofs.Laws.{part-appended}
 use Rattle.slot.specs.declared.ids.LocalId.{LocalId}
@@ -29,7 +30,6 @@ use Rattle.slot.specs.declared.Failed.the-variants.{No, By}
 use Rattle.slot.specs.declared.Readied.{Readied}
 use Rattle.slot.specs.declared.Readied.the-variants.{Slot, Short}
 use Rattle.slot.specs.declared.Wrote.{Wrote}
-use Rattle.slot.specs.Ids.{isClose}
 use Rattle.slot.specs.Slot.{emptySlot, isOpening, isFailed, heldOf, acksNow, bufferedWith, wroteOf, creditOf, readyBy, readyOf, closedSlot, SlotOk}
 use Rattle.slot.proofs.Kept.{pick}
 use Rattle.slot.proofs.Laws.{cond-true, cond-false}
@@ -42,7 +42,6 @@ use Rattle.table.specs.Table.{first, wantedBy, placeOf}
 use Rattle.table.specs.Dispatch.{left, stored, slotIn, faulted, remotePlace, closedAt, closeOf, readiedOf, granted, readyAt, strayOf, grantOf, Dispatched, with, shareOf, bufferedIn, wroteBy, wroteAt, writeOf, routeOf}
 use Rattle.table.proofs.KeepLaws.{place-found}
 use Rattle.table.proofs.DispatchLaws.{share-in, buffered-own, buffered-other}
-use Rattle.connection.specs.Calls.{isWrite}
 use Rattle.connection.proofs.Slots.{slotsBy, slot-set-same, slot-set-other}
 use Rattle.history.specs.Demand3.{runOf}
 use Rattle.history.proofs.Good.{Leaves}
@@ -368,7 +367,7 @@ module _ (p : RxPolicy) (n : ℕ) (ss : List ChannelSlot) (rx : List ℕ) (ok : 
   -- any packet
   pub at-route : (c : Command) (a l : ℕ)
       → AtPlace p ss rx i payload (isWrite c && eqb l (slotIn ss i .local .0)) (isClose c && closes (record { 0 = a }) (record { 0 = l })) (routeOf p n ss c a l payload rx)
-  unfolding routeOf isWrite isClose
+  unfolding routeOf isWrite isClose isThe wordOf lettersOf numOf
   at-route Connect a l = at-left Unmatched false false refl refl
   at-route Auth a l = at-left Unmatched false false refl refl
   at-route StartTls a l = at-left Unmatched false false refl refl

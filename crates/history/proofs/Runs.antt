@@ -16,10 +16,10 @@ use Rattle.rx_store.specs.RxStore.{slid, fitsBehind, appendedHead, appended, ta
 use Rattle.config.specs.Config.{withinLimits, capOf, ceilingOf, watermarkOf, openingCredit, rxStoreLen, openStoreLen, storesFit}
 use Rattle.config.specs.Negotiated.{both, negotiatedOf, policyOf, creditOf as creditOf-config}
 use Rattle.protocol.specs.Checksum.{total, sumOf, policyFor, checkFor}
-use Rattle.protocol.specs.Command.{lettersOf, wordOf, magicOf, commands, amongOf, commandOf}
+use Rattle.protocol.specs.Command.{lettersOf, wordOf, magicOf, commands, amongOf, commandOf, isOpen, isReady, isClose, isWrite, isThe}
 use Rattle.protocol.specs.Message.{messageOf, headerBytes as headerBytes-protocol}
 use Rattle.protocol.specs.Packet.{payloadOf, checkPasses, packetOf, knownOf, namedOf, decodeOf, usedOf, messageFor, frameBytes as frameBytes-protocol}
-use Rattle.slot.specs.Ids.{isClose, namedBy, closedBy}
+use Rattle.slot.specs.Ids.{namedBy, closedBy}
 use Rattle.slot.specs.Slot.{creditOf as creditOf-slot, openingSlot, emptySlot, isOpening, isClosed, isFailed, openedBy, openedOf, readyOf, heldOf as heldOf-slot, acksNow, bufferedWith, wroteOf, someLen, deliveredOf, ackLenOf, hasData, settledBy, settledSome, settledOf, takeLen, tookOf, takenOf, someBudget, budgetOf, spentOf, closedSlot, slotOk}
 use Rattle.wire.specs.Wire.{creditBytes, okayBytes, closeBytes}
 use Rattle.state.specs.Rows.{flat, rows, allIs}
@@ -30,7 +30,7 @@ use Rattle.table.specs.Dispatch.{slotIn, remotePlace, closedAt, closeOf as clos
 use Rattle.connection.specs.Frames.{frameBytes as frameBytes-connection, framesBytes}
 use Rattle.connection.specs.Act.{actedBy, tableOf, actOn}
 use Rattle.connection.specs.Answer.{refusalNumber, numberOf, ackLength, refusalWord, valuesOf}
-use Rattle.connection.specs.Calls.{writtenBy, ends, checked, checkedOut, isThere, slotFor, ackFrames, faultRefusal, unlessFault, receivedBy, receivedOf, isWrite, isReady, fresh, makeOf, dispatchBy, dispatchStep, settledAs, settleStep, frontOf, takenBy, takeStep, reread, readSettled, readActed, isDirect, readDirect, readBy, readTaken, readFirst, readStep, sendLen, sendSome, sendBy, sendAgain, writeReadied, writeActed, writeAct, writeBy, writeFirst, writeOn, writeStep, closeStep, openOn, stillWaits, openReadied, openActed, openBy, openStep, openOf, dispatchOf, settleOf, takeOf, readOf, writeOf, closeOf}
+use Rattle.connection.specs.Calls.{writtenBy, ends, checked, checkedOut, isThere, slotFor, ackFrames, faultRefusal, unlessFault, receivedBy, receivedOf, fresh, makeOf, dispatchBy, dispatchStep, settledAs, settleStep, frontOf, takenBy, takeStep, reread, readSettled, readActed, isDirect, readDirect, readBy, readTaken, readFirst, readStep, sendLen, sendSome, sendBy, sendAgain, writeReadied, writeActed, writeAct, writeBy, writeFirst, writeOn, writeStep, closeStep, openOn, stillWaits, openReadied, openActed, openBy, openStep, openOf, dispatchOf, settleOf, takeOf, readOf, writeOf, closeOf}
 use Rattle.history.specs.Run.{World, Call, openCall, dispatchCall, settleCall, takeCall, readCall, writeCall, closeCall, Start, begins, policyIn, bytesIn, outOf, bufOf, outcome, after, afterAll, made}
 use Rattle.history.specs.Seen.{Event, seenOf, heldOf, saidBy, countOf, sentBy, sentIn, seenIn, eventsOf}
 use Rattle.history.specs.Book.{Book, Ledger, noBook, clean, bookAt, bookSlot, newAside, creditIn, acksOf, lastOpen, frameB, damagedB, packetB, readUsedB, readB, writeB, entryOn, openedB, acksB, bookAfter, eachPlace, entry, ledgerOf}
@@ -279,7 +279,7 @@ plainBook =
 
 -- to unfold this is to unfold all that a run computes with
 computing : ℕ
-unfolding numOf bytesOf signed unsigned part put clamp satSum positivePart slid fitsBehind appendedHead appended takenHead withinLimits capOf ceilingOf watermarkOf openingCredit rxStoreLen openStoreLen storesFit both negotiatedOf policyOf creditOf-config total sumOf policyFor checkFor lettersOf wordOf magicOf commands amongOf commandOf messageOf headerBytes-protocol payloadOf checkPasses packetOf knownOf namedOf decodeOf usedOf messageFor frameBytes-protocol isClose namedBy closedBy creditOf-slot openingSlot emptySlot isOpening isClosed isFailed openedBy openedOf readyOf heldOf-slot acksNow bufferedWith wroteOf someLen deliveredOf ackLenOf hasData settledBy settledSome settledOf takeLen tookOf takenOf someBudget budgetOf spentOf closedSlot slotOk creditBytes okayBytes closeBytes flat rows allIs slotNumbers tagOf slotBytes slotOf-state isTag isSlot openBytes headerSizes headerWords headerTags headerBytes-state headerOf layout stateOf isState putSlot putHeader filledOk slotFine slotsFine opensFine waitingFine headerFine filledAt whole isWhole first wantedBy placeOf nextLocal allocated slotIn remotePlace closedAt closeOf-table shareOf bufferedIn wroteBy wroteAt writeOf-table routeOf dispatchOf-table frameBytes-connection framesBytes actedBy tableOf actOn refusalNumber numberOf ackLength refusalWord valuesOf writtenBy ends checked checkedOut isThere slotFor ackFrames faultRefusal unlessFault receivedBy receivedOf isWrite isReady fresh makeOf dispatchBy dispatchStep settledAs settleStep frontOf takenBy takeStep reread readSettled readActed isDirect readDirect readBy readTaken readFirst readStep sendLen sendSome sendBy sendAgain writeReadied writeActed writeAct writeBy writeFirst writeOn writeStep closeStep openOn stillWaits openReadied openActed openBy openStep openOf dispatchOf settleOf takeOf readOf writeOf closeOf bytesIn outOf bufOf outcome after afterAll made heldOf saidBy countOf sentBy sentIn seenIn eventsOf bookSlot newAside creditIn acksOf lastOpen frameB damagedB packetB readUsedB readB writeB entryOn openedB acksB bookAfter eachPlace entry ledgerOf runOf opensIn givenBy givenIn
+unfolding numOf bytesOf signed unsigned part put clamp satSum positivePart slid fitsBehind appendedHead appended takenHead withinLimits capOf ceilingOf watermarkOf openingCredit rxStoreLen openStoreLen storesFit both negotiatedOf policyOf creditOf-config total sumOf policyFor checkFor lettersOf wordOf magicOf commands amongOf commandOf messageOf headerBytes-protocol payloadOf checkPasses packetOf knownOf namedOf decodeOf usedOf messageFor frameBytes-protocol isClose namedBy closedBy creditOf-slot openingSlot emptySlot isOpening isClosed isFailed openedBy openedOf readyOf heldOf-slot acksNow bufferedWith wroteOf someLen deliveredOf ackLenOf hasData settledBy settledSome settledOf takeLen tookOf takenOf someBudget budgetOf spentOf closedSlot slotOk creditBytes okayBytes closeBytes flat rows allIs slotNumbers tagOf slotBytes slotOf-state isTag isSlot openBytes headerSizes headerWords headerTags headerBytes-state headerOf layout stateOf isState putSlot putHeader filledOk slotFine slotsFine opensFine waitingFine headerFine filledAt whole isWhole first wantedBy placeOf nextLocal allocated slotIn remotePlace closedAt closeOf-table shareOf bufferedIn wroteBy wroteAt writeOf-table routeOf dispatchOf-table frameBytes-connection framesBytes actedBy tableOf actOn refusalNumber numberOf ackLength refusalWord valuesOf writtenBy ends checked checkedOut isThere slotFor ackFrames faultRefusal unlessFault receivedBy receivedOf isWrite isReady fresh makeOf dispatchBy dispatchStep settledAs settleStep frontOf takenBy takeStep reread readSettled readActed isDirect readDirect readBy readTaken readFirst readStep sendLen sendSome sendBy sendAgain writeReadied writeActed writeAct writeBy writeFirst writeOn writeStep closeStep openOn stillWaits openReadied openActed openBy openStep openOf dispatchOf settleOf takeOf readOf writeOf closeOf bytesIn outOf bufOf outcome after afterAll made heldOf saidBy countOf sentBy sentIn seenIn eventsOf bookSlot newAside creditIn acksOf lastOpen frameB damagedB packetB readUsedB readB writeB entryOn openedB acksB bookAfter eachPlace entry ledgerOf runOf opensIn givenBy givenIn isThe isOpen
 computing = 0
 
 -- handed over and buffered is accepted, and set aside is the slot's number; in delayed mode, where the channel is not closed,

@@ -13,6 +13,7 @@ use Rattle.config.specs.Negotiated.{policyOf}
 use Rattle.protocol.specs.declared.packet.Packet.{Packet}
 use Rattle.protocol.specs.declared.message.Message.{Message}
 use Rattle.protocol.proofs.RoundTrip.{Says}
+use Rattle.protocol.specs.Command.{isWrite}
 use Rattle.slot.specs.declared.ChannelError.{ChannelError}
 use Rattle.slot.specs.declared.ChannelError.the-variants.{Closed as ErrorClosed, Fault}
 use Rattle.slot.specs.declared.ChannelFault.{ChannelFault}
@@ -33,7 +34,7 @@ use Rattle.connection.specs.declared.Answer.{Answer}
 use Rattle.connection.specs.declared.Answer.the-variants.{Waiting, Refused}
 use Rattle.connection.specs.Act.{actOn}
 use Rattle.connection.specs.Answer.{refusalNumber, numberOf, valuesOf}
-use Rattle.connection.specs.Calls.{Outcome, Work, ends, bodyOf, frameLen, unlessFault, errorRefusal, faultRefusal, isWrite}
+use Rattle.connection.specs.Calls.{Outcome, Work, ends, bodyOf, frameLen, unlessFault, errorRefusal, faultRefusal}
 use Rattle.connection.specs.Frames.{Sent}
 use Rattle.history.specs.Seen.{Seen}
 use Rattle.history.specs.Book.{Book, isRefused, isEarly, isWrte, headerAt, payloadAt, damagedB, frameB, packetB}

@@ -19,7 +19,7 @@ use Rattle.config.specs.declared.negotiated.Negotiated.{Negotiated}
 use Rattle.config.specs.declared.negotiated.RxPolicy.{RxPolicy}
 use Rattle.protocol.specs.declared.command.Command.the-variants.{Open, Ready, Close, Write}
 use Rattle.protocol.specs.declared.message.Message.{Message}
-use Rattle.protocol.specs.Command.{lettersOf, wordOf}
+use Rattle.protocol.specs.Command.{lettersOf, wordOf, isReady, isThe}
 use Rattle.protocol.specs.Message.{messageOf}
 use Rattle.protocol.proofs.PacketLaws.{frame-length}
 use Rattle.slot.specs.declared.Credit.the-variants.{Of}
@@ -31,7 +31,7 @@ use Rattle.state.specs.Rows.{flat}
 use Rattle.state.proofs.RowLaws.{Every}
 use Rattle.wire.specs.Wire.{creditBytes, okayBytes, closeBytes}
 use Rattle.connection.specs.Answer.{numberOf}
-use Rattle.connection.specs.Calls.{Outcome, writtenBy, isReady}
+use Rattle.connection.specs.Calls.{Outcome, writtenBy}
 use Rattle.connection.specs.Frames.{Frame, okayFrame, closeFrame, openFrame, writeFrame, frameBytes, framesBytes, Sent}
 use Rattle.connection.proofs.Sending.{sentOf, FrameFits}
 use Rattle.history.specs.Run.{Call, openCall, dispatchCall, settleCall, takeCall, readCall, writeCall, closeCall, frontTaken, bytesIn, outOf, bufOf, receivedIn}
@@ -136,7 +136,7 @@ okay-signed len h =
     ap (λ (x : ℕ). Of (signed 31 x)) w ∙ ap Of (cond-true (ltb len (2 ^ 31)) (pos len) _ (lt-ltb len (2 ^ 31) h)) ∙ sym (ap (λ (x : ℕ). Of (pos x)) w)
 
 okay-reads : (p : RxPolicy) (n : Negotiated) (f : Frame) → p .delayed ≡ n .«delayed_ack» → FrameFits n f → Reads p (sentOf n f)
-unfolding isReady creditBytes
+unfolding isReady creditBytes isThe wordOf lettersOf numOf
 okay-reads p n (okayFrame ids len) d h =
     record {
       signed = λ r t. let m = sym d ∙ t in subst (λ (x : Bool). creditOf (creditBytes x len) ≡ Of (pos (creditIn (creditBytes x len)))) (sym m) (okay-signed len (h .len-fits m));

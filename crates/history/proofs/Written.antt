@@ -26,6 +26,7 @@ use Rattle.protocol.specs.Message.{messageOf}
 use Rattle.protocol.specs.Packet.{maxPayload, packetOf}
 use Rattle.protocol.proofs.PacketLaws.{frame-length}
 use Rattle.protocol.proofs.RoundTrip.{Says}
+use Rattle.protocol.specs.Command.{isReady, isClose, isWrite}
 use Rattle.slot.specs.declared.Budget.{Budget}
 use Rattle.slot.specs.declared.Budget.the-variants.{Bytes as Most, Nothing as NoBudget}
 use Rattle.slot.specs.declared.ChannelSlot.{ChannelSlot}
@@ -37,7 +38,7 @@ use Rattle.slot.specs.declared.Readied.{Readied}
 use Rattle.slot.specs.declared.Readied.the-variants.{Slot, Short}
 use Rattle.slot.specs.declared.ChannelError.{ChannelError}
 use Rattle.slot.specs.declared.Taken.{Taken}
-use Rattle.slot.specs.Ids.{closedBy, isClose}
+use Rattle.slot.specs.Ids.{closedBy}
 use Rattle.slot.specs.Slot.{emptySlot, isOpening, isFailed, slotOk, isClosed, readyOf, deliveredOf, settledOf, takenOf, budgetOf, hasData, takeLen, tookOf, errorOf, SlotOk}
 use Rattle.slot.proofs.Kept.{pick, sound, settled-sound}
 use Rattle.slot.proofs.Laws.{cond-true, cond-false, take-held}
@@ -62,7 +63,7 @@ use Rattle.connection.specs.declared.Refusal.the-variants.{ChannelClosed}
 use Rattle.connection.specs.Answer.{refusalNumber, numberOf, valuesOf}
 use Rattle.connection.specs.declared.Received.{Received}
 use Rattle.connection.specs.Act.{Acted, actOn}
-use Rattle.connection.specs.Calls.{Lent, Outcome, Work, begun, then, thenActed, withHeader, ends, checked, checkedOut, dropped, waitingFor, policy, idsIn, isThere, slotFor, ackFrames, receivedOf, errorRefusal, faultRefusal, unlessFault, bodyOf, frameLen, isWrite, isReady, dispatchBy, dispatchStep, settledAs, settleStep, frontOf, takenBy, takeStep, reread, readSettled, readActed, isDirect, readDirect, readBy, readTaken, readFirst, readStep, sendLen, sendSome, sendBy, sendAgain, writeReadied, writeActed, writeAct, writeBy, writeFirst, writeOn, writeStep, closeStep, frontBy, frontStep, openOn, stillWaits, openReadied, openActed, openBy, openStep, openOf, dispatchOf, settleOf, takeOf, readOf, writeOf, closeOf, frontCall}
+use Rattle.connection.specs.Calls.{Lent, Outcome, Work, begun, then, thenActed, withHeader, ends, checked, checkedOut, dropped, waitingFor, policy, idsIn, isThere, slotFor, ackFrames, receivedOf, errorRefusal, faultRefusal, unlessFault, bodyOf, frameLen, dispatchBy, dispatchStep, settledAs, settleStep, frontOf, takenBy, takeStep, reread, readSettled, readActed, isDirect, readDirect, readBy, readTaken, readFirst, readStep, sendLen, sendSome, sendBy, sendAgain, writeReadied, writeActed, writeAct, writeBy, writeFirst, writeOn, writeStep, closeStep, frontBy, frontStep, openOn, stillWaits, openReadied, openActed, openBy, openStep, openOf, dispatchOf, settleOf, takeOf, readOf, writeOf, closeOf, frontCall}
 use Rattle.connection.specs.Frames.{Frame, closeFrame, openFrame, writeFrame, frameBytes, framesBytes}
 use Rattle.history.specs.Run.{bytesIn, Call, openCall, dispatchCall, settleCall, takeCall, readCall, writeCall, closeCall, frontTaken, outOf, bufOf, World, lent, outcome}
 use Rattle.history.specs.Seen.{countOf, heldOf, Seen, seenOf}

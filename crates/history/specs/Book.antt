@@ -8,17 +8,15 @@ use lib.Dec.{eqb, leb, ltb}
 use lib.ListN.{length, getD, replicate}
 use Rattle.le.specs.Le.{numOf, part}
 use Rattle.config.specs.declared.negotiated.RxPolicy.{RxPolicy}
-use Rattle.protocol.specs.declared.command.Command.{Command}
-use Rattle.protocol.specs.declared.command.Command.the-variants.{Sync, Connect, Open, Ready, Close, Write, Auth, StartTls}
+use Rattle.protocol.specs.declared.command.Command.the-variants.{Close, Write}
 use Rattle.protocol.specs.declared.message.Message.{Message}
-use Rattle.protocol.specs.Command.{wordOf}
+use Rattle.protocol.specs.Command.{wordOf, isOpen, isReady}
 use Rattle.protocol.specs.Message.{messageOf}
 use Rattle.slot.specs.declared.ChannelSlot.{ChannelSlot}
 use Rattle.slot.specs.Ids.{namedBy}
 use Rattle.slot.specs.Slot.{emptySlot, withRemote, withNumbers, settledOf}
 use Rattle.table.specs.declared.ChannelId.{ChannelId}
 use Rattle.table.specs.Table.{first}
-use Rattle.connection.specs.Calls.{isReady}
 use Rattle.connection.specs.Frames.{Sent}
 use Rattle.history.specs.Run.{Call, openCall, dispatchCall, settleCall, takeCall, readCall, writeCall, closeCall, frontTaken, bytesIn}
 use Rattle.history.specs.Seen.{Seen, Event, seenOf}
@@ -163,17 +161,6 @@ isRefused number = not (eqb number 0) && ltb number 100
 -- refused by 8, 9 or 13: the call did nothing
 abbrev pub isEarly : ℕ → Bool
 isEarly number = eqb number 8 || eqb number 9 || eqb number 13
-
--- an OPEN
-abbrev pub isOpen : Command → Bool
-isOpen Sync = false
-isOpen Connect = false
-isOpen Open = true
-isOpen Ready = false
-isOpen Close = false
-isOpen Write = false
-isOpen Auth = false
-isOpen StartTls = false
 
 -- an OKAY's payload as credit; one with no payload carries 0
 unfoldable pub creditIn : List ℕ → ℕ

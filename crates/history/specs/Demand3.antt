@@ -5,6 +5,7 @@ use mathlib.Core.List.{List, [], _∷_, _++_}
 use mathlib.Core.Path.{_≡_}
 use lib.IntN.{pos}
 use lib.ListN.{length}
+use Rattle.protocol.specs.Command.{isReady}
 use Rattle.le.specs.Le.{part}
 use Rattle.config.specs.declared.negotiated.RxPolicy.{RxPolicy}
 use Rattle.slot.specs.declared.ChannelSlot.{ChannelSlot}
@@ -12,7 +13,6 @@ use Rattle.slot.specs.declared.Credit.the-variants.{Of}
 use Rattle.slot.specs.Slot.{creditOf}
 use Rattle.state.specs.State.{stateOf}
 use Rattle.table.specs.Dispatch.{slotIn, shareOf}
-use Rattle.connection.specs.Calls.{isReady}
 use Rattle.connection.specs.Frames.{Sent}
 use Rattle.history.specs.Run.{Call, receivedIn, World, after, afterAll, Start, begins, policyIn}
 use Rattle.history.specs.Seen.{saidBy, countOf, Event, seenOf, eventsOf}

@@ -6,10 +6,10 @@ use mathlib.Core.List.{List, [], _∷_}
 use lib.Dec.{eqb, ltb}
 use lib.ListN.{length}
 use Rattle.protocol.specs.Packet.{maxPayload}
+use Rattle.protocol.specs.Command.{isOpen}
 use Rattle.connection.specs.Frames.{Sent}
 use Rattle.history.specs.Run.{Call, openCall, dispatchCall, settleCall, takeCall, readCall, writeCall, closeCall, frontTaken, afterAll, Start, begins, policyIn}
 use Rattle.history.specs.Seen.{Seen, Event, seenOf, eventsOf}
-use Rattle.history.specs.Book.{isOpen}
 use Rattle.history.specs.Demand3.{Apart, Claims}
 
 -- an OPEN is among the frames written

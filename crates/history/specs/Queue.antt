@@ -12,16 +12,17 @@ use Rattle.incoming.specs.Incoming.{Incoming, waits, withdrawn}
 use Rattle.protocol.specs.declared.command.Command.{Command}
 use Rattle.protocol.specs.declared.command.Command.the-variants.{Sync, Connect, Open, Ready, Close, Write, Auth, StartTls}
 use Rattle.protocol.specs.declared.packet.Packet.{Packet}
+use Rattle.protocol.specs.Command.{isReady, isClose, isWrite}
 use Rattle.slot.specs.declared.ChannelSlot.{ChannelSlot}
 use Rattle.slot.specs.declared.ids.RemoteId.{RemoteId}
-use Rattle.slot.specs.Ids.{isClose, closedBy}
+use Rattle.slot.specs.Ids.{closedBy}
 use Rattle.table.specs.declared.ChannelId.{ChannelId}
 use Rattle.table.specs.Dispatch.{remotePlace}
 use Rattle.connection.specs.declared.Answer.{Answer}
 use Rattle.connection.specs.declared.Answer.the-variants.{Nothing, Front as FrontIs}
 use Rattle.connection.specs.declared.Received.{Received}
 use Rattle.connection.specs.declared.Received.the-variants.{Packet as PacketIs, Stop}
-use Rattle.connection.specs.Calls.{Lent, idsIn, slotFor, receivedOf, bodyOf, isWrite, isReady, isDirect}
+use Rattle.connection.specs.Calls.{Lent, idsIn, slotFor, receivedOf, bodyOf, isDirect}
 use Rattle.history.specs.Run.{bytesIn, Call, openCall, dispatchCall, settleCall, takeCall, readCall, writeCall, closeCall, frontTaken, World, lent, outcome, after, afterAll, Start, begins}
 
 -- what waits, in order: remote number, credit and destination of each

@@ -16,11 +16,11 @@ use Rattle.protocol.specs.declared.packet.Packet.{Packet}
 use Rattle.protocol.specs.Checksum.{checkFor, policyFor}
 use Rattle.protocol.specs.Packet.{maxPayload, decodeOf, Puts}
 use Rattle.protocol.proofs.PacketLaws.{frame-length}
+use Rattle.protocol.specs.Command.{isReady, isClose, isWrite}
 use Rattle.slot.specs.declared.ChannelSlot.{ChannelSlot}
 use Rattle.slot.specs.declared.Readied.{Readied}
 use Rattle.slot.specs.declared.Readied.the-variants.{Slot, Short}
 use Rattle.slot.specs.declared.ids.LocalId.{LocalId}
-use Rattle.slot.specs.Ids.{isClose}
 use Rattle.slot.specs.Slot.{openingSlot, openedOf}
 use Rattle.slot.proofs.Laws.{cond-true, cond-false}
 use Rattle.state.specs.declared.Header.{Header}
@@ -38,7 +38,7 @@ use Rattle.connection.specs.declared.Refusal.the-variants.{PayloadTooLarge, Sho
 use Rattle.calls.specs.declared.Reply.{Reply}
 use Rattle.calls.specs.declared.act.ActedOn.{ActedOn}
 use Rattle.connection.specs.Act.{actOn}
-use Rattle.connection.specs.Calls.{Lent, Outcome, begun, then, thenActed, withHeader, ends, dropped, waitingFor, policy, unlessFault, receivedBy, receivedOf, bodyOf, frameLen, isWrite, isReady, stillWaits, openOn, openReadied, openActed, openBy, openStep}
+use Rattle.connection.specs.Calls.{Lent, Outcome, begun, then, thenActed, withHeader, ends, dropped, waitingFor, policy, unlessFault, receivedBy, receivedOf, bodyOf, frameLen, stillWaits, openOn, openReadied, openActed, openBy, openStep}
 use Rattle.connection.specs.Frames.{Frame, closeFrame, openFrame, frameBytes}
 use Rattle.calls.specs.Promise.{lentOf, agreedIn, waitedFor, Leaves, Admits, ActRoom, ActsOn}
 use Rattle.calls.proofs.AdmitLaws.{act-room, admits-facts, admits-stores}

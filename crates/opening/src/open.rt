@@ -8,8 +8,6 @@ use calls::admit::refused;
 use calls::frames::put_close;
 use calls::frames::put_open;
 use calls::recv::is_own;
-use calls::recv::is_ready;
-use calls::recv::is_write;
 use calls::recv::recv_pkt;
 use calls::recv::unless_fault;
 use calls::store::store_slot;
@@ -21,7 +19,6 @@ use slot::ChannelSlot;
 use slot::Readied;
 use slot::ids::ChannelIds;
 use slot::ids::RemoteId;
-use slot::ids::is_close;
 use state::Header;
 use state::Waiting;
 use state::put_header;
@@ -187,10 +184,10 @@ fn open_packet(
     let command = packet.command;
     let ch = waited_for(h);
     let local = ch.local;
-    if is_own(is_ready(command), packet.arg1, local) {
+    if is_own(command.is_ready(), packet.arg1, local) {
         return open_ready(state, rx, store, received, out, h, packet);
     }
-    if is_own(is_write(command), packet.arg1, local) {
+    if is_own(command.is_write(), packet.arg1, local) {
         let end = close_open(state, out, h, packet.arg0);
         let used = Packet::frame_len(packet.data_length);
         return Reply {
@@ -199,7 +196,7 @@ fn open_packet(
             written: end,
         };
     }
-    if is_own(is_close(command), packet.arg1, local) {
+    if is_own(command.is_close(), packet.arg1, local) {
         put_header(state, drop_waiting(h));
         let used = Packet::frame_len(packet.data_length);
         return Reply {

@@ -1,6 +1,6 @@
 -- The eight commands (protocol.txt, "message command constants"). Assumes nothing.
 use Prim.Native.Nat.{ℕ}
-use mathlib.Core.Bool.{cond}
+use mathlib.Core.Bool.{Bool, cond}
 use mathlib.Core.List.{List, [], _∷_}
 use lib.Bits.{bitXor}
 use lib.Dec.{eqb}
@@ -41,3 +41,23 @@ amongOf (c ∷ cs) word = cond (eqb word (wordOf c)) (Known c) (amongOf cs word)
 -- the command that a word names
 unfoldable pub commandOf : ℕ → CommandWord
 commandOf word = amongOf commands word
+
+-- the command d, told by its word
+unfoldable pub isThe : Command → Command → Bool
+isThe d c = eqb (wordOf c) (wordOf d)
+
+-- an OPEN
+unfoldable pub isOpen : Command → Bool
+isOpen c = isThe Open c
+
+-- an OKAY
+unfoldable pub isReady : Command → Bool
+isReady c = isThe Ready c
+
+-- a CLSE
+unfoldable pub isClose : Command → Bool
+isClose c = isThe Close c
+
+-- a WRTE
+unfoldable pub isWrite : Command → Bool
+isWrite c = isThe Write c

@@ -1,7 +1,7 @@
 // The eight commands. A command's word is its four letters read as a little-endian number; its magic is the word with
 // every bit flipped.
 ghost use mathlib.Core.Path.{_≡_};
-ghost use Rattle.protocol.specs.Command.{wordOf, magicOf, commandOf};
+ghost use Rattle.protocol.specs.Command.{wordOf, magicOf, commandOf, isReady, isClose, isWrite};
 
 pub const CMD_SYNC: u32 = 0x434e_5953;
 
@@ -64,6 +64,24 @@ impl Command {
         ensures { λ r. ⌜ r ≡ magicOf self ⌝ }
     {
         self.word() ^ 0xffff_ffff
+    }
+
+    pub fn is_ready(self) -> bool
+        ensures { λ r. ⌜ r ≡ isReady self ⌝ }
+    {
+        self.word() == CMD_OKAY
+    }
+
+    pub fn is_close(self) -> bool
+        ensures { λ r. ⌜ r ≡ isClose self ⌝ }
+    {
+        self.word() == CMD_CLSE
+    }
+
+    pub fn is_write(self) -> bool
+        ensures { λ r. ⌜ r ≡ isWrite self ⌝ }
+    {
+        self.word() == CMD_WRTE
     }
 
     pub fn from_word(word: u32) -> CommandWord

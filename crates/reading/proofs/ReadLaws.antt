@@ -14,6 +14,7 @@ use Rattle.config.specs.Negotiated.{policyOf}
 use Rattle.config.proofs.Laws.{and-true}
 use Rattle.protocol.specs.declared.packet.Packet.{Packet}
 use Rattle.protocol.specs.Packet.{Puts}
+use Rattle.protocol.specs.Command.{isWrite}
 use Rattle.slot.specs.declared.ChannelError.{ChannelError}
 use Rattle.slot.specs.declared.ChannelSlot.{ChannelSlot}
 use Rattle.slot.specs.declared.Failed.{Failed}
@@ -32,7 +33,7 @@ use Rattle.connection.specs.declared.Refusal.{Refusal}
 use Rattle.calls.specs.declared.Reply.{Reply}
 use Rattle.reading.specs.declared.read.Tried.{Tried}
 use Rattle.reading.specs.declared.read.Tried.the-variants.{Replied, Nothing}
-use Rattle.connection.specs.Calls.{Lent, Outcome, begun, then, ends, ackFrames, errorRefusal, unlessFault, bodyOf, isWrite, frontOf, reread, isDirect, readDirect}
+use Rattle.connection.specs.Calls.{Lent, Outcome, begun, then, ends, ackFrames, errorRefusal, unlessFault, bodyOf, frontOf, reread, isDirect, readDirect}
 use Rattle.connection.specs.Frames.{framesBytes}
 use Rattle.calls.specs.Promise.{lentOf, Leaves}
 use Rattle.reading.specs.Reading.{againOf, TakeRoom, isNothing, Empty, Tries}

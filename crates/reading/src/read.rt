@@ -11,7 +11,6 @@ use calls::frames::ids_in;
 use calls::frames::put_ack;
 use calls::recv::error_refusal;
 use calls::recv::is_own;
-use calls::recv::is_write;
 use calls::recv::recv_pkt;
 use calls::recv::unless_fault;
 use calls::store::store_slot;
@@ -134,7 +133,7 @@ fn is_direct(s: ChannelSlot, room: usize, packet: Packet) -> bool
 {
     let command = packet.command;
     let local = s.local;
-    if is_own(is_write(command), packet.arg1, local) {
+    if is_own(command.is_write(), packet.arg1, local) {
         return packet.data_length <= room;
     }
     false

@@ -2,21 +2,9 @@
 use Prim.Native.Nat.{ℕ}
 use mathlib.Core.Bool.{Bool, true, false, cond}
 use lib.Dec.{eqb}
-use Rattle.protocol.specs.declared.command.Command.{Command}
-use Rattle.protocol.specs.declared.command.Command.the-variants.{Sync, Connect, Open, Ready, Close, Write, Auth, StartTls}
+use Rattle.protocol.specs.Command.{isClose}
 use Rattle.protocol.specs.declared.packet.Packet.{Packet}
 use Rattle.slot.specs.declared.ids.ChannelIds.{ChannelIds}
-
--- a CLSE
-unfoldable pub isClose : Command → Bool
-isClose Sync = false
-isClose Connect = false
-isClose Open = false
-isClose Ready = false
-isClose Close = true
-isClose Write = false
-isClose Auth = false
-isClose StartTls = false
 
 -- arg1 is our number, or it is 0 and arg0 is the device's
 unfoldable pub namedBy : ChannelIds → ℕ → ℕ → Bool

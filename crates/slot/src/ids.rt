@@ -1,8 +1,7 @@
 // The numbers of a channel: ours and the device's, which are never interchanged.
-use protocol::command::Command;
 use protocol::packet::Packet;
 ghost use mathlib.Core.Path.{_≡_};
-ghost use Rattle.slot.specs.Ids.{isClose, namedBy, closedBy};
+ghost use Rattle.slot.specs.Ids.{namedBy, closedBy};
 
 // The number that we gave a channel.
 pub struct LocalId(pub u32);
@@ -13,21 +12,6 @@ pub struct RemoteId(pub u32);
 pub struct ChannelIds {
     pub local: LocalId,
     pub remote: RemoteId,
-}
-
-pub fn is_close(command: Command) -> bool
-    ensures { λ r. ⌜ r ≡ isClose command ⌝ }
-{
-    match command {
-        Command::Sync => false,
-        Command::Connect => false,
-        Command::Open => false,
-        Command::Ready => false,
-        Command::Close => true,
-        Command::Write => false,
-        Command::Auth => false,
-        Command::StartTls => false,
-    }
 }
 
 impl ChannelIds {
@@ -51,7 +35,7 @@ impl ChannelIds {
         ensures { λ r. ⌜ r ≡ closedBy self packet ⌝ }
     {
         let command = packet.command;
-        if is_close(command) {
+        if command.is_close() {
             return self.named_by(packet.arg0, packet.arg1);
         }
         false

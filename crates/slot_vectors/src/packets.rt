@@ -14,7 +14,6 @@ use slot::Readied;
 use slot::Wrote;
 use slot::ids::LocalId;
 use slot::ids::RemoteId;
-use slot::ids::is_close;
 
 enum Kind {
     Ready,
@@ -159,7 +158,7 @@ fn act(
 fn is_unnamed_close(p: Packet) -> bool {
     let command = p.command;
     if p.arg1 == 0 {
-        return is_close(command);
+        return command.is_close();
     }
     false
 }

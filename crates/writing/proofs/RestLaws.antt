@@ -12,7 +12,7 @@ use lib.IntN.{ℤ}
 use lib.ListN.{length, drop, set}
 use lib.Seq.{set-getD}
 use borrow.Author.Tests.{eqb-true, eqb-false, ltb-true}
-use Rattle.le.specs.Le.{Bytes}
+use Rattle.le.specs.Le.{Bytes, numOf}
 use Rattle.le.proofs.Parts.{by-test}
 use Rattle.config.specs.declared.negotiated.RxPolicy.{RxPolicy}
 use Rattle.config.specs.Negotiated.{policyOf}
@@ -21,6 +21,7 @@ use Rattle.incoming.specs.Incoming.{PushOutcome, pushed, withdrawal}
 use Rattle.protocol.specs.declared.command.Command.{Command}
 use Rattle.protocol.specs.declared.command.Command.the-variants.{Sync, Connect, Open, Ready, Close, Write, Auth, StartTls}
 use Rattle.protocol.specs.declared.packet.Packet.{Packet}
+use Rattle.protocol.specs.Command.{isReady, isClose, isThe, wordOf, lettersOf}
 use Rattle.saturate.specs.Saturate.{positivePart}
 use Rattle.slot.specs.declared.Budget.the-variants.{Bytes as Most, Nothing as NoBudget}
 use Rattle.slot.specs.declared.ChannelFault.the-variants.{RxOverflow, ShortReadyPayload, UnexpectedCommand}
@@ -31,7 +32,7 @@ use Rattle.slot.specs.declared.Wrote.{Wrote}
 use Rattle.slot.specs.declared.ids.ChannelIds.{ChannelIds}
 use Rattle.slot.specs.declared.ids.LocalId.{LocalId}
 use Rattle.slot.specs.declared.ids.RemoteId.{RemoteId}
-use Rattle.slot.specs.Ids.{isClose, namedBy, closedBy}
+use Rattle.slot.specs.Ids.{namedBy, closedBy}
 use Rattle.slot.specs.Slot.{emptySlot, isOpening, isFailed, heldOf, acksNow, bufferedWith, wroteOf, closedSlot, someBudget, budgetOf}
 use Rattle.slot.proofs.Kept.{pick}
 use Rattle.slot.proofs.Laws.{cond-true, cond-false}
@@ -49,7 +50,7 @@ use Rattle.table.specs.Table.{wantedBy, placeOf}
 use Rattle.table.specs.Dispatch.{left, stored, slotIn, faulted, remotePlace, closedAt, closeOf, readiedOf, granted, readyAt, strayOf, grantOf, Dispatched, wroteBy, wroteAt, writeOf, routeOf, dispatchOf}
 use Rattle.table.proofs.KeepLaws.{place-found}
 use Rattle.connection.specs.Act.{Acted, pushedBy, actedBy, tableOf, actOn}
-use Rattle.connection.specs.Calls.{idsIn, isReady}
+use Rattle.connection.specs.Calls.{idsIn}
 use Rattle.connection.proofs.Slots.{slotsBy, slots-append, slot-set-same, slot-set-other}
 
 -- ---- slots that may send alike
@@ -170,7 +171,7 @@ module _ (p : RxPolicy) (n : ℕ) (ss : List ChannelSlot) (i : ℕ) (full : n �
   -- any packet
   goes-route : (c : Command) (a b : ℕ) (payload rx : List ℕ) → (isReady c && eqb b (own .local .0)) ≡ false → cond (isClose c) (namedBy (idsIn own) a b) false ≡ false
       → Goes (routeOf p n ss c a b payload rx .step)
-  unfolding routeOf isReady isClose
+  unfolding routeOf isReady isClose isThe wordOf lettersOf numOf
   goes-route Connect a b payload rx h g = goes-left Unmatched
   goes-route Auth a b payload rx h g = goes-left Unmatched
   goes-route StartTls a b payload rx h g = goes-left Unmatched

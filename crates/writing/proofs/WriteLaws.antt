@@ -18,6 +18,7 @@ use Rattle.protocol.specs.declared.packet.Packet.{Packet}
 use Rattle.protocol.specs.Checksum.{policyFor, checkFor}
 use Rattle.protocol.specs.Packet.{decodeOf, Puts}
 use Rattle.protocol.proofs.PacketLaws.{frame-length}
+use Rattle.protocol.specs.Command.{isReady}
 use Rattle.slot.specs.declared.Budget.{Budget}
 use Rattle.slot.specs.declared.Budget.the-variants.{Bytes as Most, Nothing as NoBudget}
 use Rattle.slot.specs.declared.ChannelSlot.{ChannelSlot}
@@ -46,7 +47,7 @@ use Rattle.calls.specs.declared.admit.Found.{Found}
 use Rattle.calls.specs.declared.admit.Found.the-variants.{Slot, Nothing}
 use Rattle.calls.specs.declared.act.ActedOn.{ActedOn}
 use Rattle.connection.specs.Act.{Acted, actOn}
-use Rattle.connection.specs.Calls.{Lent, Outcome, then, thenActed, ends, dropped, policy, idsIn, isThere, slotFor, unlessFault, receivedBy, receivedOf, bodyOf, frameLen, isReady, sendLen, sendSome, sendBy, sendAgain, writeReadied, writeActed, writeAct, writeBy, writeFirst, writeOn, writeStep}
+use Rattle.connection.specs.Calls.{Lent, Outcome, then, thenActed, ends, dropped, policy, idsIn, isThere, slotFor, unlessFault, receivedBy, receivedOf, bodyOf, frameLen, sendLen, sendSome, sendBy, sendAgain, writeReadied, writeActed, writeAct, writeBy, writeFirst, writeOn, writeStep}
 use Rattle.connection.specs.Frames.{writeFrame, frameBytes, framesBytes}
 use Rattle.calls.specs.Promise.{lentOf, agreedIn, foundIn, Leaves, Admits, ActsOn}
 use Rattle.writing.specs.Writing.{starts, Sends, Finds, Waits}

@@ -10,7 +10,6 @@ use calls::admit::refused;
 use calls::frames::ids_in;
 use calls::frames::put_write;
 use calls::recv::is_own;
-use calls::recv::is_ready;
 use calls::recv::recv_pkt;
 use calls::recv::unless_fault;
 use calls::store::store_slot;
@@ -163,7 +162,7 @@ fn write_packet(
     let used = Packet::frame_len(packet.data_length);
     let command = packet.command;
     let local = s.local;
-    if is_own(is_ready(command), packet.arg1, local) {
+    if is_own(command.is_ready(), packet.arg1, local) {
         return write_ready(state, ch, s, bytes, payload, used, out, h);
     }
     if ids_in(s).closed_by(packet) {

@@ -16,9 +16,9 @@ use Rattle.calls.proofs.recv.is_own.Reads as is-own-reads
 use Rattle.opening.proofs.open.open_act.Reads as open-act-reads
 use Rattle.opening.proofs.open.open_ready.Reads as open-ready-reads
 use Rattle.opening.proofs.open.waited_for.Reads as waited-for-reads
-use Rattle.calls.proofs.recv.is_ready.Reads as is-ready-reads
-use Rattle.calls.proofs.recv.is_write.Reads as is-write-reads
-use Rattle.slot.proofs.ids.is_close.Reads as is-close-reads
+use Rattle.protocol.proofs.command.Command.is_ready.Reads as is-ready-reads
+use Rattle.protocol.proofs.command.Command.is_write.Reads as is-write-reads
+use Rattle.protocol.proofs.command.Command.is_close.Reads as is-close-reads
 use Rattle.state.proofs.put_header.Reads as put-header-reads
 
 -- src/open.rt:199:9

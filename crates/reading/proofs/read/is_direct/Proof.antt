@@ -8,7 +8,7 @@ use Rattle.reading.proofs.read.is_direct.Tie as tie
 use Rattle.reading.proofs.read.is_direct.Reads as reads
 use Rattle.reading.proofs.read.is_direct.Lts as lts
 use Rattle.calls.proofs.recv.is_own.Reads as is-own-reads
-use Rattle.calls.proofs.recv.is_write.Reads as is-write-reads
+use Rattle.protocol.proofs.command.Command.is_write.Reads as is-write-reads
 
 -- src/read.rt:139:15
 is-write-requires : tie.Need-is-write-requires

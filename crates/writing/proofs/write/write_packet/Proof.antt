@@ -14,7 +14,7 @@ use Rattle.protocol.proofs.packet.Packet.frame_len.Reads as frame-len-reads
 use Rattle.calls.proofs.act.act_on.Reads as act-on-reads
 use Rattle.calls.proofs.frames.ids_in.Reads as ids-in-reads
 use Rattle.calls.proofs.recv.is_own.Reads as is-own-reads
-use Rattle.calls.proofs.recv.is_ready.Reads as is-ready-reads
+use Rattle.protocol.proofs.command.Command.is_ready.Reads as is-ready-reads
 use Rattle.calls.proofs.recv.unless_fault.Reads as unless-fault-reads
 use Rattle.calls.proofs.store.store_slot.Reads as store-slot-reads
 use Rattle.protocol.proofs.packet.Packet.payload.Reads as payload-reads
