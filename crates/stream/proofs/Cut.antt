@@ -1,0 +1,84 @@
+-- However a stream is cut into pieces, what is read of it is the same. Assumes nothing.
+--     cut       pieces read one after the other give what the whole gives: messages, ending and rest
+--     same-cut  so two ways to cut the same bytes give the same
+use mathlib.Core.Path.{_≡_, refl, sym, ap, _∙_}
+use mathlib.Core.List.{List, [], _∷_, _++_, append-assoc, append-nil}
+use Prim.Native.Nat.{ℕ, zero, suc, _<_}
+use native.Mathlib.Omega.{arith}
+use lib.ListN.{length, drop, length-append, length-drop}
+use lib.Seq.{drop-append-le}
+use Rattle.stream.specs.Stream.{Answer, waiting, message, refused, End, more, stopped, Reading, joined, isWaiting, ahead, goOn, run, readAll, begun, fedBy, feed, feedAll, Stable}
+
+module _ {M : Type 0} (read : List ℕ → Answer M) (s : Stable read) where
+  -- a message's bytes are gone from the rest
+  shorter : (l : List ℕ) (x : M) (n k : ℕ) → read l ≡ message x n → length l < suc k → length (drop n l) < k
+  shorter l x n k e h =
+      let m = s .moves l x n e in
+      let w = s .within l x n e in
+      rw (length-drop n l) (omega arith)
+
+  -- more answers than bytes are enough
+  enough-at : (k j : ℕ) (l : List ℕ) (a : Answer M) → read l ≡ a → length l < suc k → length l < suc j
+      → ((t : List ℕ) → length t < k → length t < j → run read k t ≡ run read j t) → goOn (run read k) l a ≡ goOn (run read j) l a
+  unfolding goOn
+  enough-at k j l waiting e h g i = refl
+  enough-at k j l (message x n) e h g i = ap (ahead x) (i (drop n l) (shorter l x n k e h) (shorter l x n j e g))
+  enough-at k j l (refused r n) e h g i = refl
+
+  enough : (k j : ℕ) (l : List ℕ) → length l < k → length l < j → run read k l ≡ run read j l
+  unfolding run
+  enough zero j l h g = absurd (omega arith)
+  enough (suc k) zero l h g = absurd (omega arith)
+  enough (suc k) (suc j) l h g = enough-at k j l (read l) refl h g (enough k j)
+
+  -- a piece behind a message and what was read behind it
+  fed-ahead : (x : M) (r : Reading M) (c : List ℕ) (e : End) → fedBy read (ahead x r) c e ≡ ahead x (fedBy read r c e)
+  unfolding fedBy ahead
+  fed-ahead x r c more = refl
+  fed-ahead x r c (stopped n) = refl
+
+  feed-ahead : (x : M) (r : Reading M) (c : List ℕ) → feed read (ahead x r) c ≡ ahead x (feed read r c)
+  unfolding feed ahead
+  feed-ahead x r c = fed-ahead x r c (r .ending)
+
+  -- a piece behind bytes that were read
+  behind-at : (k : ℕ) (l c : List ℕ) (a : Answer M) → read l ≡ a → length l < suc k
+      → ((t : List ℕ) → length t < k → readAll read (t ++ c) ≡ feed read (run read k t) c)
+      → readAll read (l ++ c) ≡ feed read (goOn (run read k) l a) c
+  unfolding goOn readAll feed fedBy run isWaiting
+  behind-at k l c waiting e h i = refl
+  behind-at k l c (message x n) e h i =
+      let m = s .moves l x n e in
+      let w = s .within l x n e in
+      let same : read (l ++ c) ≡ message x n = s .stays l c (ap isWaiting e) ∙ e in
+      let d : drop n (l ++ c) ≡ drop n l ++ c = drop-append-le n l c w in
+      let t = drop n l in
+      let f = enough (length (l ++ c)) (suc (length (t ++ c))) (t ++ c) (rw (length-append t c, length-append l c, length-drop n l) (omega arith)) (omega arith) in
+      rw (same, d) (ap (ahead x) (f ∙ i t (shorter l x n k e h))) ∙ sym (feed-ahead x (run read k t) c)
+  behind-at k l c (refused r n) e h i =
+      let same : read (l ++ c) ≡ refused r n = s .stays l c (ap isWaiting e) ∙ e in
+      rw (same, drop-append-le n l c (s .refused-within l r n e))
+
+  behind : (k : ℕ) (l c : List ℕ) → length l < k → readAll read (l ++ c) ≡ feed read (run read k l) c
+  unfolding run
+  behind zero l c h = absurd (omega arith)
+  behind (suc k) l c h = behind-at k l c (read l) refl h (λ t. behind k t c)
+
+  -- pieces behind bytes that were read
+  all-behind : (l : List ℕ) (cs : List (List ℕ)) → feedAll read (readAll read l) cs ≡ readAll read (l ++ joined cs)
+  unfolding feedAll joined readAll
+  all-behind l [] = rw append-nil
+  all-behind l (c ∷ cs) =
+      ap (λ (r : Reading M). feedAll read r cs) (sym (behind (suc (length l)) l c (omega arith)))
+      ∙ all-behind (l ++ c) cs
+      ∙ ap (readAll read) (append-assoc l c (joined cs))
+
+  begins : readAll read [] ≡ begun
+  unfolding readAll run begun goOn
+  begins = rw (s .none)
+
+  pub cut : (cs : List (List ℕ)) → feedAll read begun cs ≡ readAll read (joined cs)
+  cut cs = ap (λ (r : Reading M). feedAll read r cs) (sym begins) ∙ all-behind [] cs
+
+  pub same-cut : (cs ds : List (List ℕ)) → joined cs ≡ joined ds → feedAll read begun cs ≡ feedAll read begun ds
+  same-cut cs ds e = cut cs ∙ ap (readAll read) e ∙ sym (cut ds)
