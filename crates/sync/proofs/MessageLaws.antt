@@ -1,0 +1,130 @@
+-- Laws of the sync messages' fields, one layout at a time. Assumes nothing.
+use mathlib.Core.Path.{_≡_, refl, sym, ap, _∙_}
+use mathlib.Core.Bool.{Bool, false, cond}
+use mathlib.Core.List.{List, _++_}
+use Prim.Native.Nat.{ℕ, _+_, _≤_}
+use native.Mathlib.Omega.{arith}
+use lib.Dec.{eqb}
+use lib.ListN.{length, length-append}
+use borrow.Author.Tests.{eqb-true, not-false, le-ltb}
+use Rattle.le.specs.Le.{numOf, bytesOf, part, put}
+use Rattle.le.proofs.Laws.{length-bytesOf}
+use Rattle.le.proofs.Parts.{put-put}
+use Rattle.sync.specs.declared.exchange.SyncId.{SyncId}
+use Rattle.sync.specs.declared.exchange.Layout.{Layout}
+use Rattle.sync.specs.declared.exchange.Layout.the-variants.{Text as TextLayout, Number as NumberLayout, Stat as StatLayout, Entry as EntryLayout, End as EndLayout}
+use Rattle.sync.specs.declared.exchange.Found.{Found}
+use Rattle.sync.specs.declared.exchange.Exchange.{Exchange}
+use Rattle.sync.specs.declared.message.StatV1.{StatV1}
+use Rattle.sync.specs.declared.message.Fields.{Fields}
+use Rattle.sync.specs.declared.message.Fields.the-variants.{Text, Number, Stat, Entry, End}
+use Rattle.sync.specs.declared.message.Message.{Message}
+use Rattle.sync.specs.declared.message.Written.{Written}
+use Rattle.sync.specs.declared.message.Written.the-variants.{Bytes}
+use Rattle.sync.specs.Exchange.{wordOf, foundOf}
+use Rattle.sync.specs.Message.{headOf, longestOf, layoutOf, layoutNumber, isOther, isOver, statBytes, fieldBytes, headBytes, messageBytes, Room, Outcome, namedOf, readOf, writeKnown, writeNamed, writeOf, Writes}
+
+-- three words are a stat
+pub put-three : (d : List ℕ) (s : StatV1) → 16 ≤ length d
+    → put (put (put d 4 (bytesOf 4 (s .mode .0))) 8 (bytesOf 4 (s .size))) 12 (bytesOf 4 (s .mtime)) ≡ put d 4 (statBytes s)
+unfolding statBytes bytesOf
+put-three d s h =
+    let a = bytesOf 4 (s .mode .0) in
+    let b = bytesOf 4 (s .size) in
+    let c = bytesOf 4 (s .mtime) in
+    rw (put-put d 4 a 8 b refl (omega arith), put-put d 4 (a ++ b) 12 c refl (omega arith))
+
+-- a word behind a stat
+pub put-behind : (d : List ℕ) (s : StatV1) (n : ℕ) → 20 ≤ length d → put (put d 4 (statBytes s)) 16 (bytesOf 4 n) ≡ put d 4 (statBytes s ++ bytesOf 4 n)
+unfolding statBytes bytesOf
+put-behind d s n h = put-put d 4 (statBytes s) 16 (bytesOf 4 n) refl h
+
+-- the fields fill the head behind the id
+pub length-fields : (f : Fields) (n : ℕ) → 4 + length (fieldBytes f n) ≡ headOf (layoutOf f)
+unfolding fieldBytes statBytes bytesOf headOf layoutOf
+length-fields Text n = refl
+length-fields (Number a) n = refl
+length-fields (Stat s) n = refl
+length-fields (Entry s) n = refl
+length-fields (End s a) n = refl
+
+-- the code's test of data, over what it was called with
+pub over-is : (id : SyncId) (n m : ℕ) (r t : Bool) → r ≡ isOver id n → n ≡ m → r ≡ t → isOver id m ≡ t
+over-is id n m r t e f g = cc
+
+-- a head is the id and a word at least, and four words at most
+pub record Heads (k : Layout) : Type 0 where
+  pub least : 8 ≤ headOf k
+  pub most : headOf k ≤ 20
+  pub short : longestOf k ≤ 0xffff_ffff
+
+pub heads : (k : Layout) → Heads k
+unfolding headOf longestOf
+heads TextLayout = record { least = omega arith; most = omega arith; short = omega arith }
+heads NumberLayout = record { least = omega arith; most = omega arith; short = omega arith }
+heads StatLayout = record { least = omega arith; most = omega arith; short = omega arith }
+heads EntryLayout = record { least = omega arith; most = omega arith; short = omega arith }
+heads EndLayout = record { least = omega arith; most = omega arith; short = omega arith }
+
+-- a layout's number is its own
+abbrev layoutAt : ℕ → Layout
+layoutAt n =
+    cond (eqb n 0) TextLayout (cond (eqb n 1) NumberLayout (cond (eqb n 2) StatLayout (cond (eqb n 3) EntryLayout EndLayout)))
+
+layout-at : (k : Layout) → layoutAt (layoutNumber k) ≡ k
+unfolding layoutNumber
+layout-at TextLayout = refl
+layout-at NumberLayout = refl
+layout-at StatLayout = refl
+layout-at EntryLayout = refl
+layout-at EndLayout = refl
+
+-- fields that are not another layout's are this one's
+pub own-layout : (k : Layout) (f : Fields) → isOther k f ≡ false → k ≡ layoutOf f
+unfolding isOther
+own-layout k f e =
+    sym (layout-at k) ∙ ap layoutAt (eqb-true (layoutNumber k) (layoutNumber (layoutOf f)) (not-false _ e)) ∙ layout-at (layoutOf f)
+
+-- id, fields and text, put one behind the other, are the message
+pub put-message : (d d₁ d₂ d₃ : List ℕ) (m : Message) (text : List ℕ) (word n at : ℕ) → headOf (layoutOf (m .fields)) + length text ≤ length d
+    → word ≡ wordOf (m .id) → n ≡ length text → at ≡ headOf (layoutOf (m .fields))
+    → d₁ ≡ put d 0 (bytesOf 4 word) → d₂ ≡ put d₁ 4 (fieldBytes (m .fields) n) → d₃ ≡ put d₂ at text → d₃ ≡ put d 0 (messageBytes m text)
+unfolding messageBytes headBytes
+put-message d d₁ d₂ d₃ m text word n at h ew en ea e₁ e₂ e₃ =
+    let a = bytesOf 4 (wordOf (m .id)) in
+    let b = fieldBytes (m .fields) (length text) in
+    let la = length-bytesOf 4 (wordOf (m .id)) in
+    let lb = length-fields (m .fields) (length text) in
+    let lab = length-append a b in
+    let p = put-put d 0 a 4 b (omega arith) (omega arith) in
+    let q = put-put d 0 (a ++ b) (headOf (layoutOf (m .fields))) text (omega arith) h in
+    cc
+
+-- the room that a writer's tests leave
+pub room : (k : Layout) (m : Message) (text out : List ℕ) → isOther k (m .fields) ≡ false → length text ≤ longestOf k
+    → headOf k + length text ≤ length out → Room out m text
+room k m text out e h g =
+    let own = ap headOf (own-layout k (m .fields) e) in
+    let s = heads k in
+    record { small = omega arith; fits = omega arith }
+
+-- past its tests, what a writer put is what writing gives
+pub written : (k : Layout) (m : Message) (text d out : List ℕ) (r : ℕ) → isOther k (m .fields) ≡ false → isOver (m .id) (length text) ≡ false
+    → length text ≤ longestOf k → headOf k + length text ≤ length d → r ≡ headOf k + length text → out ≡ put d 0 (messageBytes m text)
+    → Writes (writeKnown k m text d) (Bytes r) out
+unfolding writeKnown
+written k m text d out r e₁ e₂ h g er eo =
+    rw (e₁, e₂, le-ltb (longestOf k) (length text) h, le-ltb (length d) (headOf k + length text) g) (record { result-is = ap Bytes er; out-is = eo })
+
+-- with the id here, what it names gives the answer
+pub named-read : (x : Exchange) (s : List ℕ) (word : ℕ) (f : Found) → 4 ≤ length s → word ≡ numOf (part s 0 4) → f ≡ foundOf x word
+    → namedOf s f ≡ readOf x s
+unfolding readOf
+named-read x s word f h e g = rw (le-ltb (length s) 4 h) (cc)
+
+pub named-write : (x : Exchange) (m : Message) (text d : List ℕ) (word : ℕ) (f : Found) (r : Written) (out : List ℕ) → word ≡ wordOf (m .id) → f ≡ foundOf x word
+    → Writes (writeNamed m text d f) r out → Writes (writeOf x m text d) r out
+unfolding writeOf
+named-write x m text d word f r out e g w =
+    let z : writeNamed m text d f ≡ writeOf x m text d = cc in
+    record { result-is = w .result-is ∙ ap (λ (o : Outcome). o .result) z; out-is = w .out-is ∙ ap (λ (o : Outcome). o .out) z }

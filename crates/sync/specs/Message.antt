@@ -1,0 +1,186 @@
+-- The sync messages as bytes (SYNC.TXT, "SYNC SERVICES", "LIST", "SEND", "RECV"; change request E3 for the fields of a STAT
+-- reply and of a listing's DONE, and for FAIL's text). Assumes nothing.
+use Prim.Native.Nat.{ℕ, _+_, _≤_}
+use mathlib.Core.Path.{_≡_}
+use mathlib.Core.Bool.{Bool, false, cond, not}
+use mathlib.Core.List.{List, _++_}
+use lib.Dec.{ltb, eqb}
+use lib.ListN.{length}
+use Rattle.le.specs.Le.{numOf, bytesOf, part, put}
+use Rattle.sync.specs.declared.exchange.SyncId.{SyncId}
+use Rattle.sync.specs.declared.exchange.SyncId.the-variants.{List as LIST, Recv as RECV, Send as SEND, Stat as STAT, Data as DATA, Done as DONE, Quit as QUIT, Dent as DENT, Okay as OKAY, Fail as FAIL}
+use Rattle.sync.specs.declared.exchange.Layout.{Layout}
+use Rattle.sync.specs.declared.exchange.Layout.the-variants.{Text, Number, Stat, Entry, End}
+use Rattle.sync.specs.declared.exchange.Found.{Found}
+use Rattle.sync.specs.declared.exchange.Found.the-variants.{Known, Unknown}
+use Rattle.sync.specs.declared.exchange.Exchange.{Exchange}
+use Rattle.sync.specs.declared.message.StatV1.{StatV1}
+use Rattle.sync.specs.declared.message.Fields.{Fields}
+use Rattle.sync.specs.declared.message.Fields.the-variants.{Text as TextFields, Number as NumberFields, Stat as StatFields, Entry as EntryFields, End as EndFields}
+use Rattle.sync.specs.declared.message.Message.{Message}
+use Rattle.sync.specs.declared.message.Read.{Read}
+use Rattle.sync.specs.declared.message.Read.the-variants.{Waiting, InvalidId, DataTooLarge, Whole}
+use Rattle.sync.specs.declared.message.Written.{Written}
+use Rattle.sync.specs.declared.message.Written.the-variants.{Bytes, OutShort, InvalidId as NotWritten, DataTooLarge as TooLarge}
+use Rattle.sync.specs.Exchange.{wordOf, foundOf}
+
+-- ---- layouts
+
+-- bytes ahead of the text: the id, and one word, three or four
+unfoldable pub headOf : Layout → ℕ
+headOf Text = 8
+headOf Number = 8
+headOf Stat = 16
+headOf Entry = 20
+headOf End = 20
+
+-- the longest text that its length can say; no text where there is no length
+unfoldable pub longestOf : Layout → ℕ
+longestOf Text = 0xffff_ffff
+longestOf Number = 0
+longestOf Stat = 0
+longestOf Entry = 0xffff_ffff
+longestOf End = 0
+
+-- the layout that has these fields
+unfoldable pub layoutOf : Fields → Layout
+layoutOf TextFields = Text
+layoutOf (NumberFields n) = Number
+layoutOf (StatFields s) = Stat
+layoutOf (EntryFields s) = Entry
+layoutOf (EndFields s n) = End
+
+unfoldable pub layoutNumber : Layout → ℕ
+layoutNumber Text = 0
+layoutNumber Number = 1
+layoutNumber Stat = 2
+layoutNumber Entry = 3
+layoutNumber End = 4
+
+-- whether these are another layout's fields
+unfoldable pub isOther : Layout → Fields → Bool
+isOther k f = not (eqb (layoutNumber k) (layoutNumber (layoutOf f)))
+
+-- "Each chunk must not be larger than 64k" (SEND, RECV)
+unfoldable pub isOver : SyncId → ℕ → Bool
+isOver LIST n = false
+isOver RECV n = false
+isOver SEND n = false
+isOver STAT n = false
+isOver DATA n = ltb 65_536 n
+isOver DONE n = false
+isOver QUIT n = false
+isOver DENT n = false
+isOver OKAY n = false
+isOver FAIL n = false
+
+-- ---- from bytes
+
+-- mode, size and time behind the id
+unfoldable pub statOf : List ℕ → StatV1
+statOf s = record { mode = record { 0 = numOf (part s 4 4) }; size = numOf (part s 8 4); mtime = numOf (part s 12 4) }
+
+unfoldable pub fieldsOf : Layout → List ℕ → Fields
+fieldsOf Text s = TextFields
+fieldsOf Number s = NumberFields (numOf (part s 4 4))
+fieldsOf Stat s = StatFields (statOf s)
+fieldsOf Entry s = EntryFields (statOf s)
+fieldsOf End s = EndFields (statOf s) (numOf (part s 16 4))
+
+-- the text's length
+unfoldable pub lengthOf : Layout → List ℕ → ℕ
+lengthOf Text s = numOf (part s 4 4)
+lengthOf Number s = 0
+lengthOf Stat s = 0
+lengthOf Entry s = numOf (part s 16 4)
+lengthOf End s = 0
+
+-- once the id is known: waiting for the head, 15, waiting for the text
+unfoldable pub knownOf : List ℕ → SyncId → Layout → Read
+knownOf s id k =
+    cond (ltb (length s) (headOf k)) Waiting
+    (cond (isOver id (lengthOf k s)) DataTooLarge
+    (cond (ltb (length s) (headOf k + lengthOf k s)) Waiting
+    (Whole (record { id = id; fields = fieldsOf k s }) (headOf k) (lengthOf k s))))
+
+-- 14, or what the known id gives
+unfoldable pub namedOf : List ℕ → Found → Read
+namedOf s (Known id k) = knownOf s id k
+namedOf s Unknown = InvalidId
+
+-- under 4 bytes: waiting; then the id decides
+unfoldable pub readOf : Exchange → List ℕ → Read
+readOf x s = cond (ltb (length s) 4) Waiting (namedOf s (foundOf x (numOf (part s 0 4))))
+
+-- the number of an answer: a refusal's own, 100 for waiting, 0 for a message
+unfoldable pub numberOf : Read → ℕ
+numberOf Waiting = 100
+numberOf InvalidId = 14
+numberOf DataTooLarge = 15
+numberOf (Whole m at n) = 0
+
+-- bytes used: those of a message with its text, none otherwise
+unfoldable pub usedOf : Read → ℕ
+usedOf Waiting = 0
+usedOf InvalidId = 0
+usedOf DataTooLarge = 0
+usedOf (Whole m at n) = at + n
+
+-- ---- to bytes
+
+unfoldable pub statBytes : StatV1 → List ℕ
+statBytes s = bytesOf 4 (s .mode .0) ++ bytesOf 4 (s .size) ++ bytesOf 4 (s .mtime)
+
+-- what stands between the id and a text of n bytes
+unfoldable pub fieldBytes : Fields → ℕ → List ℕ
+fieldBytes TextFields n = bytesOf 4 n
+fieldBytes (NumberFields a) n = bytesOf 4 a
+fieldBytes (StatFields s) n = statBytes s
+fieldBytes (EntryFields s) n = statBytes s ++ bytesOf 4 n
+fieldBytes (EndFields s a) n = statBytes s ++ bytesOf 4 a
+
+unfoldable pub headBytes : Message → ℕ → List ℕ
+headBytes m n = bytesOf 4 (wordOf (m .id)) ++ fieldBytes (m .fields) n
+
+-- the bytes of a message with this text
+unfoldable pub messageBytes : Message → List ℕ → List ℕ
+messageBytes m text = headBytes m (length text) ++ text
+
+-- what a writer asks: a text whose length has a field of 32 bits, and room for the message
+pub record Room (out : List ℕ) (m : Message) (text : List ℕ) : Type 0 where
+  pub small : length text ≤ 0xffff_ffff
+  pub fits : headOf (layoutOf (m .fields)) + length text ≤ length out
+
+-- what writing gives: its answer, and the outgoing bytes after it
+pub record Outcome : Type 0 where
+  pub result : Written
+  pub out : List ℕ
+
+-- fields of another layout are refused by 14, data over the maximum by 15, a text too long for its field and a short buffer by 9
+unfoldable pub writeKnown : Layout → Message → List ℕ → List ℕ → Outcome
+writeKnown k m text out =
+    cond (isOther k (m .fields)) (record { result = NotWritten; out = out })
+    (cond (isOver (m .id) (length text)) (record { result = TooLarge; out = out })
+    (cond (ltb (longestOf k) (length text)) (record { result = OutShort; out = out })
+    (cond (ltb (length out) (headOf k + length text)) (record { result = OutShort; out = out })
+    (record { result = Bytes (headOf k + length text); out = put out 0 (messageBytes m text) }))))
+
+-- an id that is not the exchange's is refused by 14
+unfoldable pub writeNamed : Message → List ℕ → List ℕ → Found → Outcome
+writeNamed m text out (Known id k) = writeKnown k m text out
+writeNamed m text out Unknown = record { result = NotWritten; out = out }
+
+unfoldable pub writeOf : Exchange → Message → List ℕ → List ℕ → Outcome
+writeOf x m text out = writeNamed m text out (foundOf x (wordOf (m .id)))
+
+-- what writing promises: the definition's answer, and every byte of out
+pub record Writes (o : Outcome) (r : Written) (out : List ℕ) : Type 0 where
+  pub result-is : r ≡ o .result
+  pub out-is : out ≡ o .out
+
+-- the number of its answer: a refusal's own, 0 for a message
+unfoldable pub writtenNumber : Written → ℕ
+writtenNumber (Bytes n) = 0
+writtenNumber NotWritten = 14
+writtenNumber TooLarge = 15
+writtenNumber OutShort = 9
