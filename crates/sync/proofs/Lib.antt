@@ -1,1 +1,4 @@
+pub mod ExchangeLaws
 pub mod MessageLaws
+pub mod FieldLaws
+pub mod RoundTrip

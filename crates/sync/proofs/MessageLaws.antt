@@ -48,6 +48,10 @@ length-fields (Stat s) n = refl
 length-fields (Entry s) n = refl
 length-fields (End s a) n = refl
 
+pub length-head : (m : Message) (n : ℕ) → length (headBytes m n) ≡ headOf (layoutOf (m .fields))
+unfolding headBytes
+length-head m n = rw (length-append, length-bytesOf) (length-fields (m .fields) n)
+
 -- the code's test of data, over what it was called with
 pub over-is : (id : SyncId) (n m : ℕ) (r t : Bool) → r ≡ isOver id n → n ≡ m → r ≡ t → isOver id m ≡ t
 over-is id n m r t e f g = cc

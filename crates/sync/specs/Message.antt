@@ -1,11 +1,11 @@
 -- The sync messages as bytes (SYNC.TXT, "SYNC SERVICES", "LIST", "SEND", "RECV"; change request E3 for the fields of a STAT
 -- reply and of a listing's DONE, and for FAIL's text). Assumes nothing.
-use Prim.Native.Nat.{ℕ, _+_, _≤_}
+use Prim.Native.Nat.{ℕ, _+_, _≤_, _<_, _^_}
 use mathlib.Core.Path.{_≡_}
 use mathlib.Core.Bool.{Bool, false, cond, not}
-use mathlib.Core.List.{List, _++_}
+use mathlib.Core.List.{List, [], _∷_, _++_}
 use lib.Dec.{ltb, eqb}
-use lib.ListN.{length}
+use lib.ListN.{length, getD}
 use Rattle.le.specs.Le.{numOf, bytesOf, part, put}
 use Rattle.sync.specs.declared.exchange.SyncId.{SyncId}
 use Rattle.sync.specs.declared.exchange.SyncId.the-variants.{List as LIST, Recv as RECV, Send as SEND, Stat as STAT, Data as DATA, Done as DONE, Quit as QUIT, Dent as DENT, Okay as OKAY, Fail as FAIL}
@@ -138,6 +138,17 @@ fieldBytes (NumberFields a) n = bytesOf 4 a
 fieldBytes (StatFields s) n = statBytes s
 fieldBytes (EntryFields s) n = statBytes s ++ bytesOf 4 n
 fieldBytes (EndFields s a) n = statBytes s ++ bytesOf 4 a
+
+-- the numbers of fields, and that each is of 32 bits
+unfoldable pub numbersOf : Fields → List ℕ
+numbersOf TextFields = []
+numbersOf (NumberFields a) = a ∷ []
+numbersOf (StatFields s) = s .mode .0 ∷ s .size ∷ s .mtime ∷ []
+numbersOf (EntryFields s) = s .mode .0 ∷ s .size ∷ s .mtime ∷ []
+numbersOf (EndFields s a) = s .mode .0 ∷ s .size ∷ s .mtime ∷ a ∷ []
+
+abbrev pub Words : Fields → Type 0
+Words f = (k : ℕ) → getD (numbersOf f) k 0 < 2 ^ 32
 
 unfoldable pub headBytes : Message → ℕ → List ℕ
 headBytes m n = bytesOf 4 (wordOf (m .id)) ++ fieldBytes (m .fields) n

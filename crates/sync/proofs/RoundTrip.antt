@@ -1,0 +1,234 @@
+-- Sync messages from bytes and to bytes, both ways. Assumes nothing.
+--     says          what an accepted message's bytes say
+--     write-back    what `writeOf` makes, `readOf` gives back, whatever follows
+--     read-back     what `readOf` accepts, `writeOf` makes byte for byte
+use mathlib.Core.Path.{_≡_, refl, sym, ap, _∙_}
+use mathlib.Core.Bool.{true, false, not}
+use mathlib.Core.List.{List, _++_, append-assoc}
+use Prim.Native.Nat.{ℕ, _+_, _≤_}
+use native.Mathlib.Omega.{arith}
+use lib.Dec.{eqb, ltb}
+use lib.ListN.{length, take, drop, length-append}
+use lib.Seq.{take-add, drop-at, take-at, take-append-seam}
+use borrow.Author.Tests.{ltb-false, le-ltb, eq-eqb}
+use Rattle.le.specs.Le.{numOf, part, put, Bytes}
+use Rattle.le.proofs.Laws.{numOf-part}
+use Rattle.le.proofs.Parts.{by-test, length-part, part-join, part-put-same}
+use Rattle.sync.specs.declared.exchange.Layout.{Layout}
+use Rattle.sync.specs.declared.exchange.Layout.the-variants.{Text, Number, Stat, Entry, End}
+use Rattle.sync.specs.declared.exchange.SyncId.{SyncId}
+use Rattle.sync.specs.declared.exchange.Found.{Found}
+use Rattle.sync.specs.declared.exchange.Found.the-variants.{Known, Unknown}
+use Rattle.sync.specs.declared.exchange.Exchange.{Exchange}
+use Rattle.sync.specs.declared.message.Message.{Message}
+use Rattle.sync.specs.declared.message.Read.the-variants.{Whole}
+use Rattle.sync.specs.declared.message.Written.the-variants.{Bytes as Written·Bytes}
+use Rattle.sync.specs.Exchange.{wordOf, foundOf}
+use Rattle.sync.specs.Message.{headOf, longestOf, layoutOf, layoutNumber, isOther, isOver, fieldsOf, lengthOf, knownOf, namedOf, readOf, headBytes, messageBytes, Words, Outcome, writeKnown, writeNamed, writeOf}
+use Rattle.sync.proofs.ExchangeLaws.{found-word, found-id}
+use Rattle.sync.proofs.MessageLaws.{heads, own-layout, length-head}
+use Rattle.sync.proofs.FieldLaws.{read-word, read-fields, read-length, same-layout, head-written}
+
+-- ---- what an accepted message's bytes say
+
+pub record Known-says (s : List ℕ) (id : SyncId) (k : Layout) (m : Message) (at n : ℕ) : Type 0 where
+  pub id-is : m .id ≡ id
+  pub fields-are : m .fields ≡ fieldsOf k s
+  pub at-is : at ≡ headOf k
+  pub length-is : n ≡ lengthOf k s
+  pub small : isOver id (lengthOf k s) ≡ false
+  pub whole : headOf k + lengthOf k s ≤ length s
+
+known-says : (s : List ℕ) (id : SyncId) (k : Layout) (m : Message) (at n : ℕ) → knownOf s id k ≡ Whole m at n → Known-says s id k m at n
+unfolding knownOf
+known-says s id k m at n e =
+    by-test (ltb (length s) (headOf k))
+    (λ t. let f = rw t at e in let z : _≡_ {A = ℕ} 0 1 = cc in absurd (omega arith))
+    (λ t₁. by-test (isOver id (lengthOf k s))
+    (λ t. let f = rw (t₁, t) at e in let z : _≡_ {A = ℕ} 0 1 = cc in absurd (omega arith))
+    (λ t₂. by-test (ltb (length s) (headOf k + lengthOf k s))
+    (λ t. let f = rw (t₁, t₂, t) at e in let z : _≡_ {A = ℕ} 0 1 = cc in absurd (omega arith))
+    (λ t₃. let f = rw (t₁, t₂, t₃) at e in
+    record {
+      id-is = cc;
+      fields-are = cc;
+      at-is = cc;
+      length-is = cc;
+      small = t₂;
+      whole = ltb-false _ _ t₃;
+    })))
+
+pub record Says (x : Exchange) (s : List ℕ) (m : Message) (at n : ℕ) : Type 0 where
+  pub layout : Layout
+  pub found : foundOf x (numOf (part s 0 4)) ≡ Known (m .id) layout
+  pub known : Known-says s (m .id) layout m at n
+
+named-says : (x : Exchange) (s : List ℕ) (m : Message) (at n : ℕ) (f : Found) → foundOf x (numOf (part s 0 4)) ≡ f → namedOf s f ≡ Whole m at n → Says x s m at n
+unfolding namedOf
+named-says x s m at n Unknown e g = let z : _≡_ {A = ℕ} 0 1 = cc in absurd (omega arith)
+named-says x s m at n (Known id k) e g =
+    let a = known-says s id k m at n g in
+    let i = sym (a .id-is) in
+    record { layout = k; found = rw (a .id-is) e; known = rw i at a }
+
+pub says : (x : Exchange) (s : List ℕ) (m : Message) (at n : ℕ) → readOf x s ≡ Whole m at n → Says x s m at n
+unfolding readOf
+says x s m at n e =
+    by-test (ltb (length s) 4)
+    (λ t. let f = rw t at e in let z : _≡_ {A = ℕ} 0 1 = cc in absurd (omega arith))
+    (λ t. named-says x s m at n (foundOf x (numOf (part s 0 4))) refl (rw t at e))
+
+-- ---- writing, then reading
+
+pub record Written-says (x : Exchange) (m : Message) (text out : List ℕ) (n : ℕ) : Type 0 where
+  pub found : foundOf x (wordOf (m .id)) ≡ Known (m .id) (layoutOf (m .fields))
+  pub small : isOver (m .id) (length text) ≡ false
+  pub long : length text ≤ longestOf (layoutOf (m .fields))
+  pub room : headOf (layoutOf (m .fields)) + length text ≤ length out
+  pub count-is : n ≡ headOf (layoutOf (m .fields)) + length text
+  pub out-is : writeOf x m text out .out ≡ put out 0 (messageBytes m text)
+
+known-written : (x : Exchange) (m : Message) (text out : List ℕ) (n : ℕ) (id : SyncId) (k : Layout) → foundOf x (wordOf (m .id)) ≡ Known id k
+    → writeKnown k m text out .result ≡ Written·Bytes n → writeOf x m text out ≡ writeKnown k m text out → Written-says x m text out n
+unfolding writeKnown
+known-written x m text out n id k g e w =
+    by-test (isOther k (m .fields))
+    (λ t. let f = rw t at e in let z : _≡_ {A = ℕ} 0 1 = cc in absurd (omega arith))
+    (λ t₁. by-test (isOver (m .id) (length text))
+    (λ t. let f = rw (t₁, t) at e in let z : _≡_ {A = ℕ} 0 1 = cc in absurd (omega arith))
+    (λ t₂. by-test (ltb (longestOf k) (length text))
+    (λ t. let f = rw (t₁, t₂, t) at e in let z : _≡_ {A = ℕ} 0 1 = cc in absurd (omega arith))
+    (λ t₃. by-test (ltb (length out) (headOf k + length text))
+    (λ t. let f = rw (t₁, t₂, t₃, t) at e in let z : _≡_ {A = ℕ} 0 1 = cc in absurd (omega arith))
+    (λ t₄. let f = rw (t₁, t₂, t₃, t₄) at e in
+    let o = rw (t₁, t₂, t₃, t₄) at w in
+    let own = sym (own-layout k (m .fields) t₁) in
+    record {
+      found = rw own (found-id x (m .id) id k g);
+      small = t₂;
+      long = rw own (ltb-false _ _ t₃);
+      room = rw own (ltb-false _ _ t₄);
+      count-is = rw own (cc);
+      out-is = ap (λ (q : Outcome). q .out) o;
+    }))))
+
+named-written : (x : Exchange) (m : Message) (text out : List ℕ) (n : ℕ) (f : Found) → foundOf x (wordOf (m .id)) ≡ f
+    → writeNamed m text out f .result ≡ Written·Bytes n → writeOf x m text out ≡ writeNamed m text out f → Written-says x m text out n
+unfolding writeNamed
+named-written x m text out n Unknown g e w = let z : _≡_ {A = ℕ} 0 1 = cc in absurd (omega arith)
+named-written x m text out n (Known id k) g e w = known-written x m text out n id k g e w
+
+pub written-says : (x : Exchange) (m : Message) (text out : List ℕ) (n : ℕ) → writeOf x m text out .result ≡ Written·Bytes n → Written-says x m text out n
+unfolding writeOf
+written-says x m text out n e = named-written x m text out n (foundOf x (wordOf (m .id))) refl e refl
+
+pub record Comes-back (x : Exchange) (m : Message) (text : List ℕ) (n : ℕ) (s : List ℕ) : Type 0 where
+  pub at : ℕ
+  pub read-is : readOf x s ≡ Whole m at (length text)
+  pub text-is : part s at (length text) ≡ text
+  pub used-is : at + length text ≡ n
+
+module _ (m : Message) (text rest : List ℕ) where
+  pub message-length : length (messageBytes m text) ≡ headOf (layoutOf (m .fields)) + length text
+  unfolding messageBytes
+  message-length = rw (length-append, length-head)
+
+  head-rest : messageBytes m text ++ rest ≡ headBytes m (length text) ++ (text ++ rest)
+  unfolding messageBytes
+  head-rest = append-assoc (headBytes m (length text)) text rest
+
+  -- the bytes of a message, with anything behind them, are read as that message
+  pub not-refused : (x : Exchange) → Words (m .fields) → foundOf x (wordOf (m .id)) ≡ Known (m .id) (layoutOf (m .fields))
+      → isOver (m .id) (length text) ≡ false → length text ≤ longestOf (layoutOf (m .fields))
+      → readOf x (messageBytes m text ++ rest) ≡ Whole m (headOf (layoutOf (m .fields))) (length text)
+  unfolding readOf namedOf knownOf
+  not-refused x h found small long =
+      let n = length text in
+      let k = layoutOf (m .fields) in
+      let s = messageBytes m text ++ rest in
+      let ls : length s ≡ headOf k + n + length rest = rw (length-append, message-length) in
+      let hk = heads k in
+      let ew : numOf (part s 0 4) ≡ wordOf (m .id) = rw head-rest (read-word m n (text ++ rest)) in
+      let el : lengthOf k s ≡ n = rw head-rest (read-length m n (text ++ rest) long) in
+      let ef : fieldsOf k s ≡ m .fields = rw head-rest (read-fields m n (text ++ rest) h) in
+      rw (
+        le-ltb (length s) 4 (omega arith),
+        ew,
+        found,
+        le-ltb (length s) (headOf k) (omega arith),
+        el,
+        small,
+        le-ltb (length s) (headOf k + n) (omega arith),
+        ef,
+      )
+
+  pub text-behind : part (messageBytes m text ++ rest) (headOf (layoutOf (m .fields))) (length text) ≡ text
+  unfolding part
+  text-behind = rw (head-rest, drop-at (headBytes m (length text)) (text ++ rest) (headOf (layoutOf (m .fields))) (length-head m (length text)), take-append-seam)
+
+-- what the writer made, with anything behind it, is read as the message that was written, its text with it
+pub write-back : (x : Exchange) (m : Message) (text out : List ℕ) (n : ℕ) (rest : List ℕ) → Words (m .fields) → writeOf x m text out .result ≡ Written·Bytes n
+    → Comes-back x m text n (take n (writeOf x m text out .out) ++ rest)
+unfolding part
+write-back x m text out n rest h e =
+    let w = written-says x m text out n e in
+    let b = messageBytes m text in
+    let l : length b ≡ n = message-length m text rest ∙ sym (w .count-is) in
+    let r = w .room in
+    let t : take n (writeOf x m text out .out) ≡ b =
+    ap (take n) (w .out-is) ∙ ap (λ (j : ℕ). take j (put out 0 b)) (sym l) ∙ part-put-same out 0 b (omega (arith, w .count-is)) in
+    rw t (record {
+      at = headOf (layoutOf (m .fields));
+      read-is = not-refused m text rest x h (w .found) (w .small) (w .long);
+      text-is = text-behind m text rest;
+      used-is = sym (w .count-is);
+    })
+
+-- ---- reading, then writing
+
+-- a length that was read has its field
+length-fits : (k : Layout) (s : List ℕ) → Bytes s → lengthOf k s ≤ longestOf k
+unfolding lengthOf longestOf
+length-fits Text s h = omega (arith, numOf-part 4 s 4 h)
+length-fits Number s h = omega arith
+length-fits Stat s h = omega arith
+length-fits Entry s h = omega (arith, numOf-part 4 s 16 h)
+length-fits End s h = omega arith
+
+not-other : (k : Layout) (s : List ℕ) → isOther k (fieldsOf k s) ≡ false
+unfolding isOther
+not-other k s = rw (same-layout k s, eq-eqb (layoutNumber k) (layoutNumber k) refl)
+
+joined-parts : (s : List ℕ) (at n : ℕ) → part s 0 at ++ part s at n ≡ take (at + n) s
+unfolding part
+joined-parts s at n = rw (take-add at n s)
+
+known-back : (x : Exchange) (s : List ℕ) (m : Message) (at n : ℕ) (out : List ℕ) (k : Layout) → Bytes s → foundOf x (numOf (part s 0 4)) ≡ Known (m .id) k
+    → Known-says s (m .id) k m at n → at + n ≤ length out
+    → writeOf x m (part s at n) out ≡ record { result = Written·Bytes (at + n); out = put out 0 (take (at + n) s) }
+unfolding writeOf writeNamed writeKnown messageBytes
+known-back x s m at n out k h f a room =
+    let word = found-word x (numOf (part s 0 4)) (m .id) k f in
+    let found : foundOf x (wordOf (m .id)) ≡ Known (m .id) k = rw (← word) f in
+    let other : isOther k (m .fields) ≡ false = rw (a .fields-are) (not-other k s) in
+    let fit = length-fits k s h in
+    let l : length (part s at n) ≡ n = length-part s at n (omega (arith, a .at-is, a .length-is, a .whole)) in
+    let small : isOver (m .id) n ≡ false = rw (a .length-is) (a .small) in
+    let head : headBytes m n ≡ part s 0 at = rw (a .length-is, a .at-is) (head-written k m s h (omega (arith, a .whole)) word (a .fields-are)) in
+    rw (
+      found,
+      other,
+      l,
+      small,
+      le-ltb (longestOf k) n (omega (arith, a .length-is)),
+      ← a .at-is,
+      le-ltb (length out) (at + n) room,
+      head,
+      joined-parts s at n,
+    )
+
+pub read-back : (x : Exchange) (s : List ℕ) (m : Message) (at n : ℕ) (out : List ℕ) → Bytes s → readOf x s ≡ Whole m at n → at + n ≤ length out
+    → writeOf x m (part s at n) out ≡ record { result = Written·Bytes (at + n); out = put out 0 (take (at + n) s) }
+read-back x s m at n out h e room =
+    let y = says x s m at n e in
+    known-back x s m at n out (y .layout) h (y .found) (y .known) room
