@@ -2,3 +2,4 @@ pub mod ExchangeLaws
 pub mod MessageLaws
 pub mod FieldLaws
 pub mod RoundTrip
+pub mod Pieces

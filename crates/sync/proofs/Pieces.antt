@@ -1,0 +1,107 @@
+-- However an exchange's bytes are cut, the messages and the unfinished rest, or the refusal and what is left, are the same.
+-- Assumes nothing.
+--     stable   what the reader answers, but waiting, it answers whatever arrives behind
+--     pieces   pieces read one after the other give what the whole gives
+use mathlib.Core.Path.{_≡_, refl, sym, ap, subst, _∙_}
+use mathlib.Core.Bool.{true, false}
+use mathlib.Core.List.{List, [], _++_}
+use Prim.Native.Nat.{ℕ, _+_, _≤_, _<_}
+use native.Mathlib.Omega.{arith}
+use lib.Dec.{T, ltb}
+use lib.ListN.{length, length-append}
+use borrow.Author.Tests.{ltb-false, le-ltb}
+use Rattle.le.specs.Le.{numOf, part}
+use Rattle.le.proofs.Parts.{by-test, part-front}
+use Rattle.stream.specs.Stream.{Answer, waiting, message, refused, isWaiting, joined, readAll, begun, feedAll, Stable}
+use Rattle.stream.proofs.Cut.{cut}
+use Rattle.sync.specs.declared.exchange.SyncId.{SyncId}
+use Rattle.sync.specs.declared.exchange.Layout.{Layout}
+use Rattle.sync.specs.declared.exchange.Found.{Found}
+use Rattle.sync.specs.declared.exchange.Found.the-variants.{Known, Unknown}
+use Rattle.sync.specs.declared.exchange.Exchange.{Exchange}
+use Rattle.sync.specs.declared.message.Read.{Read}
+use Rattle.sync.specs.declared.message.Read.the-variants.{Waiting, InvalidId, DataTooLarge, Whole}
+use Rattle.sync.specs.Exchange.{foundOf}
+use Rattle.sync.specs.Message.{headOf, isOver, lengthOf, fieldsOf, knownOf, namedOf, readOf, numberOf, usedOf}
+use Rattle.sync.specs.Pieces.{Got, answerOf, receives}
+use Rattle.sync.proofs.MessageLaws.{heads}
+use Rattle.sync.proofs.FieldLaws.{fields-front, length-front}
+use Rattle.sync.proofs.RoundTrip.{says}
+
+module _ (l m : List ℕ) where
+  known-stays : (id : SyncId) (k : Layout) → isWaiting (answerOf l (knownOf l id k)) ≡ false → knownOf (l ++ m) id k ≡ knownOf l id k
+  unfolding knownOf answerOf isWaiting
+  known-stays id k e =
+      let la = length-append l m in
+      by-test (ltb (length l) (headOf k))
+      (λ t. let f = rw t at e in absurd (subst T f tt))
+      (λ t₁. let h = ltb-false (length l) (headOf k) t₁ in
+      let fl = length-front k l m h in
+      let g = le-ltb (length (l ++ m)) (headOf k) (omega arith) in
+      by-test (isOver id (lengthOf k l))
+      (λ t. rw (g, t₁, fl, t))
+      (λ t₂. by-test (ltb (length l) (headOf k + lengthOf k l))
+      (λ t. let f = rw (t₁, t₂, t) at e in absurd (subst T f tt))
+      (λ t₃. let w = ltb-false (length l) (headOf k + lengthOf k l) t₃ in
+      rw (g, t₁, fl, t₂, t₃, le-ltb (length (l ++ m)) (headOf k + lengthOf k l) (omega arith), fields-front k l m h))))
+
+  named-stays : (f : Found) → isWaiting (answerOf l (namedOf l f)) ≡ false → namedOf (l ++ m) f ≡ namedOf l f
+  unfolding namedOf
+  named-stays Unknown e = refl
+  named-stays (Known id k) e = known-stays id k e
+
+  read-stays : (x : Exchange) → isWaiting (answerOf l (readOf x l)) ≡ false → readOf x (l ++ m) ≡ readOf x l
+  unfolding readOf answerOf isWaiting
+  read-stays x e =
+      let la = length-append l m in
+      by-test (ltb (length l) 4)
+      (λ t. let f = rw t at e in absurd (subst T f tt))
+      (λ t. let h = ltb-false (length l) 4 t in
+      rw (le-ltb (length (l ++ m)) 4 (omega arith), t, part-front l m 0 4 h) (named-stays (foundOf x (numOf (part l 0 4))) (rw t at e)))
+
+  answer-stays : (x : Exchange) (r : Read) → readOf x l ≡ r → answerOf (l ++ m) r ≡ answerOf l r
+  unfolding answerOf
+  answer-stays x Waiting e = refl
+  answer-stays x InvalidId e = refl
+  answer-stays x DataTooLarge e = refl
+  answer-stays x (Whole g at n) e =
+      let a = says x l g at n e .known in
+      rw (part-front l m at n (omega (arith, a .at-is, a .length-is, a .whole)))
+
+-- what a message uses
+pub record Uses (l : List ℕ) (n : ℕ) : Type 0 where
+  pub some : 0 < n
+  pub within : n ≤ length l
+
+uses : (x : Exchange) (l : List ℕ) (g : Got) (n : ℕ) (r : Read) → readOf x l ≡ r → answerOf l r ≡ message g n → Uses l n
+unfolding answerOf usedOf
+uses x l g n Waiting e f = let z : _≡_ {A = ℕ} 0 1 = cc in absurd (omega arith)
+uses x l g n InvalidId e f = let z : _≡_ {A = ℕ} 0 1 = cc in absurd (omega arith)
+uses x l g n DataTooLarge e f = let z : _≡_ {A = ℕ} 0 1 = cc in absurd (omega arith)
+uses x l g n (Whole m at k) e f =
+    let s = says x l m at k e in
+    let a = s .known in
+    let h = heads (s .layout) in
+    let i : at + k ≡ n = cc in
+    record { some = omega (arith, a .at-is); within = omega (arith, a .at-is, a .length-is, a .whole) }
+
+uses-none : (l : List ℕ) (number n : ℕ) (r : Read) → answerOf l r ≡ refused number n → n ≡ 0
+unfolding answerOf usedOf
+uses-none l number n Waiting f = cc
+uses-none l number n InvalidId f = cc
+uses-none l number n DataTooLarge f = cc
+uses-none l number n (Whole m at k) f = cc
+
+pub stable : (x : Exchange) → Stable (receives x)
+unfolding receives readOf answerOf
+stable x =
+    record {
+      none = refl;
+      stays = λ l m e. ap (answerOf (l ++ m)) (read-stays l m x e) ∙ answer-stays l m x (readOf x l) refl;
+      moves = λ l g n e. uses x l g n (readOf x l) refl e .some;
+      within = λ l g n e. uses x l g n (readOf x l) refl e .within;
+      refused-within = λ l number n e. omega (arith, uses-none l number n (readOf x l) e);
+    }
+
+pub pieces : (x : Exchange) (cs : List (List ℕ)) → feedAll (receives x) begun cs ≡ readAll (receives x) (joined cs)
+pieces x cs = cut (receives x) (stable x) cs

@@ -1,0 +1,24 @@
+-- The reader of an exchange, as a reader of bytes that arrive in pieces. Assumes nothing.
+use Prim.Native.Nat.{ℕ, _+_}
+use mathlib.Core.List.{List}
+use Rattle.le.specs.Le.{part}
+use Rattle.stream.specs.Stream.{Answer, waiting, message, refused}
+use Rattle.sync.specs.declared.exchange.Exchange.{Exchange}
+use Rattle.sync.specs.declared.message.Message.{Message}
+use Rattle.sync.specs.declared.message.Read.{Read}
+use Rattle.sync.specs.declared.message.Read.the-variants.{Waiting, InvalidId, DataTooLarge, Whole}
+use Rattle.sync.specs.Message.{readOf, numberOf, usedOf}
+
+-- a message with its text
+pub record Got : Type 0 where
+  pub got : Message
+  pub text : List ℕ
+
+unfoldable pub answerOf : List ℕ → Read → Answer Got
+answerOf s Waiting = waiting
+answerOf s InvalidId = refused (numberOf InvalidId) (usedOf InvalidId)
+answerOf s DataTooLarge = refused (numberOf DataTooLarge) (usedOf DataTooLarge)
+answerOf s (Whole m at n) = message (record { got = m; text = part s at n }) (usedOf (Whole m at n))
+
+unfoldable pub receives : Exchange → List ℕ → Answer Got
+receives x s = answerOf s (readOf x s)
