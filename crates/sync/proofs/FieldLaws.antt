@@ -8,16 +8,15 @@ use lib.ListN.{length}
 use Rattle.le.specs.Le.{numOf, bytesOf, part, Bytes}
 use Rattle.le.proofs.Laws.{write-read, read-write-part}
 use Rattle.le.proofs.Parts.{part-join, part-front}
-use Rattle.sync.specs.declared.exchange.Layout.{Layout}
-use Rattle.sync.specs.declared.exchange.Layout.the-variants.{Text, Number, Stat, Entry, End}
-use Rattle.sync.specs.declared.message.StatV1.{StatV1}
-use Rattle.sync.specs.declared.message.Fields.{Fields}
-use Rattle.sync.specs.declared.message.Fields.the-variants.{Text as TextFields, Number as NumberFields, Stat as StatFields, Entry as EntryFields, End as EndFields}
-use Rattle.sync.specs.declared.message.Message.{Message}
-use Rattle.sync.specs.Exchange.{wordOf}
-use Rattle.sync.specs.Message.{headOf, longestOf, layoutOf, statOf, fieldsOf, lengthOf, statBytes, fieldBytes, headBytes, numbersOf, Words}
-use Rattle.sync.proofs.ExchangeLaws.{word-small}
-use Rattle.sync.proofs.MessageLaws.{heads}
+use Rattle.exchange.specs.declared.Layout.{Layout}
+use Rattle.exchange.specs.declared.Layout.the-variants.{Text, Number, Stat, Entry, End}
+use Rattle.sync.specs.declared.StatV1.{StatV1}
+use Rattle.sync.specs.declared.Fields.{Fields}
+use Rattle.sync.specs.declared.Fields.the-variants.{Text as TextFields, Number as NumberFields, Stat as StatFields, Entry as EntryFields, End as EndFields}
+use Rattle.sync.specs.declared.Message.{Message}
+use Rattle.exchange.specs.Exchange.{wordOf, headOf, longestOf}
+use Rattle.sync.specs.Message.{layoutOf, statOf, fieldsOf, lengthOf, statBytes, fieldBytes, headBytes, numbersOf, Words}
+use Rattle.exchange.proofs.ExchangeLaws.{word-small, heads}
 
 -- ---- written, then read
 

@@ -1,4 +1,3 @@
-pub mod ExchangeLaws
 pub mod MessageLaws
 pub mod FieldLaws
 pub mod RoundTrip

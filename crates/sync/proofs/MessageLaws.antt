@@ -10,19 +10,20 @@ use borrow.Author.Tests.{eqb-true, not-false, le-ltb}
 use Rattle.le.specs.Le.{numOf, bytesOf, part, put}
 use Rattle.le.proofs.Laws.{length-bytesOf}
 use Rattle.le.proofs.Parts.{put-put}
-use Rattle.sync.specs.declared.exchange.SyncId.{SyncId}
-use Rattle.sync.specs.declared.exchange.Layout.{Layout}
-use Rattle.sync.specs.declared.exchange.Layout.the-variants.{Text as TextLayout, Number as NumberLayout, Stat as StatLayout, Entry as EntryLayout, End as EndLayout}
-use Rattle.sync.specs.declared.exchange.Found.{Found}
-use Rattle.sync.specs.declared.exchange.Exchange.{Exchange}
-use Rattle.sync.specs.declared.message.StatV1.{StatV1}
-use Rattle.sync.specs.declared.message.Fields.{Fields}
-use Rattle.sync.specs.declared.message.Fields.the-variants.{Text, Number, Stat, Entry, End}
-use Rattle.sync.specs.declared.message.Message.{Message}
-use Rattle.sync.specs.declared.message.Written.{Written}
-use Rattle.sync.specs.declared.message.Written.the-variants.{Bytes}
-use Rattle.sync.specs.Exchange.{wordOf, foundOf}
-use Rattle.sync.specs.Message.{headOf, longestOf, layoutOf, layoutNumber, isOther, isOver, statBytes, fieldBytes, headBytes, messageBytes, Room, Outcome, namedOf, readOf, writeKnown, writeNamed, writeOf, Writes}
+use Rattle.exchange.specs.declared.SyncId.{SyncId}
+use Rattle.exchange.specs.declared.Layout.{Layout}
+use Rattle.exchange.specs.declared.Layout.the-variants.{Text as TextLayout, Number as NumberLayout, Stat as StatLayout, Entry as EntryLayout, End as EndLayout}
+use Rattle.exchange.specs.declared.Found.{Found}
+use Rattle.exchange.specs.declared.Exchange.{Exchange}
+use Rattle.sync.specs.declared.StatV1.{StatV1}
+use Rattle.sync.specs.declared.Fields.{Fields}
+use Rattle.sync.specs.declared.Fields.the-variants.{Text, Number, Stat, Entry, End}
+use Rattle.sync.specs.declared.Message.{Message}
+use Rattle.sync.specs.declared.Written.{Written}
+use Rattle.sync.specs.declared.Written.the-variants.{Bytes}
+use Rattle.exchange.proofs.ExchangeLaws.{heads, same-layout-number}
+use Rattle.exchange.specs.Exchange.{wordOf, foundOf, headOf, longestOf, layoutNumber, isOver}
+use Rattle.sync.specs.Message.{layoutOf, isOther, statBytes, fieldBytes, headBytes, messageBytes, Room, Outcome, namedOf, readOf, writeKnown, writeNamed, writeOf, Writes}
 
 -- three words are a stat
 pub put-three : (d : List ℕ) (s : StatV1) → 16 ≤ length d
@@ -52,42 +53,11 @@ pub length-head : (m : Message) (n : ℕ) → length (headBytes m n) ≡ headOf 
 unfolding headBytes
 length-head m n = rw (length-append, length-bytesOf) (length-fields (m .fields) n)
 
--- the code's test of data, over what it was called with
-pub over-is : (id : SyncId) (n m : ℕ) (r t : Bool) → r ≡ isOver id n → n ≡ m → r ≡ t → isOver id m ≡ t
-over-is id n m r t e f g = cc
-
--- a head is the id and a word at least, and four words at most
-pub record Heads (k : Layout) : Type 0 where
-  pub least : 8 ≤ headOf k
-  pub most : headOf k ≤ 20
-  pub short : longestOf k ≤ 0xffff_ffff
-
-pub heads : (k : Layout) → Heads k
-unfolding headOf longestOf
-heads TextLayout = record { least = omega arith; most = omega arith; short = omega arith }
-heads NumberLayout = record { least = omega arith; most = omega arith; short = omega arith }
-heads StatLayout = record { least = omega arith; most = omega arith; short = omega arith }
-heads EntryLayout = record { least = omega arith; most = omega arith; short = omega arith }
-heads EndLayout = record { least = omega arith; most = omega arith; short = omega arith }
-
--- a layout's number is its own
-abbrev layoutAt : ℕ → Layout
-layoutAt n =
-    cond (eqb n 0) TextLayout (cond (eqb n 1) NumberLayout (cond (eqb n 2) StatLayout (cond (eqb n 3) EntryLayout EndLayout)))
-
-layout-at : (k : Layout) → layoutAt (layoutNumber k) ≡ k
-unfolding layoutNumber
-layout-at TextLayout = refl
-layout-at NumberLayout = refl
-layout-at StatLayout = refl
-layout-at EntryLayout = refl
-layout-at EndLayout = refl
-
 -- fields that are not another layout's are this one's
 pub own-layout : (k : Layout) (f : Fields) → isOther k f ≡ false → k ≡ layoutOf f
 unfolding isOther
 own-layout k f e =
-    sym (layout-at k) ∙ ap layoutAt (eqb-true (layoutNumber k) (layoutNumber (layoutOf f)) (not-false _ e)) ∙ layout-at (layoutOf f)
+    same-layout-number k (layoutOf f) (eqb-true (layoutNumber k) (layoutNumber (layoutOf f)) (not-false _ e))
 
 -- id, fields and text, put one behind the other, are the message
 pub put-message : (d d₁ d₂ d₃ : List ℕ) (m : Message) (text : List ℕ) (word n at : ℕ) → headOf (layoutOf (m .fields)) + length text ≤ length d

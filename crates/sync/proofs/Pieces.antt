@@ -14,19 +14,19 @@ use Rattle.le.specs.Le.{numOf, part}
 use Rattle.le.proofs.Parts.{by-test, part-front}
 use Rattle.stream.specs.Stream.{Answer, waiting, message, refused, isWaiting, joined, readAll, begun, feedAll, Stable}
 use Rattle.stream.proofs.Cut.{cut}
-use Rattle.sync.specs.declared.exchange.SyncId.{SyncId}
-use Rattle.sync.specs.declared.exchange.Layout.{Layout}
-use Rattle.sync.specs.declared.exchange.Found.{Found}
-use Rattle.sync.specs.declared.exchange.Found.the-variants.{Known, Unknown}
-use Rattle.sync.specs.declared.exchange.Exchange.{Exchange}
-use Rattle.sync.specs.declared.message.Read.{Read}
-use Rattle.sync.specs.declared.message.Read.the-variants.{Waiting, InvalidId, DataTooLarge, Whole}
-use Rattle.sync.specs.Exchange.{foundOf}
-use Rattle.sync.specs.Message.{headOf, isOver, lengthOf, fieldsOf, knownOf, namedOf, readOf, numberOf, usedOf}
+use Rattle.exchange.specs.declared.SyncId.{SyncId}
+use Rattle.exchange.specs.declared.Layout.{Layout}
+use Rattle.exchange.specs.declared.Found.{Found}
+use Rattle.exchange.specs.declared.Found.the-variants.{Known, Unknown}
+use Rattle.exchange.specs.declared.Exchange.{Exchange}
+use Rattle.sync.specs.declared.Read.{Read}
+use Rattle.sync.specs.declared.Read.the-variants.{Waiting, InvalidId, DataTooLarge, Whole}
+use Rattle.exchange.specs.Exchange.{foundOf, headOf, isOver}
+use Rattle.sync.specs.Message.{lengthOf, fieldsOf, knownOf, namedOf, readOf, numberOf, usedOf}
 use Rattle.sync.specs.Pieces.{Got, answerOf, receives}
-use Rattle.sync.proofs.MessageLaws.{heads}
+use Rattle.exchange.proofs.ExchangeLaws.{heads}
 use Rattle.sync.proofs.FieldLaws.{fields-front, length-front}
-use Rattle.sync.proofs.RoundTrip.{says}
+use Rattle.sync.proofs.RoundTrip.{says, used-within}
 
 module _ (l m : List ℕ) where
   known-stays : (id : SyncId) (k : Layout) → isWaiting (answerOf l (knownOf l id k)) ≡ false → knownOf (l ++ m) id k ≡ knownOf l id k
@@ -59,48 +59,41 @@ module _ (l m : List ℕ) where
       (λ t. let h = ltb-false (length l) 4 t in
       rw (le-ltb (length (l ++ m)) 4 (omega arith), t, part-front l m 0 4 h) (named-stays (foundOf x (numOf (part l 0 4))) (rw t at e)))
 
-  answer-stays : (x : Exchange) (r : Read) → readOf x l ≡ r → answerOf (l ++ m) r ≡ answerOf l r
-  unfolding answerOf
-  answer-stays x Waiting e = refl
-  answer-stays x InvalidId e = refl
-  answer-stays x DataTooLarge e = refl
-  answer-stays x (Whole g at n) e =
-      let a = says x l g at n e .known in
-      rw (part-front l m at n (omega (arith, a .at-is, a .length-is, a .whole)))
+  answer-stays : (r : Read) → usedOf r ≤ length l → answerOf (l ++ m) r ≡ answerOf l r
+  unfolding answerOf usedOf
+  answer-stays Waiting h = refl
+  answer-stays InvalidId h = refl
+  answer-stays DataTooLarge h = refl
+  answer-stays (Whole g at n) h = rw (part-front l m at n h)
 
--- what a message uses
-pub record Uses (l : List ℕ) (n : ℕ) : Type 0 where
-  pub some : 0 < n
-  pub within : n ≤ length l
-
-uses : (x : Exchange) (l : List ℕ) (g : Got) (n : ℕ) (r : Read) → readOf x l ≡ r → answerOf l r ≡ message g n → Uses l n
+-- a message uses its head at least
+whole-used : (x : Exchange) (l : List ℕ) (g : Got) (n : ℕ) (r : Read) → readOf x l ≡ r → answerOf l r ≡ message g n → (n ≡ usedOf r) × (0 < n)
 unfolding answerOf usedOf
-uses x l g n Waiting e f = let z : _≡_ {A = ℕ} 0 1 = cc in absurd (omega arith)
-uses x l g n InvalidId e f = let z : _≡_ {A = ℕ} 0 1 = cc in absurd (omega arith)
-uses x l g n DataTooLarge e f = let z : _≡_ {A = ℕ} 0 1 = cc in absurd (omega arith)
-uses x l g n (Whole m at k) e f =
+whole-used x l g n Waiting e f = let z : _≡_ {A = ℕ} 0 1 = cc in absurd (omega arith)
+whole-used x l g n InvalidId e f = let z : _≡_ {A = ℕ} 0 1 = cc in absurd (omega arith)
+whole-used x l g n DataTooLarge e f = let z : _≡_ {A = ℕ} 0 1 = cc in absurd (omega arith)
+whole-used x l g n (Whole m at k) e f =
     let s = says x l m at k e in
-    let a = s .known in
     let h = heads (s .layout) in
-    let i : at + k ≡ n = cc in
-    record { some = omega (arith, a .at-is); within = omega (arith, a .at-is, a .length-is, a .whole) }
+    let i : n ≡ at + k = cc in
+    (i, omega (arith, s .known .at-is))
 
-uses-none : (l : List ℕ) (number n : ℕ) (r : Read) → answerOf l r ≡ refused number n → n ≡ 0
-unfolding answerOf usedOf
-uses-none l number n Waiting f = cc
-uses-none l number n InvalidId f = cc
-uses-none l number n DataTooLarge f = cc
-uses-none l number n (Whole m at k) f = cc
+refusal-used : (l : List ℕ) (number n : ℕ) (r : Read) → answerOf l r ≡ refused number n → n ≡ usedOf r
+unfolding answerOf
+refusal-used l number n Waiting f = cc
+refusal-used l number n InvalidId f = cc
+refusal-used l number n DataTooLarge f = cc
+refusal-used l number n (Whole m at k) f = cc
 
 pub stable : (x : Exchange) → Stable (receives x)
 unfolding receives readOf answerOf
 stable x =
     record {
       none = refl;
-      stays = λ l m e. ap (answerOf (l ++ m)) (read-stays l m x e) ∙ answer-stays l m x (readOf x l) refl;
-      moves = λ l g n e. uses x l g n (readOf x l) refl e .some;
-      within = λ l g n e. uses x l g n (readOf x l) refl e .within;
-      refused-within = λ l number n e. omega (arith, uses-none l number n (readOf x l) e);
+      stays = λ l m e. ap (answerOf (l ++ m)) (read-stays l m x e) ∙ answer-stays l m (readOf x l) (used-within x l);
+      moves = λ l g n e. whole-used x l g n (readOf x l) refl e .1;
+      within = λ l g n e. omega (arith, whole-used x l g n (readOf x l) refl e .0, used-within x l);
+      refused-within = λ l number n e. omega (arith, refusal-used l number n (readOf x l) e, used-within x l);
     }
 
 pub pieces : (x : Exchange) (cs : List (List ℕ)) → feedAll (receives x) begun cs ≡ readAll (receives x) (joined cs)

@@ -1,5 +1,6 @@
 -- Sync messages from bytes and to bytes, both ways. Assumes nothing.
 --     says          what an accepted message's bytes say
+--     used-within   what is used is here
 --     write-back    what `writeOf` makes, `readOf` gives back, whatever follows
 --     read-back     what `readOf` accepts, `writeOf` makes byte for byte
 use mathlib.Core.Path.{_≡_, refl, sym, ap, _∙_}
@@ -14,19 +15,20 @@ use borrow.Author.Tests.{ltb-false, le-ltb, eq-eqb}
 use Rattle.le.specs.Le.{numOf, part, put, Bytes}
 use Rattle.le.proofs.Laws.{numOf-part}
 use Rattle.le.proofs.Parts.{by-test, length-part, part-join, part-put-same}
-use Rattle.sync.specs.declared.exchange.Layout.{Layout}
-use Rattle.sync.specs.declared.exchange.Layout.the-variants.{Text, Number, Stat, Entry, End}
-use Rattle.sync.specs.declared.exchange.SyncId.{SyncId}
-use Rattle.sync.specs.declared.exchange.Found.{Found}
-use Rattle.sync.specs.declared.exchange.Found.the-variants.{Known, Unknown}
-use Rattle.sync.specs.declared.exchange.Exchange.{Exchange}
-use Rattle.sync.specs.declared.message.Message.{Message}
-use Rattle.sync.specs.declared.message.Read.the-variants.{Whole}
-use Rattle.sync.specs.declared.message.Written.the-variants.{Bytes as Written·Bytes}
-use Rattle.sync.specs.Exchange.{wordOf, foundOf}
-use Rattle.sync.specs.Message.{headOf, longestOf, layoutOf, layoutNumber, isOther, isOver, fieldsOf, lengthOf, knownOf, namedOf, readOf, headBytes, messageBytes, Words, Outcome, writeKnown, writeNamed, writeOf}
-use Rattle.sync.proofs.ExchangeLaws.{found-word, found-id}
-use Rattle.sync.proofs.MessageLaws.{heads, own-layout, length-head}
+use Rattle.exchange.specs.declared.Layout.{Layout}
+use Rattle.exchange.specs.declared.Layout.the-variants.{Text, Number, Stat, Entry, End}
+use Rattle.exchange.specs.declared.SyncId.{SyncId}
+use Rattle.exchange.specs.declared.Found.{Found}
+use Rattle.exchange.specs.declared.Found.the-variants.{Known, Unknown}
+use Rattle.exchange.specs.declared.Exchange.{Exchange}
+use Rattle.sync.specs.declared.Message.{Message}
+use Rattle.sync.specs.declared.Read.{Read}
+use Rattle.sync.specs.declared.Read.the-variants.{Waiting, InvalidId, DataTooLarge, Whole}
+use Rattle.sync.specs.declared.Written.the-variants.{Bytes as Written·Bytes}
+use Rattle.exchange.specs.Exchange.{wordOf, foundOf, headOf, longestOf, layoutNumber, isOver}
+use Rattle.sync.specs.Message.{layoutOf, isOther, fieldsOf, lengthOf, knownOf, namedOf, readOf, usedOf, headBytes, messageBytes, Words, Outcome, writeKnown, writeNamed, writeOf}
+use Rattle.exchange.proofs.ExchangeLaws.{found-word, found-id, heads}
+use Rattle.sync.proofs.MessageLaws.{own-layout, length-head}
 use Rattle.sync.proofs.FieldLaws.{read-word, read-fields, read-length, same-layout, head-written}
 
 -- ---- what an accepted message's bytes say
@@ -78,6 +80,17 @@ says x s m at n e =
     (λ t. let f = rw t at e in let z : _≡_ {A = ℕ} 0 1 = cc in absurd (omega arith))
     (λ t. named-says x s m at n (foundOf x (numOf (part s 0 4))) refl (rw t at e))
 
+-- what is used is here
+used-of : (x : Exchange) (s : List ℕ) (r : Read) → readOf x s ≡ r → usedOf r ≤ length s
+unfolding usedOf
+used-of x s Waiting e = omega arith
+used-of x s InvalidId e = omega arith
+used-of x s DataTooLarge e = omega arith
+used-of x s (Whole m at n) e = let a = says x s m at n e .known in omega (arith, a .at-is, a .length-is, a .whole)
+
+pub used-within : (x : Exchange) (s : List ℕ) → usedOf (readOf x s) ≤ length s
+used-within x s = used-of x s (readOf x s) refl
+
 -- ---- writing, then reading
 
 pub record Written-says (x : Exchange) (m : Message) (text out : List ℕ) (n : ℕ) : Type 0 where
@@ -126,7 +139,7 @@ pub record Comes-back (x : Exchange) (m : Message) (text : List ℕ) (n : ℕ) (
   pub at : ℕ
   pub read-is : readOf x s ≡ Whole m at (length text)
   pub text-is : part s at (length text) ≡ text
-  pub used-is : at + length text ≡ n
+  pub used-is : usedOf (readOf x s) ≡ n
 
 module _ (m : Message) (text rest : List ℕ) where
   pub message-length : length (messageBytes m text) ≡ headOf (layoutOf (m .fields)) + length text
@@ -169,7 +182,7 @@ module _ (m : Message) (text rest : List ℕ) where
 -- what the writer made, with anything behind it, is read as the message that was written, its text with it
 pub write-back : (x : Exchange) (m : Message) (text out : List ℕ) (n : ℕ) (rest : List ℕ) → Words (m .fields) → writeOf x m text out .result ≡ Written·Bytes n
     → Comes-back x m text n (take n (writeOf x m text out .out) ++ rest)
-unfolding part
+unfolding part usedOf
 write-back x m text out n rest h e =
     let w = written-says x m text out n e in
     let b = messageBytes m text in
@@ -177,11 +190,12 @@ write-back x m text out n rest h e =
     let r = w .room in
     let t : take n (writeOf x m text out .out) ≡ b =
     ap (take n) (w .out-is) ∙ ap (λ (j : ℕ). take j (put out 0 b)) (sym l) ∙ part-put-same out 0 b (omega (arith, w .count-is)) in
+    let i = not-refused m text rest x h (w .found) (w .small) (w .long) in
     rw t (record {
       at = headOf (layoutOf (m .fields));
-      read-is = not-refused m text rest x h (w .found) (w .small) (w .long);
+      read-is = i;
       text-is = text-behind m text rest;
-      used-is = sym (w .count-is);
+      used-is = rw i (sym (w .count-is));
     })
 
 -- ---- reading, then writing

@@ -1,3 +1,2 @@
-pub mod Exchange
 pub mod Message
 pub mod Pieces

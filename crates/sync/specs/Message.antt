@@ -7,40 +7,24 @@ use mathlib.Core.List.{List, [], _∷_, _++_}
 use lib.Dec.{ltb, eqb}
 use lib.ListN.{length, getD}
 use Rattle.le.specs.Le.{numOf, bytesOf, part, put}
-use Rattle.sync.specs.declared.exchange.SyncId.{SyncId}
-use Rattle.sync.specs.declared.exchange.SyncId.the-variants.{List as LIST, Recv as RECV, Send as SEND, Stat as STAT, Data as DATA, Done as DONE, Quit as QUIT, Dent as DENT, Okay as OKAY, Fail as FAIL}
-use Rattle.sync.specs.declared.exchange.Layout.{Layout}
-use Rattle.sync.specs.declared.exchange.Layout.the-variants.{Text, Number, Stat, Entry, End}
-use Rattle.sync.specs.declared.exchange.Found.{Found}
-use Rattle.sync.specs.declared.exchange.Found.the-variants.{Known, Unknown}
-use Rattle.sync.specs.declared.exchange.Exchange.{Exchange}
-use Rattle.sync.specs.declared.message.StatV1.{StatV1}
-use Rattle.sync.specs.declared.message.Fields.{Fields}
-use Rattle.sync.specs.declared.message.Fields.the-variants.{Text as TextFields, Number as NumberFields, Stat as StatFields, Entry as EntryFields, End as EndFields}
-use Rattle.sync.specs.declared.message.Message.{Message}
-use Rattle.sync.specs.declared.message.Read.{Read}
-use Rattle.sync.specs.declared.message.Read.the-variants.{Waiting, InvalidId, DataTooLarge, Whole}
-use Rattle.sync.specs.declared.message.Written.{Written}
-use Rattle.sync.specs.declared.message.Written.the-variants.{Bytes, OutShort, InvalidId as NotWritten, DataTooLarge as TooLarge}
-use Rattle.sync.specs.Exchange.{wordOf, foundOf}
+use Rattle.exchange.specs.declared.SyncId.{SyncId}
+use Rattle.exchange.specs.declared.SyncId.the-variants.{List as LIST, Recv as RECV, Send as SEND, Stat as STAT, Data as DATA, Done as DONE, Quit as QUIT, Dent as DENT, Okay as OKAY, Fail as FAIL}
+use Rattle.exchange.specs.declared.Layout.{Layout}
+use Rattle.exchange.specs.declared.Layout.the-variants.{Text, Number, Stat, Entry, End}
+use Rattle.exchange.specs.declared.Found.{Found}
+use Rattle.exchange.specs.declared.Found.the-variants.{Known, Unknown}
+use Rattle.exchange.specs.declared.Exchange.{Exchange}
+use Rattle.sync.specs.declared.StatV1.{StatV1}
+use Rattle.sync.specs.declared.Fields.{Fields}
+use Rattle.sync.specs.declared.Fields.the-variants.{Text as TextFields, Number as NumberFields, Stat as StatFields, Entry as EntryFields, End as EndFields}
+use Rattle.sync.specs.declared.Message.{Message}
+use Rattle.sync.specs.declared.Read.{Read}
+use Rattle.sync.specs.declared.Read.the-variants.{Waiting, InvalidId, DataTooLarge, Whole}
+use Rattle.sync.specs.declared.Written.{Written}
+use Rattle.sync.specs.declared.Written.the-variants.{Bytes, OutShort, InvalidId as NotWritten, DataTooLarge as TooLarge}
+use Rattle.exchange.specs.Exchange.{wordOf, isOver, headOf, longestOf, layoutNumber, foundOf}
 
 -- ---- layouts
-
--- bytes ahead of the text: the id, and one word, three or four
-unfoldable pub headOf : Layout → ℕ
-headOf Text = 8
-headOf Number = 8
-headOf Stat = 16
-headOf Entry = 20
-headOf End = 20
-
--- the longest text that its length can say; no text where there is no length
-unfoldable pub longestOf : Layout → ℕ
-longestOf Text = 0xffff_ffff
-longestOf Number = 0
-longestOf Stat = 0
-longestOf Entry = 0xffff_ffff
-longestOf End = 0
 
 -- the layout that has these fields
 unfoldable pub layoutOf : Fields → Layout
@@ -50,29 +34,9 @@ layoutOf (StatFields s) = Stat
 layoutOf (EntryFields s) = Entry
 layoutOf (EndFields s n) = End
 
-unfoldable pub layoutNumber : Layout → ℕ
-layoutNumber Text = 0
-layoutNumber Number = 1
-layoutNumber Stat = 2
-layoutNumber Entry = 3
-layoutNumber End = 4
-
 -- whether these are another layout's fields
 unfoldable pub isOther : Layout → Fields → Bool
 isOther k f = not (eqb (layoutNumber k) (layoutNumber (layoutOf f)))
-
--- "Each chunk must not be larger than 64k" (SEND, RECV)
-unfoldable pub isOver : SyncId → ℕ → Bool
-isOver LIST n = false
-isOver RECV n = false
-isOver SEND n = false
-isOver STAT n = false
-isOver DATA n = ltb 65_536 n
-isOver DONE n = false
-isOver QUIT n = false
-isOver DENT n = false
-isOver OKAY n = false
-isOver FAIL n = false
 
 -- ---- from bytes
 

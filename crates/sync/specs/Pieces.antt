@@ -3,10 +3,10 @@ use Prim.Native.Nat.{ℕ, _+_}
 use mathlib.Core.List.{List}
 use Rattle.le.specs.Le.{part}
 use Rattle.stream.specs.Stream.{Answer, waiting, message, refused}
-use Rattle.sync.specs.declared.exchange.Exchange.{Exchange}
-use Rattle.sync.specs.declared.message.Message.{Message}
-use Rattle.sync.specs.declared.message.Read.{Read}
-use Rattle.sync.specs.declared.message.Read.the-variants.{Waiting, InvalidId, DataTooLarge, Whole}
+use Rattle.exchange.specs.declared.Exchange.{Exchange}
+use Rattle.sync.specs.declared.Message.{Message}
+use Rattle.sync.specs.declared.Read.{Read}
+use Rattle.sync.specs.declared.Read.the-variants.{Waiting, InvalidId, DataTooLarge, Whole}
 use Rattle.sync.specs.Message.{readOf, numberOf, usedOf}
 
 -- a message with its text

@@ -1,0 +1,118 @@
+-- The ids of the sync messages and the exchanges that have them (SYNC.TXT; change request E3 for QUIT, FAIL and the
+-- numbers of a listing's DONE). Assumes nothing.
+use Prim.Native.Nat.{ℕ}
+use mathlib.Core.Bool.{Bool, false, cond}
+use mathlib.Core.List.{List, [], _∷_}
+use lib.Dec.{ltb, eqb}
+use Rattle.le.specs.Le.{numOf}
+use Rattle.exchange.specs.declared.SyncId.{SyncId}
+use Rattle.exchange.specs.declared.SyncId.the-variants.{List as LIST, Recv as RECV, Send as SEND, Stat as STAT, Data as DATA, Done as DONE, Quit as QUIT, Dent as DENT, Okay as OKAY, Fail as FAIL}
+use Rattle.exchange.specs.declared.Layout.{Layout}
+use Rattle.exchange.specs.declared.Layout.the-variants.{Text, Number, Stat, Entry, End}
+use Rattle.exchange.specs.declared.Found.{Found}
+use Rattle.exchange.specs.declared.Found.the-variants.{Known, Unknown}
+use Rattle.exchange.specs.declared.Exchange.{Exchange}
+use Rattle.exchange.specs.declared.Exchange.the-variants.{Requests, ListReplies, StatReplies, RecvReplies, SendReplies, Unnamed}
+
+-- an id's four letters in ASCII
+unfoldable pub lettersOf : SyncId → List ℕ
+lettersOf LIST = 76 ∷ 73 ∷ 83 ∷ 84 ∷ []
+lettersOf RECV = 82 ∷ 69 ∷ 67 ∷ 86 ∷ []
+lettersOf SEND = 83 ∷ 69 ∷ 78 ∷ 68 ∷ []
+lettersOf STAT = 83 ∷ 84 ∷ 65 ∷ 84 ∷ []
+lettersOf DATA = 68 ∷ 65 ∷ 84 ∷ 65 ∷ []
+lettersOf DONE = 68 ∷ 79 ∷ 78 ∷ 69 ∷ []
+lettersOf QUIT = 81 ∷ 85 ∷ 73 ∷ 84 ∷ []
+lettersOf DENT = 68 ∷ 69 ∷ 78 ∷ 84 ∷ []
+lettersOf OKAY = 79 ∷ 75 ∷ 65 ∷ 89 ∷ []
+lettersOf FAIL = 70 ∷ 65 ∷ 73 ∷ 76 ∷ []
+
+-- the word of an id: its letters, read as a little-endian number
+unfoldable pub wordOf : SyncId → ℕ
+wordOf id = numOf (lettersOf id)
+
+-- "Each chunk must not be larger than 64k" (SEND, RECV)
+unfoldable pub isOver : SyncId → ℕ → Bool
+isOver LIST n = false
+isOver RECV n = false
+isOver SEND n = false
+isOver STAT n = false
+isOver DATA n = ltb 65_536 n
+isOver DONE n = false
+isOver QUIT n = false
+isOver DENT n = false
+isOver OKAY n = false
+isOver FAIL n = false
+
+-- bytes ahead of the text: the id, and one word, three or four
+unfoldable pub headOf : Layout → ℕ
+headOf Text = 8
+headOf Number = 8
+headOf Stat = 16
+headOf Entry = 20
+headOf End = 20
+
+-- the longest text that its length can say; no text where there is no length
+unfoldable pub longestOf : Layout → ℕ
+longestOf Text = 0xffff_ffff
+longestOf Number = 0
+longestOf Stat = 0
+longestOf Entry = 0xffff_ffff
+longestOf End = 0
+
+unfoldable pub layoutNumber : Layout → ℕ
+layoutNumber Text = 0
+layoutNumber Number = 1
+layoutNumber Stat = 2
+layoutNumber Entry = 3
+layoutNumber End = 4
+
+-- a message of an exchange: its id, and what stands behind it
+pub record Row : Type 0 where
+  pub id : SyncId
+  pub layout : Layout
+
+abbrev pub row : SyncId → Layout → Row
+row i k = record { id = i; layout = k }
+
+unfoldable pub requests : List Row
+requests = row LIST Text ∷ row RECV Text ∷ row SEND Text ∷ row STAT Text ∷ row DATA Text ∷ row DONE Number ∷ row QUIT Number ∷ []
+
+unfoldable pub listReplies : List Row
+listReplies = row DENT Entry ∷ row DONE End ∷ []
+
+unfoldable pub statReplies : List Row
+statReplies = row STAT Stat ∷ []
+
+unfoldable pub recvReplies : List Row
+recvReplies = row DATA Text ∷ row DONE Number ∷ row FAIL Text ∷ []
+
+unfoldable pub sendReplies : List Row
+sendReplies = row OKAY Number ∷ row FAIL Text ∷ []
+
+-- the messages of an exchange
+unfoldable pub rowsOf : Exchange → List Row
+rowsOf Requests = requests
+rowsOf ListReplies = listReplies
+rowsOf StatReplies = statReplies
+rowsOf RecvReplies = recvReplies
+rowsOf SendReplies = sendReplies
+rowsOf Unnamed = []
+
+-- the first of some messages whose id has this word
+unfoldable pub amongOf : List Row → ℕ → Found
+amongOf [] word = Unknown
+amongOf (m ∷ ms) word = cond (eqb word (wordOf (m .id))) (Known (m .id) (m .layout)) (amongOf ms word)
+
+-- the message of an exchange that a word begins
+unfoldable pub foundOf : Exchange → ℕ → Found
+foundOf x word = amongOf (rowsOf x) word
+
+-- the exchange that a number names
+unfoldable pub exchangeOf : ℕ → Exchange
+exchangeOf n =
+    cond (eqb n 0) Requests
+    (cond (eqb n 1) ListReplies
+    (cond (eqb n 2) StatReplies
+    (cond (eqb n 3) RecvReplies
+    (cond (eqb n 4) SendReplies Unnamed))))

@@ -1,0 +1,50 @@
+use native.Mathlib.Omega.{arith}
+use mathlib.Core.Path.{refl, ap, _∙_}
+use Rattle.exchange.specs.Exchange.{headOf}
+use Rattle.sync.specs.Message.{layoutOf}
+use Rattle.exchange.proofs.ExchangeLaws.{heads}
+use Rattle.sync.proofs.MessageLaws.{put-message}
+use borrow.Author.Needs.{needs}
+use Rattle.sync.proofs.put_message.Statement.{statement}
+use Rattle.sync.proofs.put_message.Tie as tie
+
+layout-of-requires : tie.Need-layout-of-requires
+layout-of-requires c κs = search needs
+
+head-length-requires : tie.Need-head-length-requires
+head-length-requires c κs = search needs
+
+word-requires : tie.Need-word-requires
+word-requires c κs = search needs
+
+put-u32-requires : tie.Need-put-u32-requires
+put-u32-requires c κs = omega (arith, heads (layoutOf (c .before .before .before .before .before .before .args .message .fields)))
+
+cast-put-fields : tie.Need-cast-put-fields
+cast-put-fields c = search needs
+
+put-fields-requires : tie.Need-put-fields-requires
+put-fields-requires c κs = search needs
+
+copy-at-requires : tie.Need-copy-at-requires
+copy-at-requires c κs = omega (arith, c .before .before .before .before .before .before .before .before .before .before .head-length .ensures ∙ ap headOf (c .before .before .before .before .before .before .before .before .before .before .before .layout-of .ensures), c .before .before .before .before .before .before .before .before .before .before .before .before .before .before .pre)
+
+same-length : tie.Need-same-length
+same-length c = search needs
+
+returns : tie.Need-returns
+returns c = put-message _ _ _ _ (c .before .before .before .before .before .before .before .before .before .before .before .before .before .before .before .before .before .args .message) (c .before .before .before .before .before .before .before .before .before .before .before .before .before .before .before .before .before .args .text .now) _ _ _ (c .before .before .before .before .before .before .before .before .before .before .before .before .before .before .before .before .before .pre .fits) (c .before .before .before .before .before .before .before .before .before .before .before .word .ensures) refl (c .before .before .before .before .before .before .before .before .before .before .before .before .before .head-length .ensures ∙ ap headOf (c .before .before .before .before .before .before .before .before .before .before .before .before .before .before .layout-of .ensures)) (c .before .before .before .before .before .before .before .before .before .before .put-u32 .ensures) (c .before .before .before .before .before .before .put-fields .ensures) (c .before .before .copy-at .ensures)
+
+pub put-message-spec : {M : Type 1} → statement M
+put-message-spec =
+    tie.close
+    (tie.spec
+    layout-of-requires
+    head-length-requires
+    word-requires
+    put-u32-requires
+    cast-put-fields
+    put-fields-requires
+    copy-at-requires
+    same-length
+    returns)
