@@ -1,4 +1,2 @@
-pub mod MessageLaws
-pub mod FieldLaws
-pub mod RoundTrip
+pub mod ReadLaws
 pub mod Pieces

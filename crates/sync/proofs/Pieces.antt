@@ -2,9 +2,9 @@
 -- Assumes nothing.
 --     stable   what the reader answers, but waiting, it answers whatever arrives behind
 --     pieces   pieces read one after the other give what the whole gives
-use mathlib.Core.Path.{_≡_, refl, sym, ap, subst, _∙_}
-use mathlib.Core.Bool.{true, false}
-use mathlib.Core.List.{List, [], _++_}
+use mathlib.Core.Path.{_≡_, refl, ap, subst, _∙_}
+use mathlib.Core.Bool.{false}
+use mathlib.Core.List.{List, _++_}
 use Prim.Native.Nat.{ℕ, _+_, _≤_, _<_}
 use native.Mathlib.Omega.{arith}
 use lib.Dec.{T, ltb}
@@ -12,7 +12,7 @@ use lib.ListN.{length, length-append}
 use borrow.Author.Tests.{ltb-false, le-ltb}
 use Rattle.le.specs.Le.{numOf, part}
 use Rattle.le.proofs.Parts.{by-test, part-front}
-use Rattle.stream.specs.Stream.{Answer, waiting, message, refused, isWaiting, joined, readAll, begun, feedAll, Stable}
+use Rattle.stream.specs.Stream.{waiting, message, refused, isWaiting, joined, readAll, begun, feedAll, Stable}
 use Rattle.stream.proofs.Cut.{cut}
 use Rattle.exchange.specs.declared.SyncId.{SyncId}
 use Rattle.exchange.specs.declared.Layout.{Layout}
@@ -22,11 +22,10 @@ use Rattle.exchange.specs.declared.Exchange.{Exchange}
 use Rattle.sync.specs.declared.Read.{Read}
 use Rattle.sync.specs.declared.Read.the-variants.{Waiting, InvalidId, DataTooLarge, Whole}
 use Rattle.exchange.specs.Exchange.{foundOf, headOf, isOver}
-use Rattle.sync.specs.Message.{lengthOf, fieldsOf, knownOf, namedOf, readOf, numberOf, usedOf}
+use Rattle.sync.specs.Message.{lengthOf, knownOf, namedOf, readOf, usedOf}
 use Rattle.sync.specs.Pieces.{Got, answerOf, receives}
 use Rattle.exchange.proofs.ExchangeLaws.{heads}
-use Rattle.sync.proofs.FieldLaws.{fields-front, length-front}
-use Rattle.sync.proofs.RoundTrip.{says, used-within}
+use Rattle.sync.proofs.ReadLaws.{fields-front, length-front, says, used-within}
 
 module _ (l m : List ℕ) where
   known-stays : (id : SyncId) (k : Layout) → isWaiting (answerOf l (knownOf l id k)) ≡ false → knownOf (l ++ m) id k ≡ knownOf l id k

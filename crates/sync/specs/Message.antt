@@ -1,14 +1,13 @@
 -- The sync messages as bytes (SYNC.TXT, "SYNC SERVICES", "LIST", "SEND", "RECV"; change request E3 for the fields of a STAT
 -- reply and of a listing's DONE, and for FAIL's text). Assumes nothing.
-use Prim.Native.Nat.{ℕ, _+_, _≤_, _<_, _^_}
-use mathlib.Core.Path.{_≡_}
-use mathlib.Core.Bool.{Bool, false, cond, not}
-use mathlib.Core.List.{List, [], _∷_, _++_}
-use lib.Dec.{ltb, eqb}
-use lib.ListN.{length, getD}
-use Rattle.le.specs.Le.{numOf, bytesOf, part, put}
+use Prim.Native.Nat.{ℕ, _+_}
+use mathlib.Core.Bool.{cond}
+use mathlib.Core.List.{List}
+use lib.Dec.{ltb}
+use lib.ListN.{length}
+use Rattle.le.specs.Le.{numOf, part}
 use Rattle.exchange.specs.declared.SyncId.{SyncId}
-use Rattle.exchange.specs.declared.SyncId.the-variants.{List as LIST, Recv as RECV, Send as SEND, Stat as STAT, Data as DATA, Done as DONE, Quit as QUIT, Dent as DENT, Okay as OKAY, Fail as FAIL}
+use Rattle.exchange.specs.declared.SyncId.the-variants.{List as LIST, Recv as RECV, Send as SEND, Stat as STAT, Done as DONE}
 use Rattle.exchange.specs.declared.Layout.{Layout}
 use Rattle.exchange.specs.declared.Layout.the-variants.{Text, Number, Stat, Entry, End}
 use Rattle.exchange.specs.declared.Found.{Found}
@@ -17,28 +16,9 @@ use Rattle.exchange.specs.declared.Exchange.{Exchange}
 use Rattle.sync.specs.declared.StatV1.{StatV1}
 use Rattle.sync.specs.declared.Fields.{Fields}
 use Rattle.sync.specs.declared.Fields.the-variants.{Text as TextFields, Number as NumberFields, Stat as StatFields, Entry as EntryFields, End as EndFields}
-use Rattle.sync.specs.declared.Message.{Message}
 use Rattle.sync.specs.declared.Read.{Read}
 use Rattle.sync.specs.declared.Read.the-variants.{Waiting, InvalidId, DataTooLarge, Whole}
-use Rattle.sync.specs.declared.Written.{Written}
-use Rattle.sync.specs.declared.Written.the-variants.{Bytes, OutShort, InvalidId as NotWritten, DataTooLarge as TooLarge}
-use Rattle.exchange.specs.Exchange.{wordOf, isOver, headOf, longestOf, layoutNumber, foundOf}
-
--- ---- layouts
-
--- the layout that has these fields
-unfoldable pub layoutOf : Fields → Layout
-layoutOf TextFields = Text
-layoutOf (NumberFields n) = Number
-layoutOf (StatFields s) = Stat
-layoutOf (EntryFields s) = Entry
-layoutOf (EndFields s n) = End
-
--- whether these are another layout's fields
-unfoldable pub isOther : Layout → Fields → Bool
-isOther k f = not (eqb (layoutNumber k) (layoutNumber (layoutOf f)))
-
--- ---- from bytes
+use Rattle.exchange.specs.Exchange.{isOver, headOf, foundOf}
 
 -- mode, size and time behind the id
 unfoldable pub statOf : List ℕ → StatV1
@@ -89,73 +69,3 @@ usedOf Waiting = 0
 usedOf InvalidId = 0
 usedOf DataTooLarge = 0
 usedOf (Whole m at n) = at + n
-
--- ---- to bytes
-
-unfoldable pub statBytes : StatV1 → List ℕ
-statBytes s = bytesOf 4 (s .mode .0) ++ bytesOf 4 (s .size) ++ bytesOf 4 (s .mtime)
-
--- what stands between the id and a text of n bytes
-unfoldable pub fieldBytes : Fields → ℕ → List ℕ
-fieldBytes TextFields n = bytesOf 4 n
-fieldBytes (NumberFields a) n = bytesOf 4 a
-fieldBytes (StatFields s) n = statBytes s
-fieldBytes (EntryFields s) n = statBytes s ++ bytesOf 4 n
-fieldBytes (EndFields s a) n = statBytes s ++ bytesOf 4 a
-
--- the numbers of fields, and that each is of 32 bits
-unfoldable pub numbersOf : Fields → List ℕ
-numbersOf TextFields = []
-numbersOf (NumberFields a) = a ∷ []
-numbersOf (StatFields s) = s .mode .0 ∷ s .size ∷ s .mtime ∷ []
-numbersOf (EntryFields s) = s .mode .0 ∷ s .size ∷ s .mtime ∷ []
-numbersOf (EndFields s a) = s .mode .0 ∷ s .size ∷ s .mtime ∷ a ∷ []
-
-abbrev pub Words : Fields → Type 0
-Words f = (k : ℕ) → getD (numbersOf f) k 0 < 2 ^ 32
-
-unfoldable pub headBytes : Message → ℕ → List ℕ
-headBytes m n = bytesOf 4 (wordOf (m .id)) ++ fieldBytes (m .fields) n
-
--- the bytes of a message with this text
-unfoldable pub messageBytes : Message → List ℕ → List ℕ
-messageBytes m text = headBytes m (length text) ++ text
-
--- what a writer asks: a text whose length has a field of 32 bits, and room for the message
-pub record Room (out : List ℕ) (m : Message) (text : List ℕ) : Type 0 where
-  pub small : length text ≤ 0xffff_ffff
-  pub fits : headOf (layoutOf (m .fields)) + length text ≤ length out
-
--- what writing gives: its answer, and the outgoing bytes after it
-pub record Outcome : Type 0 where
-  pub result : Written
-  pub out : List ℕ
-
--- fields of another layout are refused by 14, data over the maximum by 15, a text too long for its field and a short buffer by 9
-unfoldable pub writeKnown : Layout → Message → List ℕ → List ℕ → Outcome
-writeKnown k m text out =
-    cond (isOther k (m .fields)) (record { result = NotWritten; out = out })
-    (cond (isOver (m .id) (length text)) (record { result = TooLarge; out = out })
-    (cond (ltb (longestOf k) (length text)) (record { result = OutShort; out = out })
-    (cond (ltb (length out) (headOf k + length text)) (record { result = OutShort; out = out })
-    (record { result = Bytes (headOf k + length text); out = put out 0 (messageBytes m text) }))))
-
--- an id that is not the exchange's is refused by 14
-unfoldable pub writeNamed : Message → List ℕ → List ℕ → Found → Outcome
-writeNamed m text out (Known id k) = writeKnown k m text out
-writeNamed m text out Unknown = record { result = NotWritten; out = out }
-
-unfoldable pub writeOf : Exchange → Message → List ℕ → List ℕ → Outcome
-writeOf x m text out = writeNamed m text out (foundOf x (wordOf (m .id)))
-
--- what writing promises: the definition's answer, and every byte of out
-pub record Writes (o : Outcome) (r : Written) (out : List ℕ) : Type 0 where
-  pub result-is : r ≡ o .result
-  pub out-is : out ≡ o .out
-
--- the number of its answer: a refusal's own, 0 for a message
-unfoldable pub writtenNumber : Written → ℕ
-writtenNumber (Bytes n) = 0
-writtenNumber NotWritten = 14
-writtenNumber TooLarge = 15
-writtenNumber OutShort = 9

@@ -1,5 +1,5 @@
 -- The reader of an exchange, as a reader of bytes that arrive in pieces. Assumes nothing.
-use Prim.Native.Nat.{ℕ, _+_}
+use Prim.Native.Nat.{ℕ}
 use mathlib.Core.List.{List}
 use Rattle.le.specs.Le.{part}
 use Rattle.stream.specs.Stream.{Answer, waiting, message, refused}

@@ -1,5 +1,5 @@
-// The messages of AOSP's SYNC.TXT over a channel's bytes, from bytes and to bytes, by libadb's names (sync/format.rs). A text
-// or data stays where it was received.
+// The messages of AOSP's SYNC.TXT over a channel's bytes, by libadb's names (sync/format.rs), and their reader. A text or data
+// stays where it was received.
 use exchange::Exchange;
 use exchange::Found;
 use exchange::Layout;
@@ -7,9 +7,8 @@ use exchange::SyncId;
 ghost use mathlib.Core.Path.{_≡_};
 ghost use Prim.Native.Nat.{_≤_};
 ghost use lib.ListN.{length};
-ghost use Rattle.le.specs.Le.{put};
 ghost use Rattle.exchange.specs.Exchange.{headOf};
-ghost use Rattle.sync.specs.Message.{layoutOf, isOther, statOf, fieldsOf, lengthOf, knownOf, readOf, numberOf, statBytes, fieldBytes, messageBytes, Room, writeKnown, writeOf, Writes, writtenNumber};
+ghost use Rattle.sync.specs.Message.{statOf, fieldsOf, lengthOf, knownOf, readOf, numberOf};
 
 // A file's type and its permissions, as one number.
 pub struct FileMode(pub u32);
@@ -68,51 +67,6 @@ impl Read {
             } => 0,
         }
     }
-}
-
-// What became of a message that was to be written.
-pub enum Written {
-    // Its length.
-    Bytes(usize),
-    // Refusal 14.
-    InvalidId,
-    // Refusal 15.
-    DataTooLarge,
-    // Refusal 9: the buffer is too short, or the text too long for its length's field.
-    OutShort,
-}
-
-impl Written {
-    // The number of the answer: a refusal's own, 0 for a message.
-    pub fn number(self) -> u32
-        ensures { λ r. ⌜ r ≡ writtenNumber self ⌝ }
-    {
-        match self {
-            Written::Bytes(_) => 0,
-            Written::InvalidId => 14,
-            Written::DataTooLarge => 15,
-            Written::OutShort => 9,
-        }
-    }
-}
-
-fn layout_of(fields: Fields) -> Layout
-    ensures { λ r. ⌜ r ≡ layoutOf fields ⌝ }
-{
-    match fields {
-        Fields::Text => Layout::Text,
-        Fields::Number(_) => Layout::Number,
-        Fields::Stat(_) => Layout::Stat,
-        Fields::Entry(_) => Layout::Entry,
-        Fields::End(_, _) => Layout::End,
-    }
-}
-
-// Whether these are another layout's fields.
-fn is_other(layout: Layout, fields: Fields) -> bool
-    ensures { λ r. ⌜ r ≡ isOther layout fields ⌝ }
-{
-    layout.number() != layout_of(fields).number()
 }
 
 // Mode, size and time behind the id.
@@ -179,73 +133,6 @@ fn read_known(received: &[u8], id: SyncId, layout: Layout) -> Read
     }
 }
 
-fn put_stat(out: &mut [u8], stat: StatV1)
-    requires { ⌜ 16 ≤ length (now out) ⌝ }
-    ensures { λ _. ⌜ now (out .exit) ≡ put (now (out .entry)) 4 (statBytes stat) ⌝ }
-{
-    let mode = stat.mode;
-    le::put_u32(out, 4, mode.0);
-    le::put_u32(out, 8, stat.size);
-    le::put_u32(out, 12, stat.mtime);
-}
-
-// What stands between the id and the text, whose length is given.
-fn put_fields(out: &mut [u8], fields: Fields, len: u32)
-    requires { ⌜ headOf (layoutOf fields) ≤ length (now out) ⌝ }
-    ensures { λ _. ⌜ now (out .exit) ≡ put (now (out .entry)) 4 (fieldBytes fields len) ⌝ }
-{
-    match fields {
-        Fields::Text => le::put_u32(out, 4, len),
-        Fields::Number(n) => le::put_u32(out, 4, n),
-        Fields::Stat(stat) => put_stat(out, stat),
-        Fields::Entry(stat) => {
-            put_stat(out, stat);
-            le::put_u32(out, 16, len);
-        }
-        Fields::End(stat, last) => {
-            put_stat(out, stat);
-            le::put_u32(out, 16, last);
-        }
-    }
-}
-
-// A message with its text, at the start of out.
-fn put_message(out: &mut [u8], message: Message, text: &[u8])
-    requires { ⌜ Room (now out) message (now text) ⌝ }
-    ensures { λ _. ⌜ now (out .exit) ≡ put (now (out .entry)) 0 (messageBytes message (now (text .entry))) ⌝ }
-{
-    let id = message.id;
-    let fields = message.fields;
-    let at = layout_of(fields).head_length();
-    le::put_u32(out, 0, id.word());
-    put_fields(out, fields, text.len() as u32);
-    le::copy_at(out, at, text);
-}
-
-// The answer once the id's layout is known.
-fn write_known(layout: Layout, message: Message, text: &[u8], out: &mut [u8]) -> Written
-    ensures { λ r. ⌜ Writes (writeKnown layout message (now (text .entry)) (now (out .entry))) r (now (out .exit)) ⌝ }
-{
-    let id = message.id;
-    let fields = message.fields;
-    let len = text.len();
-    if is_other(layout, fields) {
-        return Written::InvalidId;
-    }
-    if id.is_over(len) {
-        return Written::DataTooLarge;
-    }
-    if len > layout.longest() {
-        return Written::OutShort;
-    }
-    let end = layout.head_length() + len;
-    if out.len() < end {
-        return Written::OutShort;
-    }
-    put_message(out, message, text);
-    Written::Bytes(end)
-}
-
 impl Message {
     // The message of an exchange that received bytes begin with, or why there is none.
     pub fn read(exchange: Exchange, received: &[u8]) -> Read
@@ -258,18 +145,6 @@ impl Message {
         match found {
             Found::Known(id, layout) => read_known(received, id, layout),
             Found::Unknown => Read::InvalidId,
-        }
-    }
-
-    // The message with its text, written at the start of out where it fits.
-    pub fn write(self, exchange: Exchange, text: &[u8], out: &mut [u8]) -> Written
-        ensures { λ r. ⌜ Writes (writeOf exchange self (now (text .entry)) (now (out .entry))) r (now (out .exit)) ⌝ }
-    {
-        let id = self.id;
-        let found = exchange.find(id.word());
-        match found {
-            Found::Known(_, layout) => write_known(layout, self, text, out),
-            Found::Unknown => Written::InvalidId,
         }
     }
 }

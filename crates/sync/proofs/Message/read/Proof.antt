@@ -1,4 +1,4 @@
-use Rattle.sync.proofs.MessageLaws.{named-read}
+use Rattle.sync.proofs.ReadLaws.{named-read}
 use native.Mathlib.Omega.{arith}
 use mathlib.Core.Path.{sym, _∙_}
 use borrow.Author.Tests.{lt-ltb, le-ltb}

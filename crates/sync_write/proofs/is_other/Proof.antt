@@ -1,7 +1,7 @@
-use Rattle.sync.specs.Message.{isOther}
+use Rattle.sync_write.specs.Write.{isOther}
 use borrow.Author.Needs.{needs}
-use Rattle.sync.proofs.is_other.Statement.{statement}
-use Rattle.sync.proofs.is_other.Tie as tie
+use Rattle.sync_write.proofs.is_other.Statement.{statement}
+use Rattle.sync_write.proofs.is_other.Tie as tie
 
 number-requires : tie.Need-number-requires
 number-requires c κs = search needs

@@ -1,7 +1,7 @@
-use Rattle.sync.proofs.MessageLaws.{put-three}
+use Rattle.sync_write.proofs.WriteLaws.{put-three}
 use borrow.Author.Needs.{needs}
-use Rattle.sync.proofs.put_stat.Statement.{statement}
-use Rattle.sync.proofs.put_stat.Tie as tie
+use Rattle.sync_write.proofs.put_stat.Statement.{statement}
+use Rattle.sync_write.proofs.put_stat.Tie as tie
 
 put-u32-requires : tie.Need-put-u32-requires
 put-u32-requires c κs = search needs

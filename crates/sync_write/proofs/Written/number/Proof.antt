@@ -1,7 +1,7 @@
-use Rattle.sync.specs.Message.{writtenNumber}
+use Rattle.sync_write.specs.Write.{writtenNumber}
 use borrow.Author.Needs.{needs}
-use Rattle.sync.proofs.Written.number.Statement.{statement}
-use Rattle.sync.proofs.Written.number.Tie as tie
+use Rattle.sync_write.proofs.Written.number.Statement.{statement}
+use Rattle.sync_write.proofs.Written.number.Tie as tie
 
 enum-told : tie.Need-enum-told
 enum-told c = search needs

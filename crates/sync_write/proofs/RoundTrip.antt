@@ -1,95 +1,34 @@
 -- Sync messages from bytes and to bytes, both ways. Assumes nothing.
---     says          what an accepted message's bytes say
---     used-within   what is used is here
 --     write-back    what `writeOf` makes, `readOf` gives back, whatever follows
 --     read-back     what `readOf` accepts, `writeOf` makes byte for byte
 use mathlib.Core.Path.{_≡_, refl, sym, ap, _∙_}
-use mathlib.Core.Bool.{true, false, not}
+use mathlib.Core.Bool.{false}
 use mathlib.Core.List.{List, _++_, append-assoc}
 use Prim.Native.Nat.{ℕ, _+_, _≤_}
 use native.Mathlib.Omega.{arith}
-use lib.Dec.{eqb, ltb}
-use lib.ListN.{length, take, drop, length-append}
-use lib.Seq.{take-add, drop-at, take-at, take-append-seam}
+use lib.Dec.{ltb}
+use lib.ListN.{length, take, length-append}
+use lib.Seq.{take-add, drop-at, take-append-seam}
 use borrow.Author.Tests.{ltb-false, le-ltb, eq-eqb}
 use Rattle.le.specs.Le.{numOf, part, put, Bytes}
 use Rattle.le.proofs.Laws.{numOf-part}
-use Rattle.le.proofs.Parts.{by-test, length-part, part-join, part-put-same}
+use Rattle.le.proofs.Parts.{by-test, length-part, part-put-same}
 use Rattle.exchange.specs.declared.Layout.{Layout}
 use Rattle.exchange.specs.declared.Layout.the-variants.{Text, Number, Stat, Entry, End}
 use Rattle.exchange.specs.declared.SyncId.{SyncId}
 use Rattle.exchange.specs.declared.Found.{Found}
 use Rattle.exchange.specs.declared.Found.the-variants.{Known, Unknown}
 use Rattle.exchange.specs.declared.Exchange.{Exchange}
 use Rattle.sync.specs.declared.Message.{Message}
-use Rattle.sync.specs.declared.Read.{Read}
-use Rattle.sync.specs.declared.Read.the-variants.{Waiting, InvalidId, DataTooLarge, Whole}
-use Rattle.sync.specs.declared.Written.the-variants.{Bytes as Written·Bytes}
+use Rattle.sync.specs.declared.Read.the-variants.{Whole}
+use Rattle.sync_write.specs.declared.Written.the-variants.{Bytes as Written·Bytes}
 use Rattle.exchange.specs.Exchange.{wordOf, foundOf, headOf, longestOf, layoutNumber, isOver}
-use Rattle.sync.specs.Message.{layoutOf, isOther, fieldsOf, lengthOf, knownOf, namedOf, readOf, usedOf, headBytes, messageBytes, Words, Outcome, writeKnown, writeNamed, writeOf}
+use Rattle.sync.specs.Message.{fieldsOf, lengthOf, knownOf, namedOf, readOf, usedOf}
+use Rattle.sync_write.specs.Write.{layoutOf, isOther, headBytes, messageBytes, Words, Outcome, writeKnown, writeNamed, writeOf}
+use Rattle.sync.proofs.ReadLaws.{Known-says, says}
 use Rattle.exchange.proofs.ExchangeLaws.{found-word, found-id, heads}
-use Rattle.sync.proofs.MessageLaws.{own-layout, length-head}
-use Rattle.sync.proofs.FieldLaws.{read-word, read-fields, read-length, same-layout, head-written}
-
--- ---- what an accepted message's bytes say
-
-pub record Known-says (s : List ℕ) (id : SyncId) (k : Layout) (m : Message) (at n : ℕ) : Type 0 where
-  pub id-is : m .id ≡ id
-  pub fields-are : m .fields ≡ fieldsOf k s
-  pub at-is : at ≡ headOf k
-  pub length-is : n ≡ lengthOf k s
-  pub small : isOver id (lengthOf k s) ≡ false
-  pub whole : headOf k + lengthOf k s ≤ length s
-
-known-says : (s : List ℕ) (id : SyncId) (k : Layout) (m : Message) (at n : ℕ) → knownOf s id k ≡ Whole m at n → Known-says s id k m at n
-unfolding knownOf
-known-says s id k m at n e =
-    by-test (ltb (length s) (headOf k))
-    (λ t. let f = rw t at e in let z : _≡_ {A = ℕ} 0 1 = cc in absurd (omega arith))
-    (λ t₁. by-test (isOver id (lengthOf k s))
-    (λ t. let f = rw (t₁, t) at e in let z : _≡_ {A = ℕ} 0 1 = cc in absurd (omega arith))
-    (λ t₂. by-test (ltb (length s) (headOf k + lengthOf k s))
-    (λ t. let f = rw (t₁, t₂, t) at e in let z : _≡_ {A = ℕ} 0 1 = cc in absurd (omega arith))
-    (λ t₃. let f = rw (t₁, t₂, t₃) at e in
-    record {
-      id-is = cc;
-      fields-are = cc;
-      at-is = cc;
-      length-is = cc;
-      small = t₂;
-      whole = ltb-false _ _ t₃;
-    })))
-
-pub record Says (x : Exchange) (s : List ℕ) (m : Message) (at n : ℕ) : Type 0 where
-  pub layout : Layout
-  pub found : foundOf x (numOf (part s 0 4)) ≡ Known (m .id) layout
-  pub known : Known-says s (m .id) layout m at n
-
-named-says : (x : Exchange) (s : List ℕ) (m : Message) (at n : ℕ) (f : Found) → foundOf x (numOf (part s 0 4)) ≡ f → namedOf s f ≡ Whole m at n → Says x s m at n
-unfolding namedOf
-named-says x s m at n Unknown e g = let z : _≡_ {A = ℕ} 0 1 = cc in absurd (omega arith)
-named-says x s m at n (Known id k) e g =
-    let a = known-says s id k m at n g in
-    let i = sym (a .id-is) in
-    record { layout = k; found = rw (a .id-is) e; known = rw i at a }
-
-pub says : (x : Exchange) (s : List ℕ) (m : Message) (at n : ℕ) → readOf x s ≡ Whole m at n → Says x s m at n
-unfolding readOf
-says x s m at n e =
-    by-test (ltb (length s) 4)
-    (λ t. let f = rw t at e in let z : _≡_ {A = ℕ} 0 1 = cc in absurd (omega arith))
-    (λ t. named-says x s m at n (foundOf x (numOf (part s 0 4))) refl (rw t at e))
-
--- what is used is here
-used-of : (x : Exchange) (s : List ℕ) (r : Read) → readOf x s ≡ r → usedOf r ≤ length s
-unfolding usedOf
-used-of x s Waiting e = omega arith
-used-of x s InvalidId e = omega arith
-used-of x s DataTooLarge e = omega arith
-used-of x s (Whole m at n) e = let a = says x s m at n e .known in omega (arith, a .at-is, a .length-is, a .whole)
-
-pub used-within : (x : Exchange) (s : List ℕ) → usedOf (readOf x s) ≤ length s
-used-within x s = used-of x s (readOf x s) refl
+use Rattle.sync_write.proofs.WriteLaws.{own-layout, length-head}
+use Rattle.sync_write.proofs.FieldLaws.{read-word, read-fields, read-length, same-layout, head-written}
 
 -- ---- writing, then reading
 

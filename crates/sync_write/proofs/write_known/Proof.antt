@@ -4,12 +4,12 @@ use Prim.Native.Nat.{_+_}
 use lib.ListN.{length}
 use borrow.Author.Tests.{lt-ltb, le-ltb}
 use Rattle.exchange.specs.Exchange.{headOf, longestOf}
-use Rattle.sync.specs.Message.{writeKnown}
+use Rattle.sync_write.specs.Write.{writeKnown}
 use Rattle.exchange.proofs.ExchangeLaws.{heads}
-use Rattle.sync.proofs.MessageLaws.{room, written}
+use Rattle.sync_write.proofs.WriteLaws.{room, written}
 use borrow.Author.Needs.{needs}
-use Rattle.sync.proofs.write_known.Statement.{statement}
-use Rattle.sync.proofs.write_known.Tie as tie
+use Rattle.sync_write.proofs.write_known.Statement.{statement}
+use Rattle.sync_write.proofs.write_known.Tie as tie
 
 is-other-requires : tie.Need-is-other-requires
 is-other-requires c κs = search needs

@@ -1,7 +1,7 @@
-use Rattle.sync.specs.Message.{layoutOf}
+use Rattle.sync_write.specs.Write.{layoutOf}
 use borrow.Author.Needs.{needs}
-use Rattle.sync.proofs.layout_of.Statement.{statement}
-use Rattle.sync.proofs.layout_of.Tie as tie
+use Rattle.sync_write.proofs.layout_of.Statement.{statement}
+use Rattle.sync_write.proofs.layout_of.Tie as tie
 
 enum-told : tie.Need-enum-told
 enum-told c = search needs

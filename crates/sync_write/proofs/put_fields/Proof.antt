@@ -1,10 +1,10 @@
 use native.Mathlib.Omega.{arith}
 use Rattle.exchange.specs.Exchange.{headOf}
-use Rattle.sync.specs.Message.{layoutOf, fieldBytes}
-use Rattle.sync.proofs.MessageLaws.{put-behind}
+use Rattle.sync_write.specs.Write.{layoutOf, fieldBytes}
+use Rattle.sync_write.proofs.WriteLaws.{put-behind}
 use borrow.Author.Needs.{needs}
-use Rattle.sync.proofs.put_fields.Statement.{statement}
-use Rattle.sync.proofs.put_fields.Tie as tie
+use Rattle.sync_write.proofs.put_fields.Statement.{statement}
+use Rattle.sync_write.proofs.put_fields.Tie as tie
 
 enum-told : tie.Need-enum-told
 enum-told c = search needs

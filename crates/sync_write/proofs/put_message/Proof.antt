@@ -1,12 +1,12 @@
 use native.Mathlib.Omega.{arith}
 use mathlib.Core.Path.{refl, ap, _∙_}
 use Rattle.exchange.specs.Exchange.{headOf}
-use Rattle.sync.specs.Message.{layoutOf}
+use Rattle.sync_write.specs.Write.{layoutOf}
 use Rattle.exchange.proofs.ExchangeLaws.{heads}
-use Rattle.sync.proofs.MessageLaws.{put-message}
+use Rattle.sync_write.proofs.WriteLaws.{put-message}
 use borrow.Author.Needs.{needs}
-use Rattle.sync.proofs.put_message.Statement.{statement}
-use Rattle.sync.proofs.put_message.Tie as tie
+use Rattle.sync_write.proofs.put_message.Statement.{statement}
+use Rattle.sync_write.proofs.put_message.Tie as tie
 
 layout-of-requires : tie.Need-layout-of-requires
 layout-of-requires c κs = search needs

@@ -1,21 +1,20 @@
--- Fields read from what was written, and written from what was read, one layout at a time; and they do not change by what
--- arrives behind them. Assumes nothing.
-use mathlib.Core.Path.{_≡_, refl, sym}
+-- Fields read from what was written, and written from what was read, one layout at a time. Assumes nothing.
+use mathlib.Core.Path.{_≡_, refl}
 use mathlib.Core.List.{List, _++_}
-use Prim.Native.Nat.{ℕ, _+_, _-_, _≤_, _<_, _^_}
+use Prim.Native.Nat.{ℕ, _≤_}
 use native.Mathlib.Omega.{arith}
 use lib.ListN.{length}
 use Rattle.le.specs.Le.{numOf, bytesOf, part, Bytes}
 use Rattle.le.proofs.Laws.{write-read, read-write-part}
-use Rattle.le.proofs.Parts.{part-join, part-front}
+use Rattle.le.proofs.Parts.{part-join}
 use Rattle.exchange.specs.declared.Layout.{Layout}
 use Rattle.exchange.specs.declared.Layout.the-variants.{Text, Number, Stat, Entry, End}
-use Rattle.sync.specs.declared.StatV1.{StatV1}
 use Rattle.sync.specs.declared.Fields.{Fields}
 use Rattle.sync.specs.declared.Fields.the-variants.{Text as TextFields, Number as NumberFields, Stat as StatFields, Entry as EntryFields, End as EndFields}
 use Rattle.sync.specs.declared.Message.{Message}
 use Rattle.exchange.specs.Exchange.{wordOf, headOf, longestOf}
-use Rattle.sync.specs.Message.{layoutOf, statOf, fieldsOf, lengthOf, statBytes, fieldBytes, headBytes, numbersOf, Words}
+use Rattle.sync.specs.Message.{statOf, fieldsOf, lengthOf}
+use Rattle.sync_write.specs.Write.{layoutOf, statBytes, fieldBytes, headBytes, numbersOf, Words}
 use Rattle.exchange.proofs.ExchangeLaws.{word-small, heads}
 
 -- ---- written, then read
@@ -80,26 +79,3 @@ unfolding headBytes
 head-written k m s h n e f =
     let l = heads k in
     rw (f, ← e, read-write-part s 0 4 h (omega arith)) (fields-written k s h n)
-
--- ---- with more behind them
-
-stat-front : (s t : List ℕ) → 16 ≤ length s → statOf (s ++ t) ≡ statOf s
-unfolding statOf
-stat-front s t h =
-    rw (part-front s t 4 4 (omega arith), part-front s t 8 4 (omega arith), part-front s t 12 4 (omega arith))
-
-pub fields-front : (k : Layout) (s t : List ℕ) → headOf k ≤ length s → fieldsOf k (s ++ t) ≡ fieldsOf k s
-unfolding fieldsOf headOf
-fields-front Text s t h = refl
-fields-front Number s t h = rw (part-front s t 4 4 h)
-fields-front Stat s t h = rw (stat-front s t h)
-fields-front Entry s t h = rw (stat-front s t (omega arith))
-fields-front End s t h = rw (stat-front s t (omega arith), part-front s t 16 4 h)
-
-pub length-front : (k : Layout) (s t : List ℕ) → headOf k ≤ length s → lengthOf k (s ++ t) ≡ lengthOf k s
-unfolding lengthOf headOf
-length-front Text s t h = rw (part-front s t 4 4 h)
-length-front Number s t h = refl
-length-front Stat s t h = refl
-length-front Entry s t h = rw (part-front s t 16 4 h)
-length-front End s t h = refl

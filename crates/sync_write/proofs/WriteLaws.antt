@@ -1,29 +1,26 @@
 -- Laws of the sync messages' fields, one layout at a time. Assumes nothing.
-use mathlib.Core.Path.{_≡_, refl, sym, ap, _∙_}
-use mathlib.Core.Bool.{Bool, false, cond}
+use mathlib.Core.Path.{_≡_, refl, ap, _∙_}
+use mathlib.Core.Bool.{false}
 use mathlib.Core.List.{List, _++_}
 use Prim.Native.Nat.{ℕ, _+_, _≤_}
 use native.Mathlib.Omega.{arith}
-use lib.Dec.{eqb}
 use lib.ListN.{length, length-append}
 use borrow.Author.Tests.{eqb-true, not-false, le-ltb}
-use Rattle.le.specs.Le.{numOf, bytesOf, part, put}
+use Rattle.le.specs.Le.{bytesOf, put}
 use Rattle.le.proofs.Laws.{length-bytesOf}
 use Rattle.le.proofs.Parts.{put-put}
-use Rattle.exchange.specs.declared.SyncId.{SyncId}
 use Rattle.exchange.specs.declared.Layout.{Layout}
-use Rattle.exchange.specs.declared.Layout.the-variants.{Text as TextLayout, Number as NumberLayout, Stat as StatLayout, Entry as EntryLayout, End as EndLayout}
 use Rattle.exchange.specs.declared.Found.{Found}
 use Rattle.exchange.specs.declared.Exchange.{Exchange}
 use Rattle.sync.specs.declared.StatV1.{StatV1}
 use Rattle.sync.specs.declared.Fields.{Fields}
 use Rattle.sync.specs.declared.Fields.the-variants.{Text, Number, Stat, Entry, End}
 use Rattle.sync.specs.declared.Message.{Message}
-use Rattle.sync.specs.declared.Written.{Written}
-use Rattle.sync.specs.declared.Written.the-variants.{Bytes}
+use Rattle.sync_write.specs.declared.Written.{Written}
+use Rattle.sync_write.specs.declared.Written.the-variants.{Bytes}
 use Rattle.exchange.proofs.ExchangeLaws.{heads, same-layout-number}
 use Rattle.exchange.specs.Exchange.{wordOf, foundOf, headOf, longestOf, layoutNumber, isOver}
-use Rattle.sync.specs.Message.{layoutOf, isOther, statBytes, fieldBytes, headBytes, messageBytes, Room, Outcome, namedOf, readOf, writeKnown, writeNamed, writeOf, Writes}
+use Rattle.sync_write.specs.Write.{layoutOf, isOther, statBytes, fieldBytes, headBytes, messageBytes, Room, Outcome, writeKnown, writeNamed, writeOf, Writes}
 
 -- three words are a stat
 pub put-three : (d : List ℕ) (s : StatV1) → 16 ≤ length d
@@ -90,12 +87,7 @@ unfolding writeKnown
 written k m text d out r e₁ e₂ h g er eo =
     rw (e₁, e₂, le-ltb (longestOf k) (length text) h, le-ltb (length d) (headOf k + length text) g) (record { result-is = ap Bytes er; out-is = eo })
 
--- with the id here, what it names gives the answer
-pub named-read : (x : Exchange) (s : List ℕ) (word : ℕ) (f : Found) → 4 ≤ length s → word ≡ numOf (part s 0 4) → f ≡ foundOf x word
-    → namedOf s f ≡ readOf x s
-unfolding readOf
-named-read x s word f h e g = rw (le-ltb (length s) 4 h) (cc)
-
+-- what the id names gives the answer
 pub named-write : (x : Exchange) (m : Message) (text d : List ℕ) (word : ℕ) (f : Found) (r : Written) (out : List ℕ) → word ≡ wordOf (m .id) → f ≡ foundOf x word
     → Writes (writeNamed m text d f) r out → Writes (writeOf x m text d) r out
 unfolding writeOf

@@ -1,0 +1,3 @@
+pub mod WriteLaws
+pub mod FieldLaws
+pub mod RoundTrip
