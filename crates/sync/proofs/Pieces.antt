@@ -58,12 +58,14 @@ module _ (l m : List ℕ) where
       (λ t. let h = ltb-false (length l) 4 t in
       rw (le-ltb (length (l ++ m)) 4 (omega arith), t, part-front l m 0 4 h) (named-stays (foundOf x (numOf (part l 0 4))) (rw t at e)))
 
-  answer-stays : (r : Read) → usedOf r ≤ length l → answerOf (l ++ m) r ≡ answerOf l r
-  unfolding answerOf usedOf
-  answer-stays Waiting h = refl
-  answer-stays InvalidId h = refl
-  answer-stays DataTooLarge h = refl
-  answer-stays (Whole g at n) h = rw (part-front l m at n h)
+  answer-stays : (x : Exchange) (r : Read) → readOf x l ≡ r → answerOf (l ++ m) r ≡ answerOf l r
+  unfolding answerOf
+  answer-stays x Waiting e = refl
+  answer-stays x InvalidId e = refl
+  answer-stays x DataTooLarge e = refl
+  answer-stays x (Whole g at n used) e =
+      let a = says x l g at n used e .known in
+      rw (part-front l m at n (omega (arith, a .at-is, a .length-is, a .whole)))
 
 -- a message uses its head at least
 whole-used : (x : Exchange) (l : List ℕ) (g : Got) (n : ℕ) (r : Read) → readOf x l ≡ r → answerOf l r ≡ message g n → (n ≡ usedOf r) × (0 < n)
@@ -71,25 +73,25 @@ unfolding answerOf usedOf
 whole-used x l g n Waiting e f = let z : _≡_ {A = ℕ} 0 1 = cc in absurd (omega arith)
 whole-used x l g n InvalidId e f = let z : _≡_ {A = ℕ} 0 1 = cc in absurd (omega arith)
 whole-used x l g n DataTooLarge e f = let z : _≡_ {A = ℕ} 0 1 = cc in absurd (omega arith)
-whole-used x l g n (Whole m at k) e f =
-    let s = says x l m at k e in
+whole-used x l g n (Whole m at k used) e f =
+    let s = says x l m at k used e in
     let h = heads (s .layout) in
-    let i : n ≡ at + k = cc in
-    (i, omega (arith, s .known .at-is))
+    let i : n ≡ used = cc in
+    (i, omega (arith, s .known .used-is))
 
 refusal-used : (l : List ℕ) (number n : ℕ) (r : Read) → answerOf l r ≡ refused number n → n ≡ usedOf r
 unfolding answerOf
 refusal-used l number n Waiting f = cc
 refusal-used l number n InvalidId f = cc
 refusal-used l number n DataTooLarge f = cc
-refusal-used l number n (Whole m at k) f = cc
+refusal-used l number n (Whole m at k used) f = cc
 
 pub stable : (x : Exchange) → Stable (receives x)
 unfolding receives readOf answerOf
 stable x =
     record {
       none = refl;
-      stays = λ l m e. ap (answerOf (l ++ m)) (read-stays l m x e) ∙ answer-stays l m (readOf x l) (used-within x l);
+      stays = λ l m e. ap (answerOf (l ++ m)) (read-stays l m x e) ∙ answer-stays l m x (readOf x l) refl;
       moves = λ l g n e. whole-used x l g n (readOf x l) refl e .1;
       within = λ l g n e. omega (arith, whole-used x l g n (readOf x l) refl e .0, used-within x l);
       refused-within = λ l number n e. omega (arith, refusal-used l number n (readOf x l) e, used-within x l);

@@ -53,17 +53,18 @@ length-front End s t h = refl
 
 -- ---- what an accepted message's bytes say
 
-pub record Known-says (s : List ℕ) (id : SyncId) (k : Layout) (m : Message) (at n : ℕ) : Type 0 where
+pub record Known-says (s : List ℕ) (id : SyncId) (k : Layout) (m : Message) (at n used : ℕ) : Type 0 where
   pub id-is : m .id ≡ id
   pub fields-are : m .fields ≡ fieldsOf k s
   pub at-is : at ≡ headOf k
   pub length-is : n ≡ lengthOf k s
+  pub used-is : used ≡ headOf k + lengthOf k s
   pub small : isOver id (lengthOf k s) ≡ false
   pub whole : headOf k + lengthOf k s ≤ length s
 
-known-says : (s : List ℕ) (id : SyncId) (k : Layout) (m : Message) (at n : ℕ) → knownOf s id k ≡ Whole m at n → Known-says s id k m at n
+known-says : (s : List ℕ) (id : SyncId) (k : Layout) (m : Message) (at n used : ℕ) → knownOf s id k ≡ Whole m at n used → Known-says s id k m at n used
 unfolding knownOf
-known-says s id k m at n e =
+known-says s id k m at n used e =
     by-test (ltb (length s) (headOf k))
     (λ t. let f = rw t at e in let z : _≡_ {A = ℕ} 0 1 = cc in absurd (omega arith))
     (λ t₁. by-test (isOver id (lengthOf k s))
@@ -76,29 +77,30 @@ known-says s id k m at n e =
       fields-are = cc;
       at-is = cc;
       length-is = cc;
+      used-is = cc;
       small = t₂;
       whole = ltb-false _ _ t₃;
     })))
 
-pub record Says (x : Exchange) (s : List ℕ) (m : Message) (at n : ℕ) : Type 0 where
+pub record Says (x : Exchange) (s : List ℕ) (m : Message) (at n used : ℕ) : Type 0 where
   pub layout : Layout
   pub found : foundOf x (numOf (part s 0 4)) ≡ Known (m .id) layout
-  pub known : Known-says s (m .id) layout m at n
+  pub known : Known-says s (m .id) layout m at n used
 
-named-says : (x : Exchange) (s : List ℕ) (m : Message) (at n : ℕ) (f : Found) → foundOf x (numOf (part s 0 4)) ≡ f → namedOf s f ≡ Whole m at n → Says x s m at n
+named-says : (x : Exchange) (s : List ℕ) (m : Message) (at n used : ℕ) (f : Found) → foundOf x (numOf (part s 0 4)) ≡ f → namedOf s f ≡ Whole m at n used → Says x s m at n used
 unfolding namedOf
-named-says x s m at n Unknown e g = let z : _≡_ {A = ℕ} 0 1 = cc in absurd (omega arith)
-named-says x s m at n (Known id k) e g =
-    let a = known-says s id k m at n g in
+named-says x s m at n used Unknown e g = let z : _≡_ {A = ℕ} 0 1 = cc in absurd (omega arith)
+named-says x s m at n used (Known id k) e g =
+    let a = known-says s id k m at n used g in
     let i = sym (a .id-is) in
     record { layout = k; found = rw (a .id-is) e; known = rw i at a }
 
-pub says : (x : Exchange) (s : List ℕ) (m : Message) (at n : ℕ) → readOf x s ≡ Whole m at n → Says x s m at n
+pub says : (x : Exchange) (s : List ℕ) (m : Message) (at n used : ℕ) → readOf x s ≡ Whole m at n used → Says x s m at n used
 unfolding readOf
-says x s m at n e =
+says x s m at n used e =
     by-test (ltb (length s) 4)
     (λ t. let f = rw t at e in let z : _≡_ {A = ℕ} 0 1 = cc in absurd (omega arith))
-    (λ t. named-says x s m at n (foundOf x (numOf (part s 0 4))) refl (rw t at e))
+    (λ t. named-says x s m at n used (foundOf x (numOf (part s 0 4))) refl (rw t at e))
 
 -- what is used is here
 used-of : (x : Exchange) (s : List ℕ) (r : Read) → readOf x s ≡ r → usedOf r ≤ length s
@@ -106,7 +108,7 @@ unfolding usedOf
 used-of x s Waiting e = omega arith
 used-of x s InvalidId e = omega arith
 used-of x s DataTooLarge e = omega arith
-used-of x s (Whole m at n) e = let a = says x s m at n e .known in omega (arith, a .at-is, a .length-is, a .whole)
+used-of x s (Whole m at n used) e = let a = says x s m at n used e .known in omega (arith, a .used-is, a .whole)
 
 pub used-within : (x : Exchange) (s : List ℕ) → usedOf (readOf x s) ≤ length s
 used-within x s = used-of x s (readOf x s) refl

@@ -45,7 +45,7 @@ knownOf s id k =
     cond (ltb (length s) (headOf k)) Waiting
     (cond (isOver id (lengthOf k s)) DataTooLarge
     (cond (ltb (length s) (headOf k + lengthOf k s)) Waiting
-    (Whole (record { id = id; fields = fieldsOf k s }) (headOf k) (lengthOf k s))))
+    (Whole (record { id = id; fields = fieldsOf k s }) (headOf k) (lengthOf k s) (headOf k + lengthOf k s))))
 
 -- 14, or what the known id gives
 unfoldable pub namedOf : List ℕ → Found → Read
@@ -61,11 +61,11 @@ unfoldable pub numberOf : Read → ℕ
 numberOf Waiting = 100
 numberOf InvalidId = 14
 numberOf DataTooLarge = 15
-numberOf (Whole m at n) = 0
+numberOf (Whole m at n used) = 0
 
 -- bytes used: those of a message with its text, none otherwise
 unfoldable pub usedOf : Read → ℕ
 usedOf Waiting = 0
 usedOf InvalidId = 0
 usedOf DataTooLarge = 0
-usedOf (Whole m at n) = at + n
+usedOf (Whole m at n used) = used

@@ -18,7 +18,7 @@ unfoldable pub answerOf : List ℕ → Read → Answer Got
 answerOf s Waiting = waiting
 answerOf s InvalidId = refused (numberOf InvalidId) (usedOf InvalidId)
 answerOf s DataTooLarge = refused (numberOf DataTooLarge) (usedOf DataTooLarge)
-answerOf s (Whole m at n) = message (record { got = m; text = part s at n }) (usedOf (Whole m at n))
+answerOf s (Whole m at n used) = message (record { got = m; text = part s at n }) (usedOf (Whole m at n used))
 
 unfoldable pub receives : Exchange → List ℕ → Answer Got
 receives x s = answerOf s (readOf x s)

@@ -43,11 +43,12 @@ pub enum Read {
     InvalidId,
     // Refusal 15: a DATA length over 65,536.
     DataTooLarge,
-    // A message. Its text is the `length` bytes from `at` on, and it ends behind them.
+    // A message. Its text is the `length` bytes from `at` on; with them it uses `used` bytes.
     Whole {
         message: Message,
         at: usize,
         length: usize,
+        used: usize,
     },
 }
 
@@ -64,6 +65,7 @@ impl Read {
                 message: _,
                 at: _,
                 length: _,
+                used: _,
             } => 0,
         }
     }
@@ -126,10 +128,12 @@ fn read_known(received: &[u8], id: SyncId, layout: Layout) -> Read
     }
     let fields = fields_at(layout, received);
     let message = Message { id, fields };
+    let used = at + length;
     Read::Whole {
         message,
         at,
         length,
+        used,
     }
 }
 

@@ -1,6 +1,6 @@
 -- Sync messages from bytes and to bytes, both ways. Assumes nothing.
---     write-back    what `writeOf` makes, `readOf` gives back, whatever follows
---     read-back     what `readOf` accepts, `writeOf` makes byte for byte
+--     write-read    what `writeOf` makes, `readOf` gives back, whatever follows
+--     read-write     what `readOf` accepts, `writeOf` makes byte for byte
 use mathlib.Core.Path.{_≡_, refl, sym, ap, _∙_}
 use mathlib.Core.Bool.{false}
 use mathlib.Core.List.{List, _++_, append-assoc}
@@ -76,9 +76,8 @@ written-says x m text out n e = named-written x m text out n (foundOf x (wordOf 
 
 pub record Comes-back (x : Exchange) (m : Message) (text : List ℕ) (n : ℕ) (s : List ℕ) : Type 0 where
   pub at : ℕ
-  pub read-is : readOf x s ≡ Whole m at (length text)
+  pub read-is : readOf x s ≡ Whole m at (length text) n
   pub text-is : part s at (length text) ≡ text
-  pub used-is : usedOf (readOf x s) ≡ n
 
 module _ (m : Message) (text rest : List ℕ) where
   pub message-length : length (messageBytes m text) ≡ headOf (layoutOf (m .fields)) + length text
@@ -92,7 +91,7 @@ module _ (m : Message) (text rest : List ℕ) where
   -- the bytes of a message, with anything behind them, are read as that message
   pub not-refused : (x : Exchange) → Words (m .fields) → foundOf x (wordOf (m .id)) ≡ Known (m .id) (layoutOf (m .fields))
       → isOver (m .id) (length text) ≡ false → length text ≤ longestOf (layoutOf (m .fields))
-      → readOf x (messageBytes m text ++ rest) ≡ Whole m (headOf (layoutOf (m .fields))) (length text)
+      → readOf x (messageBytes m text ++ rest) ≡ Whole m (headOf (layoutOf (m .fields))) (length text) (headOf (layoutOf (m .fields)) + length text)
   unfolding readOf namedOf knownOf
   not-refused x h found small long =
       let n = length text in
@@ -119,10 +118,10 @@ module _ (m : Message) (text rest : List ℕ) where
   text-behind = rw (head-rest, drop-at (headBytes m (length text)) (text ++ rest) (headOf (layoutOf (m .fields))) (length-head m (length text)), take-append-seam)
 
 -- what the writer made, with anything behind it, is read as the message that was written, its text with it
-pub write-back : (x : Exchange) (m : Message) (text out : List ℕ) (n : ℕ) (rest : List ℕ) → Words (m .fields) → writeOf x m text out .result ≡ Written·Bytes n
+pub write-read : (x : Exchange) (m : Message) (text out : List ℕ) (n : ℕ) (rest : List ℕ) → Words (m .fields) → writeOf x m text out .result ≡ Written·Bytes n
     → Comes-back x m text n (take n (writeOf x m text out .out) ++ rest)
-unfolding part usedOf
-write-back x m text out n rest h e =
+unfolding part
+write-read x m text out n rest h e =
     let w = written-says x m text out n e in
     let b = messageBytes m text in
     let l : length b ≡ n = message-length m text rest ∙ sym (w .count-is) in
@@ -132,9 +131,8 @@ write-back x m text out n rest h e =
     let i = not-refused m text rest x h (w .found) (w .small) (w .long) in
     rw t (record {
       at = headOf (layoutOf (m .fields));
-      read-is = i;
+      read-is = rw (w .count-is) i;
       text-is = text-behind m text rest;
-      used-is = rw i (sym (w .count-is));
     })
 
 -- ---- reading, then writing
@@ -156,11 +154,12 @@ joined-parts : (s : List ℕ) (at n : ℕ) → part s 0 at ++ part s at n ≡ ta
 unfolding part
 joined-parts s at n = rw (take-add at n s)
 
-known-back : (x : Exchange) (s : List ℕ) (m : Message) (at n : ℕ) (out : List ℕ) (k : Layout) → Bytes s → foundOf x (numOf (part s 0 4)) ≡ Known (m .id) k
-    → Known-says s (m .id) k m at n → at + n ≤ length out
-    → writeOf x m (part s at n) out ≡ record { result = Written·Bytes (at + n); out = put out 0 (take (at + n) s) }
+known-back : (x : Exchange) (s : List ℕ) (m : Message) (at n used : ℕ) (out : List ℕ) (k : Layout) → Bytes s → foundOf x (numOf (part s 0 4)) ≡ Known (m .id) k
+    → Known-says s (m .id) k m at n used → used ≤ length out
+    → writeOf x m (part s at n) out ≡ record { result = Written·Bytes used; out = put out 0 (take used s) }
 unfolding writeOf writeNamed writeKnown messageBytes
-known-back x s m at n out k h f a room =
+known-back x s m at n used out k h f a room =
+    let u : at + n ≡ used = omega (arith, a .at-is, a .length-is, a .used-is) in
     let word = found-word x (numOf (part s 0 4)) (m .id) k f in
     let found : foundOf x (wordOf (m .id)) ≡ Known (m .id) k = rw (← word) f in
     let other : isOther k (m .fields) ≡ false = rw (a .fields-are) (not-other k s) in
@@ -175,13 +174,15 @@ known-back x s m at n out k h f a room =
       small,
       le-ltb (longestOf k) n (omega (arith, a .length-is)),
       ← a .at-is,
-      le-ltb (length out) (at + n) room,
+      u,
+      le-ltb (length out) used room,
       head,
       joined-parts s at n,
+      u,
     )
 
-pub read-back : (x : Exchange) (s : List ℕ) (m : Message) (at n : ℕ) (out : List ℕ) → Bytes s → readOf x s ≡ Whole m at n → at + n ≤ length out
-    → writeOf x m (part s at n) out ≡ record { result = Written·Bytes (at + n); out = put out 0 (take (at + n) s) }
-read-back x s m at n out h e room =
-    let y = says x s m at n e in
-    known-back x s m at n out (y .layout) h (y .found) (y .known) room
+pub read-write : (x : Exchange) (s : List ℕ) (m : Message) (at n used : ℕ) (out : List ℕ) → Bytes s → readOf x s ≡ Whole m at n used → used ≤ length out
+    → writeOf x m (part s at n) out ≡ record { result = Written·Bytes used; out = put out 0 (take used s) }
+read-write x s m at n used out h e room =
+    let y = says x s m at n used e in
+    known-back x s m at n used out (y .layout) h (y .found) (y .known) room

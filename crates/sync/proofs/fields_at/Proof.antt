@@ -13,14 +13,14 @@ enum-told-2 c = search needs
 
 get-u32-requires : tie.Need-get-u32-requires
 unfolding headOf
-get-u32-requires c κs = rw (c .enum-told2 .given .1) at (c .before .before .before .pre)
+get-u32-requires c κs = omega (arith, rw (c .enum-told2 .given .1) at (c .before .before .before .pre))
 
 enum-told-3 : tie.Need-enum-told-3
 enum-told-3 c = search needs
 
 stat-at-requires : tie.Need-stat-at-requires
 unfolding headOf
-stat-at-requires c κs = rw (c .enum-told3 .given .1) at (c .before .before .before .pre)
+stat-at-requires c κs = omega (arith, rw (c .enum-told3 .given .1) at (c .before .before .before .pre))
 
 enum-told-4 : tie.Need-enum-told-4
 enum-told-4 c = search needs
@@ -38,7 +38,7 @@ stat-at-requires-3 c κs = omega (arith, rw (c .enum-told5 .given .1) at (c .bef
 
 get-u32-requires-2 : tie.Need-get-u32-requires-2
 unfolding headOf
-get-u32-requires-2 c κs = rw (c .before .enum-told5 .given .1) at (c .before .before .before .before .pre)
+get-u32-requires-2 c κs = omega (arith, rw (c .before .enum-told5 .given .1) at (c .before .before .before .before .pre))
 
 returns : tie.Need-returns
 unfolding fieldsOf

@@ -37,6 +37,9 @@ returns-3 c = rw (le-ltb (length (c .before .before .before .before .before .bef
 fields-at-requires : tie.Need-fields-at-requires
 fields-at-requires c κs = search needs
 
+add-used : tie.Need-add-used
+add-used c = search needs
+
 returns-4 : tie.Need-returns-4
 unfolding knownOf
 returns-4 c = rw (le-ltb (length (c .before .before .before .before .before .before .before .before .args .received .now)) (headOf (c .before .before .before .before .before .before .before .before .args .layout)) (omega arith), over-is (c .before .before .before .before .before .before .before .before .args .id) (c .before .before .before .before .text-length .result) (lengthOf (c .before .before .before .before .before .before .before .before .args .layout) (c .before .before .before .before .before .before .before .before .args .received .now)) (c .before .before .before .is-over .result) false (c .before .before .before .is-over .ensures) (c .before .before .before .before .text-length .ensures) (c .before .before .if2 .left), le-ltb (length (c .before .before .before .before .before .before .before .before .args .received .now)) (headOf (c .before .before .before .before .before .before .before .before .args .layout) + lengthOf (c .before .before .before .before .before .before .before .before .args .layout) (c .before .before .before .before .before .before .before .before .args .received .now)) (omega arith)) (cc)
@@ -53,4 +56,5 @@ read-known-spec =
     sub-if3
     returns-3
     fields-at-requires
+    add-used
     returns-4)

@@ -1,3 +1,4 @@
+use native.Mathlib.Omega.{arith}
 use Rattle.exchange.specs.Exchange.{headOf}
 use Rattle.sync.specs.Message.{lengthOf}
 use borrow.Author.Needs.{needs}
@@ -9,7 +10,7 @@ enum-told c = search needs
 
 get-u32-requires : tie.Need-get-u32-requires
 unfolding headOf
-get-u32-requires c κs = rw (c .enum-told .given .1) at (c .before .before .before .pre)
+get-u32-requires c κs = omega (arith, rw (c .enum-told .given .1) at (c .before .before .before .pre))
 
 cast-result : tie.Need-cast-result
 cast-result c = search needs
@@ -25,7 +26,7 @@ enum-told-4 c = search needs
 
 get-u32-requires-2 : tie.Need-get-u32-requires-2
 unfolding headOf
-get-u32-requires-2 c κs = rw (c .enum-told4 .given .1) at (c .before .before .before .pre)
+get-u32-requires-2 c κs = omega (arith, rw (c .enum-told4 .given .1) at (c .before .before .before .pre))
 
 cast-result-2 : tie.Need-cast-result-2
 cast-result-2 c = search needs

@@ -27,7 +27,7 @@ put-fields-requires : tie.Need-put-fields-requires
 put-fields-requires c κs = search needs
 
 copy-at-requires : tie.Need-copy-at-requires
-copy-at-requires c κs = omega (arith, c .before .before .before .before .before .before .before .before .before .before .head-length .ensures ∙ ap headOf (c .before .before .before .before .before .before .before .before .before .before .before .layout-of .ensures), c .before .before .before .before .before .before .before .before .before .before .before .before .before .before .pre)
+copy-at-requires c κs = omega (arith, c .before .before .before .before .before .before .before .before .before .before .head-length .ensures ∙ ap headOf (c .before .before .before .before .before .before .before .before .before .before .before .layout-of .ensures), c .before .before .before .before .before .before .before .before .before .before .before .before .before .before .pre, heads (layoutOf (c .before .before .before .before .before .before .before .before .before .before .before .before .before .before .args .message .fields)))
 
 same-length : tie.Need-same-length
 same-length c = search needs
