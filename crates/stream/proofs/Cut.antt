@@ -1,13 +1,14 @@
 -- However a stream is cut into pieces, what is read of it is the same. Assumes nothing.
 --     cut       pieces read one after the other give what the whole gives: messages, ending and rest
 --     same-cut  so two ways to cut the same bytes give the same
+--     arrives   messages that were written one behind the other, in whatever pieces they arrive, are read as they were
 use mathlib.Core.Path.{_≡_, refl, sym, ap, _∙_}
 use mathlib.Core.List.{List, [], _∷_, _++_, append-assoc, append-nil}
 use Prim.Native.Nat.{ℕ, zero, suc, _<_}
 use native.Mathlib.Omega.{arith}
 use lib.ListN.{length, drop, length-append, length-drop}
-use lib.Seq.{drop-append-le}
-use Rattle.stream.specs.Stream.{Answer, waiting, message, refused, End, more, stopped, Reading, joined, isWaiting, ahead, goOn, run, readAll, begun, fedBy, feed, feedAll, Stable}
+use lib.Seq.{drop-append-le, drop-at}
+use Rattle.stream.specs.Stream.{Answer, waiting, message, refused, End, more, stopped, Reading, joined, isWaiting, ahead, goOn, run, readAll, begun, fedBy, feed, feedAll, Stable, Every, none-left, each, written, ReadsBack}
 
 module _ {M : Type 0} (read : List ℕ → Answer M) (s : Stable read) where
   -- a message's bytes are gone from the rest
@@ -82,3 +83,22 @@ module _ {M : Type 0} (read : List ℕ → Answer M) (s : Stable read) where
 
   pub same-cut : (cs ds : List (List ℕ)) → joined cs ≡ joined ds → feedAll read begun cs ≡ feedAll read begun ds
   same-cut cs ds e = cut cs ∙ ap (readAll read) e ∙ sym (cut ds)
+
+  -- messages that were written one behind the other
+  all-back : (make : M → List ℕ) (k : ℕ) (ms : List M) → Every (ReadsBack read make) ms → length (written make ms) < k
+      → run read k (written make ms) ≡ record { messages = ms; ending = more; rest = [] }
+  unfolding written run goOn ahead
+  all-back make zero ms e h = absurd (omega arith)
+  all-back make (suc k) [] none-left h = rw (s .none)
+  all-back make (suc k) (m ∷ ms) (each b e) h =
+      let rest = written make ms in
+      let r = b rest in
+      let n = s .moves (make m ++ rest) m (length (make m)) r in
+      let d : drop (length (make m)) (make m ++ rest) ≡ rest = drop-at (make m) rest (length (make m)) refl in
+      rw (r, d) (ap (ahead m) (all-back make k ms e (omega (arith, length-append (make m) rest))))
+
+  pub arrives : (make : M → List ℕ) (ms : List M) (cs : List (List ℕ)) → Every (ReadsBack read make) ms → joined cs ≡ written make ms
+      → feedAll read begun cs ≡ record { messages = ms; ending = more; rest = [] }
+  unfolding readAll
+  arrives make ms cs e j =
+      cut cs ∙ ap (readAll read) j ∙ all-back make (suc (length (written make ms))) ms e (omega arith)

@@ -27,6 +27,11 @@ unfoldable pub joined : List (List ℕ) → List ℕ
 joined [] = []
 joined (c ∷ cs) = c ++ joined cs
 
+-- every element of a list has a property
+pub data Every {M : Type 0} (P : M → Type 0) : List M → Type 0 where
+  none-left : Every P []
+  each : {m : M} {ms : List M} → P m → Every P ms → Every P (m ∷ ms)
+
 module _ {M : Type 0} where
   unfoldable pub isWaiting : Answer M → Bool
   isWaiting waiting = true
@@ -78,3 +83,12 @@ module _ {M : Type 0} where
     pub moves : (l : List ℕ) (x : M) (n : ℕ) → read l ≡ message x n → 0 < n
     pub within : (l : List ℕ) (x : M) (n : ℕ) → read l ≡ message x n → n ≤ length l
     pub refused-within : (l : List ℕ) (r n : ℕ) → read l ≡ refused r n → n ≤ length l
+
+  -- what a writer makes of some messages, one behind the other
+  unfoldable pub written : (M → List ℕ) → List M → List ℕ
+  written make [] = []
+  written make (m ∷ ms) = make m ++ written make ms
+
+  -- what a writer makes is read as that message, whatever is behind it
+  abbrev pub ReadsBack : (List ℕ → Answer M) → (M → List ℕ) → M → Type 0
+  ReadsBack read make m = (rest : List ℕ) → read (make m ++ rest) ≡ message m (length (make m))

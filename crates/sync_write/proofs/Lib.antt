@@ -1,3 +1,4 @@
 pub mod WriteLaws
 pub mod FieldLaws
 pub mod RoundTrip
+pub mod Arrives

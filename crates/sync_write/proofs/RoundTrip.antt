@@ -1,8 +1,9 @@
 -- Sync messages from bytes and to bytes, both ways. Assumes nothing.
---     write-read    what `writeOf` makes, `readOf` gives back, whatever follows
---     read-write     what `readOf` accepts, `writeOf` makes byte for byte
+--     write-read                what `writeOf` makes, `readOf` gives back, whatever follows
+--     read-write                what `readOf` accepts, `writeOf` makes byte for byte
+--     foreign-read, over-read   what the writer refuses by 14 or 15, the reader does
 use mathlib.Core.Path.{_≡_, refl, sym, ap, _∙_}
-use mathlib.Core.Bool.{false}
+use mathlib.Core.Bool.{true, false}
 use mathlib.Core.List.{List, _++_, append-assoc}
 use Prim.Native.Nat.{ℕ, _+_, _≤_}
 use native.Mathlib.Omega.{arith}
@@ -20,7 +21,7 @@ use Rattle.exchange.specs.declared.Found.{Found}
 use Rattle.exchange.specs.declared.Found.the-variants.{Known, Unknown}
 use Rattle.exchange.specs.declared.Exchange.{Exchange}
 use Rattle.sync.specs.declared.Message.{Message}
-use Rattle.sync.specs.declared.Read.the-variants.{Whole}
+use Rattle.sync.specs.declared.Read.the-variants.{InvalidId, DataTooLarge, Whole}
 use Rattle.sync_write.specs.declared.Written.the-variants.{Bytes as Written·Bytes}
 use Rattle.exchange.specs.Exchange.{wordOf, foundOf, headOf, longestOf, layoutNumber, isOver}
 use Rattle.sync.specs.Message.{fieldsOf, lengthOf, knownOf, namedOf, readOf, usedOf}
@@ -112,6 +113,28 @@ module _ (m : Message) (text rest : List ℕ) where
         le-ltb (length s) (headOf k + n) (omega arith),
         ef,
       )
+
+  -- what the writer refuses by 14 or 15, the reader does: an id that is not the exchange's, and data over its maximum
+  pub foreign-read : (x : Exchange) → foundOf x (wordOf (m .id)) ≡ Unknown → readOf x (messageBytes m text ++ rest) ≡ InvalidId
+  unfolding readOf namedOf
+  foreign-read x unknown =
+      let s = messageBytes m text ++ rest in
+      let ls : length s ≡ headOf (layoutOf (m .fields)) + length text + length rest = rw (length-append, message-length) in
+      let hk = heads (layoutOf (m .fields)) in
+      let ew : numOf (part s 0 4) ≡ wordOf (m .id) = rw head-rest (read-word m (length text) (text ++ rest)) in
+      rw (le-ltb (length s) 4 (omega arith), ew, unknown)
+
+  pub over-read : (x : Exchange) → foundOf x (wordOf (m .id)) ≡ Known (m .id) (layoutOf (m .fields)) → isOver (m .id) (length text) ≡ true
+      → length text ≤ longestOf (layoutOf (m .fields)) → readOf x (messageBytes m text ++ rest) ≡ DataTooLarge
+  unfolding readOf namedOf knownOf
+  over-read x found over long =
+      let k = layoutOf (m .fields) in
+      let s = messageBytes m text ++ rest in
+      let ls : length s ≡ headOf k + length text + length rest = rw (length-append, message-length) in
+      let hk = heads k in
+      let ew : numOf (part s 0 4) ≡ wordOf (m .id) = rw head-rest (read-word m (length text) (text ++ rest)) in
+      let el : lengthOf k s ≡ length text = rw head-rest (read-length m (length text) (text ++ rest) long) in
+      rw (le-ltb (length s) 4 (omega arith), ew, found, le-ltb (length s) (headOf k) (omega arith), el, over)
 
   pub text-behind : part (messageBytes m text ++ rest) (headOf (layoutOf (m .fields))) (length text) ≡ text
   unfolding part

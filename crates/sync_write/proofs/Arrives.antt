@@ -1,0 +1,28 @@
+-- Messages that were written one behind the other are read as they were, in whatever pieces their bytes arrive. Assumes nothing.
+use mathlib.Core.Path.{_≡_, sym, ap, _∙_}
+use mathlib.Core.List.{List, [], _∷_, _++_}
+use Prim.Native.Nat.{ℕ}
+use lib.ListN.{length}
+use Rattle.stream.specs.Stream.{message, more, joined, begun, feedAll, Every, none-left, each, written, ReadsBack}
+use Rattle.stream.proofs.Cut.{arrives}
+use Rattle.exchange.specs.declared.Exchange.{Exchange}
+use Rattle.sync.specs.Message.{usedOf}
+use Rattle.sync.specs.Pieces.{Got, answerOf, receives}
+use Rattle.sync.proofs.Pieces.{stable}
+use Rattle.sync_write.specs.Sent.{bytesFor, Sent}
+use Rattle.sync_write.proofs.RoundTrip.{written-says, not-refused, text-behind, message-length}
+
+-- a message that was written is read back, whatever is behind it
+reads-back : (x : Exchange) (g : Got) → Sent x g → ReadsBack (receives x) bytesFor g
+unfolding receives answerOf usedOf bytesFor
+reads-back x g s rest =
+    let w = written-says x (g .got) (g .text) (s .buffer) (s .count) (s .was-written) in
+    rw (not-refused (g .got) (g .text) rest x (s .words) (w .found) (w .small) (w .long), text-behind (g .got) (g .text) rest, message-length (g .got) (g .text) rest)
+
+all-read-back : (x : Exchange) (gs : List Got) → Every (Sent x) gs → Every (ReadsBack (receives x) bytesFor) gs
+all-read-back x [] none-left = none-left
+all-read-back x (g ∷ gs) (each s e) = each (reads-back x g s) (all-read-back x gs e)
+
+pub sent-arrives : (x : Exchange) (gs : List Got) (cs : List (List ℕ)) → Every (Sent x) gs → joined cs ≡ written bytesFor gs
+    → feedAll (receives x) begun cs ≡ record { messages = gs; ending = more; rest = [] }
+sent-arrives x gs cs e j = arrives (receives x) (stable x) bytesFor gs cs (all-read-back x gs e) j
