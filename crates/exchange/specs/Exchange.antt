@@ -60,6 +60,7 @@ longestOf Stat = 0
 longestOf Entry = 0xffff_ffff
 longestOf End = 0
 
+-- layouts are told apart by a number
 unfoldable pub layoutNumber : Layout → ℕ
 layoutNumber Text = 0
 layoutNumber Number = 1
@@ -75,18 +76,23 @@ pub record Row : Type 0 where
 abbrev pub row : SyncId → Layout → Row
 row i k = record { id = i; layout = k }
 
+-- ours (SYNC.TXT, "The following sync requests are accepted", and SEND for DATA and DONE; change request E3 for QUIT)
 unfoldable pub requests : List Row
 requests = row LIST Text ∷ row RECV Text ∷ row SEND Text ∷ row STAT Text ∷ row DATA Text ∷ row DONE Number ∷ row QUIT Number ∷ []
 
+-- the replies to LIST (SYNC.TXT, LIST; change request E3 for the four numbers of DONE)
 unfoldable pub listReplies : List Row
 listReplies = row DENT Entry ∷ row DONE End ∷ []
 
+-- the reply to STAT (change request E3)
 unfoldable pub statReplies : List Row
 statReplies = row STAT Stat ∷ []
 
+-- the replies to RECV (SYNC.TXT, RECV; change request E3 for FAIL)
 unfoldable pub recvReplies : List Row
 recvReplies = row DATA Text ∷ row DONE Number ∷ row FAIL Text ∷ []
 
+-- the replies to SEND (SYNC.TXT, SEND; change request E3 for FAIL)
 unfoldable pub sendReplies : List Row
 sendReplies = row OKAY Number ∷ row FAIL Text ∷ []
 

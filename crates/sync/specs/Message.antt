@@ -1,5 +1,4 @@
--- The sync messages as bytes (SYNC.TXT, "SYNC SERVICES", "LIST", "SEND", "RECV"; change request E3 for the fields of a STAT
--- reply and of a listing's DONE, and for FAIL's text). Assumes nothing.
+-- The sync messages from bytes (SYNC.TXT; change request E3 where it is silent). Assumes nothing.
 use Prim.Native.Nat.{ℕ, _+_}
 use mathlib.Core.Bool.{cond}
 use mathlib.Core.List.{List}
@@ -7,7 +6,6 @@ use lib.Dec.{ltb}
 use lib.ListN.{length}
 use Rattle.le.specs.Le.{numOf, part}
 use Rattle.exchange.specs.declared.SyncId.{SyncId}
-use Rattle.exchange.specs.declared.SyncId.the-variants.{List as LIST, Recv as RECV, Send as SEND, Stat as STAT, Done as DONE}
 use Rattle.exchange.specs.declared.Layout.{Layout}
 use Rattle.exchange.specs.declared.Layout.the-variants.{Text, Number, Stat, Entry, End}
 use Rattle.exchange.specs.declared.Found.{Found}
@@ -20,10 +18,11 @@ use Rattle.sync.specs.declared.Read.{Read}
 use Rattle.sync.specs.declared.Read.the-variants.{Waiting, InvalidId, DataTooLarge, Whole}
 use Rattle.exchange.specs.Exchange.{isOver, headOf, foundOf}
 
--- mode, size and time behind the id
+-- mode, size and time behind the id (SYNC.TXT, LIST, of a DENT; change request E3 of a STAT reply)
 unfoldable pub statOf : List ℕ → StatV1
 statOf s = record { mode = record { 0 = numOf (part s 4 4) }; size = numOf (part s 8 4); mtime = numOf (part s 12 4) }
 
+-- the numbers behind the id, but for a text's length
 unfoldable pub fieldsOf : Layout → List ℕ → Fields
 fieldsOf Text s = TextFields
 fieldsOf Number s = NumberFields (numOf (part s 4 4))
@@ -31,7 +30,7 @@ fieldsOf Stat s = StatFields (statOf s)
 fieldsOf Entry s = EntryFields (statOf s)
 fieldsOf End s = EndFields (statOf s) (numOf (part s 16 4))
 
--- the text's length
+-- the text's length: the number behind the id, of a DENT the fourth
 unfoldable pub lengthOf : Layout → List ℕ → ℕ
 lengthOf Text s = numOf (part s 4 4)
 lengthOf Number s = 0

@@ -1,23 +1,26 @@
 -- Messages that were written one behind the other are read as they were, in whatever pieces their bytes arrive. Assumes nothing.
-use mathlib.Core.Path.{_≡_, sym, ap, _∙_}
-use mathlib.Core.List.{List, [], _∷_, _++_}
+use mathlib.Core.Path.{_≡_}
+use mathlib.Core.List.{List, [], _∷_}
 use Prim.Native.Nat.{ℕ}
-use lib.ListN.{length}
-use Rattle.stream.specs.Stream.{message, more, joined, begun, feedAll, Every, none-left, each, written, ReadsBack}
+use Rattle.stream.specs.Stream.{more, joined, begun, feedAll, Every, none-left, each, written, ReadsBack}
 use Rattle.stream.proofs.Cut.{arrives}
 use Rattle.exchange.specs.declared.Exchange.{Exchange}
 use Rattle.sync.specs.Message.{usedOf}
 use Rattle.sync.specs.Pieces.{Got, answerOf, receives}
 use Rattle.sync.proofs.Pieces.{stable}
 use Rattle.sync_write.specs.Sent.{bytesFor, Sent}
-use Rattle.sync_write.proofs.RoundTrip.{written-says, not-refused, text-behind, message-length}
+use Rattle.sync_write.proofs.RoundTrip.{written-says, not-refused, text-here, message-length}
 
 -- a message that was written is read back, whatever is behind it
 reads-back : (x : Exchange) (g : Got) → Sent x g → ReadsBack (receives x) bytesFor g
 unfolding receives answerOf usedOf bytesFor
 reads-back x g s rest =
     let w = written-says x (g .got) (g .text) (s .buffer) (s .count) (s .was-written) in
-    rw (not-refused (g .got) (g .text) rest x (s .words) (w .found) (w .small) (w .long), text-behind (g .got) (g .text) rest, message-length (g .got) (g .text) rest)
+    rw (
+      not-refused (g .got) (g .text) rest x (s .words) (w .found) (w .small) (w .long),
+      text-here (g .got) (g .text) rest,
+      message-length (g .got) (g .text),
+    )
 
 all-read-back : (x : Exchange) (gs : List Got) → Every (Sent x) gs → Every (ReadsBack (receives x) bytesFor) gs
 all-read-back x [] none-left = none-left

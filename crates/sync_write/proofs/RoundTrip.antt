@@ -24,7 +24,7 @@ use Rattle.sync.specs.declared.Message.{Message}
 use Rattle.sync.specs.declared.Read.the-variants.{InvalidId, DataTooLarge, Whole}
 use Rattle.sync_write.specs.declared.Written.the-variants.{Bytes as Written·Bytes}
 use Rattle.exchange.specs.Exchange.{wordOf, foundOf, headOf, longestOf, layoutNumber, isOver}
-use Rattle.sync.specs.Message.{fieldsOf, lengthOf, knownOf, namedOf, readOf, usedOf}
+use Rattle.sync.specs.Message.{fieldsOf, lengthOf, knownOf, namedOf, readOf}
 use Rattle.sync_write.specs.Write.{layoutOf, isOther, headBytes, messageBytes, Words, Outcome, writeKnown, writeNamed, writeOf}
 use Rattle.sync.proofs.ReadLaws.{Known-says, says}
 use Rattle.exchange.proofs.ExchangeLaws.{found-word, found-id, heads}
@@ -80,65 +80,76 @@ pub record Comes-back (x : Exchange) (m : Message) (text : List ℕ) (n : ℕ) (
   pub read-is : readOf x s ≡ Whole m at (length text) n
   pub text-is : part s at (length text) ≡ text
 
-module _ (m : Message) (text rest : List ℕ) where
-  pub message-length : length (messageBytes m text) ≡ headOf (layoutOf (m .fields)) + length text
-  unfolding messageBytes
-  message-length = rw (length-append, length-head)
+pub message-length : (m : Message) (text : List ℕ) → length (messageBytes m text) ≡ headOf (layoutOf (m .fields)) + length text
+unfolding messageBytes
+message-length m text = rw (length-append, length-head)
 
+-- the bytes of a message, with anything behind them
+module _ (m : Message) (text rest : List ℕ) where
   head-rest : messageBytes m text ++ rest ≡ headBytes m (length text) ++ (text ++ rest)
   unfolding messageBytes
   head-rest = append-assoc (headBytes m (length text)) text rest
 
-  -- the bytes of a message, with anything behind them, are read as that message
+  all-here : length (messageBytes m text ++ rest) ≡ headOf (layoutOf (m .fields)) + length text + length rest
+  all-here = rw (length-append, message-length)
+
+  word-here : numOf (part (messageBytes m text ++ rest) 0 4) ≡ wordOf (m .id)
+  word-here = rw head-rest (read-word m (length text) (text ++ rest))
+
+  length-here : length text ≤ longestOf (layoutOf (m .fields)) → lengthOf (layoutOf (m .fields)) (messageBytes m text ++ rest) ≡ length text
+  length-here long = rw head-rest (read-length m (length text) (text ++ rest) long)
+
+  fields-here : Words (m .fields) → fieldsOf (layoutOf (m .fields)) (messageBytes m text ++ rest) ≡ m .fields
+  fields-here h = rw head-rest (read-fields m (length text) (text ++ rest) h)
+
+  pub text-here : part (messageBytes m text ++ rest) (headOf (layoutOf (m .fields))) (length text) ≡ text
+  unfolding part
+  text-here =
+      rw (
+        head-rest,
+        drop-at (headBytes m (length text)) (text ++ rest) (headOf (layoutOf (m .fields))) (length-head m (length text)),
+        take-append-seam,
+      )
+
+  -- they are read as that message
   pub not-refused : (x : Exchange) → Words (m .fields) → foundOf x (wordOf (m .id)) ≡ Known (m .id) (layoutOf (m .fields))
       → isOver (m .id) (length text) ≡ false → length text ≤ longestOf (layoutOf (m .fields))
       → readOf x (messageBytes m text ++ rest) ≡ Whole m (headOf (layoutOf (m .fields))) (length text) (headOf (layoutOf (m .fields)) + length text)
   unfolding readOf namedOf knownOf
   not-refused x h found small long =
-      let n = length text in
       let k = layoutOf (m .fields) in
       let s = messageBytes m text ++ rest in
-      let ls : length s ≡ headOf k + n + length rest = rw (length-append, message-length) in
-      let hk = heads k in
-      let ew : numOf (part s 0 4) ≡ wordOf (m .id) = rw head-rest (read-word m n (text ++ rest)) in
-      let el : lengthOf k s ≡ n = rw head-rest (read-length m n (text ++ rest) long) in
-      let ef : fieldsOf k s ≡ m .fields = rw head-rest (read-fields m n (text ++ rest) h) in
+      let a = all-here in
+      let b = heads k in
       rw (
         le-ltb (length s) 4 (omega arith),
-        ew,
+        word-here,
         found,
         le-ltb (length s) (headOf k) (omega arith),
-        el,
+        length-here long,
         small,
-        le-ltb (length s) (headOf k + n) (omega arith),
-        ef,
+        le-ltb (length s) (headOf k + length text) (omega arith),
+        fields-here h,
       )
 
-  -- what the writer refuses by 14 or 15, the reader does: an id that is not the exchange's, and data over its maximum
+  -- what the writer refuses by 14, the reader does
   pub foreign-read : (x : Exchange) → foundOf x (wordOf (m .id)) ≡ Unknown → readOf x (messageBytes m text ++ rest) ≡ InvalidId
   unfolding readOf namedOf
   foreign-read x unknown =
-      let s = messageBytes m text ++ rest in
-      let ls : length s ≡ headOf (layoutOf (m .fields)) + length text + length rest = rw (length-append, message-length) in
-      let hk = heads (layoutOf (m .fields)) in
-      let ew : numOf (part s 0 4) ≡ wordOf (m .id) = rw head-rest (read-word m (length text) (text ++ rest)) in
-      rw (le-ltb (length s) 4 (omega arith), ew, unknown)
+      let a = all-here in
+      let b = heads (layoutOf (m .fields)) in
+      rw (le-ltb (length (messageBytes m text ++ rest)) 4 (omega arith), word-here, unknown)
 
+  -- and so by 15
   pub over-read : (x : Exchange) → foundOf x (wordOf (m .id)) ≡ Known (m .id) (layoutOf (m .fields)) → isOver (m .id) (length text) ≡ true
       → length text ≤ longestOf (layoutOf (m .fields)) → readOf x (messageBytes m text ++ rest) ≡ DataTooLarge
   unfolding readOf namedOf knownOf
   over-read x found over long =
       let k = layoutOf (m .fields) in
       let s = messageBytes m text ++ rest in
-      let ls : length s ≡ headOf k + length text + length rest = rw (length-append, message-length) in
-      let hk = heads k in
-      let ew : numOf (part s 0 4) ≡ wordOf (m .id) = rw head-rest (read-word m (length text) (text ++ rest)) in
-      let el : lengthOf k s ≡ length text = rw head-rest (read-length m (length text) (text ++ rest) long) in
-      rw (le-ltb (length s) 4 (omega arith), ew, found, le-ltb (length s) (headOf k) (omega arith), el, over)
-
-  pub text-behind : part (messageBytes m text ++ rest) (headOf (layoutOf (m .fields))) (length text) ≡ text
-  unfolding part
-  text-behind = rw (head-rest, drop-at (headBytes m (length text)) (text ++ rest) (headOf (layoutOf (m .fields))) (length-head m (length text)), take-append-seam)
+      let a = all-here in
+      let b = heads k in
+      rw (le-ltb (length s) 4 (omega arith), word-here, found, le-ltb (length s) (headOf k) (omega arith), length-here long, over)
 
 -- what the writer made, with anything behind it, is read as the message that was written, its text with it
 pub write-read : (x : Exchange) (m : Message) (text out : List ℕ) (n : ℕ) (rest : List ℕ) → Words (m .fields) → writeOf x m text out .result ≡ Written·Bytes n
@@ -147,7 +158,7 @@ unfolding part
 write-read x m text out n rest h e =
     let w = written-says x m text out n e in
     let b = messageBytes m text in
-    let l : length b ≡ n = message-length m text rest ∙ sym (w .count-is) in
+    let l : length b ≡ n = message-length m text ∙ sym (w .count-is) in
     let r = w .room in
     let t : take n (writeOf x m text out .out) ≡ b =
     ap (take n) (w .out-is) ∙ ap (λ (j : ℕ). take j (put out 0 b)) (sym l) ∙ part-put-same out 0 b (omega (arith, w .count-is)) in
@@ -155,7 +166,7 @@ write-read x m text out n rest h e =
     rw t (record {
       at = headOf (layoutOf (m .fields));
       read-is = rw (w .count-is) i;
-      text-is = text-behind m text rest;
+      text-is = text-here m text rest;
     })
 
 -- ---- reading, then writing

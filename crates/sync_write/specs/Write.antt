@@ -1,4 +1,4 @@
--- The sync messages to bytes (SYNC.TXT, "SYNC SERVICES", "LIST", "SEND", "RECV"; change request E3). Assumes nothing.
+-- The sync messages to bytes (SYNC.TXT; change request E3 where it is silent). Assumes nothing.
 use Prim.Native.Nat.{ℕ, _+_, _≤_, _<_, _^_}
 use mathlib.Core.Path.{_≡_}
 use mathlib.Core.Bool.{Bool, cond, not}
@@ -6,7 +6,6 @@ use mathlib.Core.List.{List, [], _∷_, _++_}
 use lib.Dec.{ltb, eqb}
 use lib.ListN.{length, getD}
 use Rattle.le.specs.Le.{bytesOf, put}
-use Rattle.exchange.specs.declared.SyncId.the-variants.{List as LIST, Recv as RECV, Send as SEND}
 use Rattle.exchange.specs.declared.Layout.{Layout}
 use Rattle.exchange.specs.declared.Layout.the-variants.{Text, Number, Stat, Entry, End}
 use Rattle.exchange.specs.declared.Found.{Found}
@@ -32,6 +31,7 @@ layoutOf (EndFields s n) = End
 unfoldable pub isOther : Layout → Fields → Bool
 isOther k f = not (eqb (layoutNumber k) (layoutNumber (layoutOf f)))
 
+-- mode, size and time
 unfoldable pub statBytes : StatV1 → List ℕ
 statBytes s = bytesOf 4 (s .mode .0) ++ bytesOf 4 (s .size) ++ bytesOf 4 (s .mtime)
 
@@ -43,7 +43,7 @@ fieldBytes (StatFields s) n = statBytes s
 fieldBytes (EntryFields s) n = statBytes s ++ bytesOf 4 n
 fieldBytes (EndFields s a) n = statBytes s ++ bytesOf 4 a
 
--- the numbers of fields, and that each is of 32 bits
+-- the numbers of fields
 unfoldable pub numbersOf : Fields → List ℕ
 numbersOf TextFields = []
 numbersOf (NumberFields a) = a ∷ []
@@ -51,9 +51,11 @@ numbersOf (StatFields s) = s .mode .0 ∷ s .size ∷ s .mtime ∷ []
 numbersOf (EntryFields s) = s .mode .0 ∷ s .size ∷ s .mtime ∷ []
 numbersOf (EndFields s a) = s .mode .0 ∷ s .size ∷ s .mtime ∷ a ∷ []
 
+-- each is of 32 bits
 abbrev pub Words : Fields → Type 0
 Words f = (k : ℕ) → getD (numbersOf f) k 0 < 2 ^ 32
 
+-- what stands ahead of a text of n bytes
 unfoldable pub headBytes : Message → ℕ → List ℕ
 headBytes m n = bytesOf 4 (wordOf (m .id)) ++ fieldBytes (m .fields) n
 
@@ -71,7 +73,7 @@ pub record Outcome : Type 0 where
   pub result : Written
   pub out : List ℕ
 
--- fields of another layout are refused by 14, data over the maximum by 15, a text too long for its field and a short buffer by 9
+-- fields of another layout are refused by 14, data over the maximum by 15, a text past its length's field and a short buffer by 9
 unfoldable pub writeKnown : Layout → Message → List ℕ → List ℕ → Outcome
 writeKnown k m text out =
     cond (isOther k (m .fields)) (record { result = NotWritten; out = out })
@@ -80,11 +82,12 @@ writeKnown k m text out =
     (cond (ltb (length out) (headOf k + length text)) (record { result = OutShort; out = out })
     (record { result = Bytes (headOf k + length text); out = put out 0 (messageBytes m text) }))))
 
--- an id that is not the exchange's is refused by 14
+-- 14 for an id that is not the exchange's, or what its layout gives
 unfoldable pub writeNamed : Message → List ℕ → List ℕ → Found → Outcome
 writeNamed m text out (Known id k) = writeKnown k m text out
 writeNamed m text out Unknown = record { result = NotWritten; out = out }
 
+-- writing a message of an exchange with this text to out
 unfoldable pub writeOf : Exchange → Message → List ℕ → List ℕ → Outcome
 writeOf x m text out = writeNamed m text out (foundOf x (wordOf (m .id)))
 
