@@ -2,14 +2,13 @@
 --     stable   what the decoder answers, but waiting, it answers whatever arrives behind
 --     pieces   pieces decoded one after the other give what the whole gives
 use mathlib.Core.Path.{_≡_, refl, ap, subst, _∙_}
-use mathlib.Core.Bool.{true, false, not}
+use mathlib.Core.Bool.{false, not}
 use mathlib.Core.List.{List, _++_}
 use Prim.Native.Nat.{ℕ, _+_, _≤_, _<_, min}
 use native.Mathlib.Omega.{arith}
 use lib.Dec.{T, eqb, ltb}
 use lib.ListN.{length, length-append}
 use borrow.Author.Tests.{ltb-false, le-ltb}
-use Rattle.le.specs.Le.{part}
 use Rattle.le.proofs.Parts.{by-test, part-front}
 use Rattle.protocol.specs.declared.command.Command.{Command}
 use Rattle.protocol.specs.declared.command.CommandWord.{CommandWord}
@@ -19,8 +18,8 @@ use Rattle.protocol.specs.declared.packet.Decoded.{Decoded}
 use Rattle.protocol.specs.declared.packet.Decoded.the-variants.{Waiting, InvalidCommand, InvalidMagic, PayloadTooLarge, InvalidChecksum, Accepted}
 use Rattle.protocol.specs.Command.{magicOf, commandOf}
 use Rattle.protocol.specs.Message.{messageOf}
-use Rattle.protocol.specs.Packet.{maxPayload, payloadOf, checkPasses, packetOf, knownOf, namedOf, decodeOf, numberOf, usedOf}
-use Rattle.stream.specs.Stream.{Answer, waiting, message, refused, isWaiting, joined, readAll, begun, feedAll, Stable}
+use Rattle.protocol.specs.Packet.{maxPayload, payloadOf, checkPasses, packetOf, knownOf, namedOf, decodeOf, usedOf}
+use Rattle.stream.specs.Stream.{waiting, message, refused, isWaiting, joined, readAll, begun, feedAll, Stable}
 use Rattle.stream.proofs.Cut.{cut}
 use Rattle.frame_stream.specs.Frames.{Got, answerOf, receives}
 

@@ -1,5 +1,4 @@
-use native.Mathlib.Omega.{arith}
-use mathlib.Core.Path.{refl, sym, subst, _∙_}
+use mathlib.Core.Path.{refl, sym, _∙_}
 use Rattle.sync_write.specs.Write.{writeNamed}
 use Rattle.sync_write.proofs.WriteLaws.{named-write}
 use borrow.Author.Needs.{needs}

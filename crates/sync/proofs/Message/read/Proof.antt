@@ -1,7 +1,7 @@
 use Rattle.sync.proofs.ReadLaws.{named-read}
 use native.Mathlib.Omega.{arith}
 use mathlib.Core.Path.{sym, _∙_}
-use borrow.Author.Tests.{lt-ltb, le-ltb}
+use borrow.Author.Tests.{lt-ltb}
 use Rattle.sync.specs.Message.{readOf, namedOf}
 use borrow.Author.Needs.{needs}
 use Rattle.sync.proofs.Message.read.Statement.{statement}
