@@ -1,27 +1,33 @@
 -- However frames are cut, the frames and the unfinished rest, or the refusal and what is left, are the same. Assumes nothing.
---     stable   what the decoder answers, but waiting, it answers whatever arrives behind
---     pieces   pieces decoded one after the other give what the whole gives
+--     stable         what the decoder answers, but waiting, it answers whatever arrives behind
+--     pieces         pieces decoded one after the other give what the whole gives
+--     sent-arrives   frames encoded one behind the other, in whatever pieces they arrive, are decoded as they were
 use mathlib.Core.Path.{_≡_, refl, ap, subst, _∙_}
 use mathlib.Core.Bool.{false, not}
-use mathlib.Core.List.{List, _++_}
+use mathlib.Core.List.{List, [], _∷_, _++_}
 use Prim.Native.Nat.{ℕ, _+_, _≤_, _<_, min}
 use native.Mathlib.Omega.{arith}
 use lib.Dec.{T, eqb, ltb}
 use lib.ListN.{length, length-append}
 use borrow.Author.Tests.{ltb-false, le-ltb}
 use Rattle.le.proofs.Parts.{by-test, part-front}
+use Rattle.protocol.specs.declared.checksum.Checksum.{Checksum}
 use Rattle.protocol.specs.declared.command.Command.{Command}
 use Rattle.protocol.specs.declared.command.CommandWord.{CommandWord}
 use Rattle.protocol.specs.declared.command.CommandWord.the-variants.{Known, Invalid}
 use Rattle.protocol.specs.declared.message.Message.{Message}
 use Rattle.protocol.specs.declared.packet.Decoded.{Decoded}
 use Rattle.protocol.specs.declared.packet.Decoded.the-variants.{Waiting, InvalidCommand, InvalidMagic, PayloadTooLarge, InvalidChecksum, Accepted}
+use Rattle.protocol.specs.Checksum.{checkFor}
 use Rattle.protocol.specs.Command.{magicOf, commandOf}
 use Rattle.protocol.specs.Message.{messageOf}
 use Rattle.protocol.specs.Packet.{maxPayload, payloadOf, checkPasses, packetOf, knownOf, namedOf, decodeOf, usedOf}
-use Rattle.stream.specs.Stream.{waiting, message, refused, isWaiting, joined, readAll, begun, feedAll, Stable}
-use Rattle.stream.proofs.Cut.{cut}
-use Rattle.frame_stream.specs.Frames.{Got, answerOf, receives}
+use Rattle.protocol.proofs.ChecksumLaws.{check-small}
+use Rattle.protocol.proofs.PacketLaws.{frame-length}
+use Rattle.protocol.proofs.RoundTrip.{frame-payload, not-refused, own-check}
+use Rattle.stream.specs.Stream.{waiting, message, refused, isWaiting, joined, readAll, begun, feedAll, Stable, more, Every, none-left, each, written, ReadsBack}
+use Rattle.stream.proofs.Cut.{cut, arrives}
+use Rattle.frame_stream.specs.Frames.{Got, answerOf, receives, bytesFor, Sendable}
 
 -- what is used is here
 module _ (s : List ℕ) (limit : ℕ) where
@@ -134,3 +140,25 @@ stable limit =
 
 pub pieces : (limit : ℕ) (cs : List (List ℕ)) → feedAll (receives limit) begun cs ≡ readAll (receives limit) (joined cs)
 pieces limit cs = cut (receives limit) (stable limit) cs
+
+-- a frame that was sent is decoded, whatever is behind it
+reads-back : (limit : ℕ) (k : Checksum) (g : Got) → Sendable limit g → ReadsBack (receives limit) (bytesFor k) g
+unfolding receives answerOf usedOf bytesFor
+reads-back limit k g s rest =
+    let p = g .packet in
+    let check = checkFor k (g .payload) in
+    let d = not-refused (p .command) (p .arg0) (p .arg1) (g .payload) rest check limit (s .arg0-fits) (s .arg1-fits) (check-small k (g .payload)) (s .within) (own-check k (g .payload)) in
+    rw (
+      d,
+      frame-payload (p .command) (p .arg0) (p .arg1) (g .payload) rest check,
+      frame-length (p .command) (p .arg0) (p .arg1) (g .payload) check,
+      ← s .length-is,
+    )
+
+all-read-back : (limit : ℕ) (k : Checksum) (gs : List Got) → Every (Sendable limit) gs → Every (ReadsBack (receives limit) (bytesFor k)) gs
+all-read-back limit k [] none-left = none-left
+all-read-back limit k (g ∷ gs) (each s e) = each (reads-back limit k g s) (all-read-back limit k gs e)
+
+pub sent-arrives : (limit : ℕ) (k : Checksum) (gs : List Got) (cs : List (List ℕ)) → Every (Sendable limit) gs → joined cs ≡ written (bytesFor k) gs
+    → feedAll (receives limit) begun cs ≡ record { messages = gs; ending = more; rest = [] }
+sent-arrives limit k gs cs e j = arrives (receives limit) (stable limit) (bytesFor k) gs cs (all-read-back limit k gs e) j
