@@ -1,0 +1,224 @@
+// The sync messages for C (include/adb_sync.h). Every buffer comes as a pointer and its length. An answer that is too short is
+// refused by 8 ahead of all else, and nothing is touched.
+use exchange::Exchange;
+use exchange::Found;
+use exchange::Layout;
+use sync::Fields;
+use sync::FileMode;
+use sync::Message;
+use sync::Read;
+use sync::StatV1;
+use sync_write::Written;
+use sync_write::write;
+ghost use mathlib.Core.Path.{_≡_};
+ghost use Prim.Native.Nat.{_≤_};
+ghost use lib.ListN.{length};
+ghost use Rattle.le.specs.Le.{put};
+ghost use Rattle.sync_write.specs.Write.{Writes};
+ghost use Rattle.exchange.specs.Exchange.{foundOf};
+ghost use Rattle.sync.specs.declared.Read.the-variants.{Whole};
+ghost use Rattle.adb_sync.specs.Export.{valuesOf, saidOf, wordsBytes, valuesIn, saidBytes, statFrom, fieldsFrom, writeFound, countOf, readsIn, ReadDoes, writesIn, WriteDoes};
+
+// A message's numbers in the order of its bytes, 0 where it has none.
+pub struct Values {
+    pub a: u32,
+    pub b: u32,
+    pub c: u32,
+    pub d: u32,
+}
+
+// What is said of received bytes.
+pub struct Said {
+    pub used: usize,
+    pub at: usize,
+    pub length: usize,
+    pub word: u32,
+    pub values: Values,
+}
+
+fn stat_values(stat: StatV1, last: u32) -> Values
+    ensures { λ r. ⌜ r ≡ record { a = stat .mode .0; b = stat .size; c = stat .mtime; d = last } ⌝ }
+{
+    let mode = stat.mode;
+    Values {
+        a: mode.0,
+        b: stat.size,
+        c: stat.mtime,
+        d: last,
+    }
+}
+
+fn one(a: u32) -> Values
+    ensures { λ r. ⌜ r ≡ record { a = a; b = 0; c = 0; d = 0 } ⌝ }
+{
+    Values {
+        a,
+        b: 0,
+        c: 0,
+        d: 0,
+    }
+}
+
+fn values_of(fields: Fields) -> Values
+    ensures { λ r. ⌜ r ≡ valuesOf fields ⌝ }
+{
+    match fields {
+        Fields::Text => one(0),
+        Fields::Number(n) => one(n),
+        Fields::Stat(stat) => stat_values(stat, 0),
+        Fields::Entry(stat) => stat_values(stat, 0),
+        Fields::End(stat, last) => stat_values(stat, last),
+    }
+}
+
+fn nothing() -> Said
+    ensures { λ r. ⌜ r ≡ record { used = 0; at = 0; length = 0; word = 0; values = record { a = 0; b = 0; c = 0; d = 0 } } ⌝ }
+{
+    let values = one(0);
+    Said {
+        used: 0,
+        at: 0,
+        length: 0,
+        word: 0,
+        values,
+    }
+}
+
+fn message_said(message: Message, at: usize, length: usize, used: usize) -> Said
+    ensures { λ r. ⌜ r ≡ saidOf (Whole message at length used) ⌝ }
+{
+    let id = message.id;
+    let fields = message.fields;
+    let word = id.word();
+    let values = values_of(fields);
+    Said {
+        used,
+        at,
+        length,
+        word,
+        values,
+    }
+}
+
+fn said_of(read: Read) -> Said
+    ensures { λ r. ⌜ r ≡ saidOf read ⌝ }
+{
+    match read {
+        Read::Waiting => nothing(),
+        Read::InvalidId => nothing(),
+        Read::DataTooLarge => nothing(),
+        Read::Whole {
+            message,
+            at,
+            length,
+            used,
+        } => message_said(message, at, length, used),
+    }
+}
+
+fn put_values(answer: &mut [u8], v: Values)
+    requires { ⌜ 64 ≤ length (now answer) ⌝ }
+    ensures { λ _. ⌜ now (answer .exit) ≡ put (now (answer .entry)) 32 (wordsBytes (valuesIn v)) ⌝ }
+{
+    le::put_u64(answer, 32, v.a as u64);
+    le::put_u64(answer, 40, v.b as u64);
+    le::put_u64(answer, 48, v.c as u64);
+    le::put_u64(answer, 56, v.d as u64);
+}
+
+// The answer's 64 bytes.
+fn put_said(answer: &mut [u8], said: Said)
+    requires { ⌜ 64 ≤ length (now answer) ⌝ }
+    ensures { λ _. ⌜ now (answer .exit) ≡ put (now (answer .entry)) 0 (saidBytes said) ⌝ }
+{
+    le::put_usize(answer, 0, said.used);
+    le::put_usize(answer, 8, said.at);
+    le::put_usize(answer, 16, said.length);
+    le::put_u64(answer, 24, said.word as u64);
+    put_values(answer, said.values);
+}
+
+// The message of an exchange that received bytes begin with.
+#[no_mangle]
+pub extern "C" fn adb_sync_read(exchange: u32, received: &[u8], answer: &mut [u8]) -> u32
+    ensures { λ r. ⌜ ReadDoes (readsIn exchange (now (received .entry)) (now (answer .entry))) r (now (answer .exit)) ⌝ }
+{
+    if answer.len() < 64 {
+        return 8;
+    }
+    let read = Message::read(Exchange::from_number(exchange), received);
+    put_said(answer, said_of(read));
+    read.number()
+}
+
+fn stat_from(v: Values) -> StatV1
+    ensures { λ r. ⌜ r ≡ statFrom v ⌝ }
+{
+    let mode = FileMode(v.a);
+    StatV1 {
+        mode,
+        size: v.b,
+        mtime: v.c,
+    }
+}
+
+fn fields_from(layout: Layout, v: Values) -> Fields
+    ensures { λ r. ⌜ r ≡ fieldsFrom layout v ⌝ }
+{
+    match layout {
+        Layout::Text => Fields::Text,
+        Layout::Number => Fields::Number(v.a),
+        Layout::Stat => Fields::Stat(stat_from(v)),
+        Layout::Entry => Fields::Entry(stat_from(v)),
+        Layout::End => Fields::End(stat_from(v), v.d),
+    }
+}
+
+fn write_found(exchange: Exchange, word: u32, v: Values, text: &[u8], out: &mut [u8]) -> Written
+    ensures { λ r. ⌜ Writes (writeFound exchange v (now (text .entry)) (now (out .entry)) (foundOf exchange word)) r (now (out .exit)) ⌝ }
+{
+    let found = exchange.find(word);
+    match found {
+        Found::Known(id, layout) => {
+            let fields = fields_from(layout, v);
+            let message = Message { id, fields };
+            write(message, exchange, text, out)
+        }
+        Found::Unknown => Written::InvalidId,
+    }
+}
+
+fn count_of(written: Written) -> usize
+    ensures { λ r. ⌜ r ≡ countOf written ⌝ }
+{
+    match written {
+        Written::Bytes(n) => n,
+        Written::InvalidId => 0,
+        Written::DataTooLarge => 0,
+        Written::OutShort => 0,
+    }
+}
+
+// A message of an exchange, written at the start of out. Numbers that its layout has not are not looked at.
+#[no_mangle]
+pub extern "C" fn adb_sync_write(
+    exchange: u32,
+    id: u32,
+    a: u32,
+    b: u32,
+    c: u32,
+    d: u32,
+    text: &[u8],
+    out: &mut [u8],
+    answer: &mut [u8],
+) -> u32
+    ensures { λ r. ⌜ WriteDoes (writesIn exchange id (record { a = a; b = b; c = c; d = d }) (now (text .entry)) (now (out .entry)) (now (answer .entry))) r (now (out .exit)) (now (answer .exit)) ⌝ }
+{
+    if answer.len() < 8 {
+        return 8;
+    }
+    let v = Values { a, b, c, d };
+    let written = write_found(Exchange::from_number(exchange), id, v, text, out);
+    le::put_usize(answer, 0, count_of(written));
+    written.number()
+}
