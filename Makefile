@@ -1,26 +1,32 @@
-# C programs on the static library. `rt` proves the library before it writes it.
+# C programs on the static libraries. `rt` proves a library before it writes it.
 #   make demo      forty simulated peers on one connection, in each mode (ARGS: seed, MiB)
+#   make files     a file by the sync messages to a simulated device and back, in each mode (ARGS: seed, bytes)
 #   make damage    the calls on broken states and short buffers
 #   make compare   the port against libadb: SEEDS names libadb's folder libadb/src (ARGS: first and last seed, calls)
 #   make bench     the port's and libadb's time side by side: SEEDS as for compare (ARGS: repeats, ms each, rows)
-#   make header    adb.h alone, as C99 and as C++
-#   make example   the example in adb.h, compiled
-#   make seam      what the tests run of these: header, example, damage, and a demonstration of 1 MiB
+#   make header    adb.h and adb_sync.h, each alone and in either order, as C99 and as C++
+#   make example   the examples in adb.h and adb_sync.h, compiled
+#   make seam      what the tests run of these: header, example, damage, a demonstration of 1 MiB, and a file of 200,003 bytes
 #   make clean     removes what these targets built, but not what is proved
-# CC, CXX and CFLAGS may be set, as CFLAGS='-O1 -g -fsanitize=address,undefined'; LIB names another static library.
+# CC, CXX and CFLAGS may be set, as CFLAGS='-O1 -g -fsanitize=address,undefined'; LIB and SYNC_LIB name
+# other static libraries.
 
 CFLAGS ?= -O2
 CXX ?= c++
 WARNINGS = -Wall -Wextra -pedantic
 OUT = target/c
 LIB = target/staticlib/libadb.a
+SYNC_LIB = target/staticlib/libadb_sync.a
 
-.PHONY: all demo damage compare bench header example seam clean
+.PHONY: all demo files damage compare bench header example seam clean
 
-all: header example demo damage
+all: header example demo files damage
 
 demo: $(OUT)/demo
 	$(OUT)/demo $(ARGS)
+
+files: $(OUT)/files
+	$(OUT)/files $(ARGS)
 
 damage: $(OUT)/damage
 	$(OUT)/damage $(ARGS)
@@ -34,31 +40,48 @@ compare:
 bench:
 	@LIB='$(OTHER_LIB)' bench/run.sh $(ARGS)
 
-header:
-	printf '#include <adb.h>\n#include <adb.h>\ntypedef int one;\n' | $(CC) -std=c99 $(WARNINGS) -Werror -Iinclude -x c -fsyntax-only -
-	printf '#include <adb.h>\n#include <adb.h>\ntypedef int one;\n' | $(CXX) $(WARNINGS) -Werror -Iinclude -x c++ -fsyntax-only -
+# Which headers, in which order.
+INCLUDED = adb.h,adb.h adb_sync.h,adb_sync.h adb.h,adb_sync.h adb_sync.h,adb.h
 
-# The lines of the example, without the comment's own.
+header:
+	@for two in $(INCLUDED); do \
+	    text=$$(printf '#include <%s>\n' $$(echo $$two | tr , ' ')) && \
+	    printf '%s\ntypedef int one;\n' "$$text" | $(CC) -std=c99 $(WARNINGS) -Werror -Iinclude -x c -fsyntax-only - && \
+	    printf '%s\ntypedef int one;\n' "$$text" | $(CXX) $(WARNINGS) -Werror -Iinclude -x c++ -fsyntax-only - && \
+	    echo "header: $$two" || exit 1; \
+	done
+
+# The lines of an example, without the comment's own.
+EXAMPLE = sed -n '/^ \*     uint8_t in\[/,/^ \*     }$$/s/^ \*     /    /p'
+
 example:
 	@mkdir -p $(OUT)
-	{ cat tests/example.head; sed -n '/^ \*     uint8_t in\[/,/^ \*     }$$/s/^ \*     /    /p' include/adb.h; echo '}'; } > $(OUT)/example.c
+	{ cat tests/example.head; $(EXAMPLE) include/adb.h; echo '}'; } > $(OUT)/example.c
 	grep -q 'adb_read(' $(OUT)/example.c
 	$(CC) -std=c99 $(WARNINGS) -Werror -Iinclude -c $(OUT)/example.c -o $(OUT)/example.o
+	{ cat tests/example_sync.head; $(EXAMPLE) include/adb_sync.h; echo '}'; } > $(OUT)/example_sync.c
+	grep -q 'adb_sync_read(' $(OUT)/example_sync.c
+	$(CC) -std=c99 $(WARNINGS) -Werror -Iinclude -c $(OUT)/example_sync.c -o $(OUT)/example_sync.o
 
-seam: header example $(OUT)/damage $(OUT)/demo
+seam: header example $(OUT)/damage $(OUT)/demo $(OUT)/files
 	$(OUT)/damage
 	$(OUT)/demo 1 1
+	$(OUT)/files 1 200003
 
 $(OUT)/demo: demo/demo.c include/adb.h $(LIB)
 	@mkdir -p $(OUT)
 	$(CC) -std=c99 $(WARNINGS) $(CFLAGS) -Iinclude demo/demo.c $(LIB) -o $@
 
+$(OUT)/files: demo/files.c include/adb.h include/adb_sync.h $(LIB) $(SYNC_LIB)
+	@mkdir -p $(OUT)
+	$(CC) -std=c99 $(WARNINGS) $(CFLAGS) -Iinclude demo/files.c $(LIB) $(SYNC_LIB) -o $@
+
 $(OUT)/damage: tests/damage.c include/adb.h $(LIB)
 	@mkdir -p $(OUT)
 	$(CC) -std=c99 $(WARNINGS) $(CFLAGS) -Iinclude tests/damage.c $(LIB) -o $@
 
-target/staticlib/libadb.a: crates.txt $(shell find crates -name '*.rt' -o -name '*.antt')
-	rt staticlib adb
+target/staticlib/lib%.a: crates.txt $(shell find crates -name '*.rt' -o -name '*.antt')
+	rt staticlib $*
 	@touch $@
 
 clean:
