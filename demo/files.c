@@ -25,6 +25,7 @@
 #define DEVICE 71 /* the device's number for the channel */
 #define PATH "/sdcard/route.bin"
 #define MODE 0100644
+#define SENT PATH ",33188" /* a SEND's text: the mode in decimal */
 #define TIME 1700000000
 #define WHY "No such file or directory"
 
@@ -35,8 +36,6 @@ static void die(const char *what, uint64_t a, uint64_t b)
     printf("FAULT (%s): %s (%" PRIu64 ", %" PRIu64 ")\n", mode, what, a, b);
     exit(1);
 }
-
-/* ---- numbers */
 
 static uint64_t rng;
 
@@ -107,10 +106,10 @@ static struct queue wire, in;            /* frames that the device sent; what of
 static struct queue replies;             /* the host's: bytes that were read from the channel */
 static struct queue file;                /* what the host sends */
 static struct queue heard, due, stored;  /* the device's: bytes of requests, bytes of replies to send, the file's */
-static uint32_t stored_mode, stored_time, host;
+static uint32_t stored_time, host;
 static int64_t credit, owed;             /* what the device may send, and what it has to acknowledge */
 static int opened, quit, closed;
-static uint64_t frames_in, frames_out, messages_out, messages_in;
+static uint64_t frames_in, frames_out, messages_out, messages_in, idle;
 
 /* One message; both ends write with this. Its bytes go to q. */
 static void say(struct queue *q, uint32_t exchange, uint32_t id, const uint32_t v[4], const void *text, size_t n)
@@ -122,17 +121,11 @@ static void say(struct queue *q, uint32_t exchange, uint32_t id, const uint32_t 
 
 static const uint32_t none[4];
 
+static size_t piece(size_t left) { return least(left, chance(50) ? ADB_SYNC_DATA_MAX : between(1, ADB_SYNC_DATA_MAX)); }
+
 /* ---- the device: requests */
 
 static int is_text(const uint8_t *text, size_t n, const char *s) { return n == strlen(s) && !memcmp(text, s, n); }
-
-static void device_lists(void)
-{
-    const uint32_t dir[4] = { 0040755, 4096, TIME, 0 }, it[4] = { stored_mode, (uint32_t)count(&stored), stored_time, 0 };
-    say(&due, ADB_SYNC_LIST_REPLIES, ADB_SYNC_ID_DENT, dir, ".", 1);
-    say(&due, ADB_SYNC_LIST_REPLIES, ADB_SYNC_ID_DENT, it, "route.bin", 9);
-    say(&due, ADB_SYNC_LIST_REPLIES, ADB_SYNC_ID_DONE, none, NULL, 0);
-}
 
 static void device_gives(const uint8_t *path, size_t n)
 {
@@ -140,37 +133,32 @@ static void device_gives(const uint8_t *path, size_t n)
         say(&due, ADB_SYNC_RECV_REPLIES, ADB_SYNC_ID_FAIL, none, WHY, strlen(WHY));
         return;
     }
-    for (size_t at = 0; at < count(&stored);) {
-        const size_t k = least(count(&stored) - at, chance(50) ? ADB_SYNC_DATA_MAX : between(1, ADB_SYNC_DATA_MAX));
+    for (size_t at = 0, k; at < count(&stored); at += k) {
+        k = piece(count(&stored) - at);
         say(&due, ADB_SYNC_RECV_REPLIES, ADB_SYNC_ID_DATA, none, front(&stored) + at, k);
-        at += k;
     }
     say(&due, ADB_SYNC_RECV_REPLIES, ADB_SYNC_ID_DONE, none, NULL, 0);
 }
 
 static void device_does(uint32_t id, uint32_t number, const uint8_t *text, size_t n)
 {
-    const uint32_t it[4] = { stored_mode, (uint32_t)count(&stored), stored_time, 0 };
-    char sent[64];
-    const size_t k = (size_t)snprintf(sent, sizeof sent, "%s,%d", PATH, MODE);
-    switch (id) {
-    case ADB_SYNC_ID_STAT:
+    const uint32_t dir[4] = { 0040755, 4096, TIME, 0 }, it[4] = { MODE, (uint32_t)count(&stored), stored_time, 0 };
+    if (id == ADB_SYNC_ID_STAT) {
         say(&due, ADB_SYNC_STAT_REPLIES, ADB_SYNC_ID_STAT, is_text(text, n, PATH) ? it : none, NULL, 0);
-        break;
-    case ADB_SYNC_ID_LIST: device_lists(); break;
-    case ADB_SYNC_ID_RECV: device_gives(text, n); break;
-    case ADB_SYNC_ID_SEND:
-        if (n != k || memcmp(text, sent, k)) die("a SEND's text", n, k);
-        stored_mode = (uint32_t)strtoul(strrchr(sent, ',') + 1, NULL, 10);
-        break;
-    case ADB_SYNC_ID_DATA: add(&stored, text, n); break;
-    case ADB_SYNC_ID_DONE:
+    } else if (id == ADB_SYNC_ID_LIST) {
+        say(&due, ADB_SYNC_LIST_REPLIES, ADB_SYNC_ID_DENT, dir, ".", 1);
+        say(&due, ADB_SYNC_LIST_REPLIES, ADB_SYNC_ID_DENT, it, "route.bin", 9);
+        say(&due, ADB_SYNC_LIST_REPLIES, ADB_SYNC_ID_DONE, none, NULL, 0);
+    } else if (id == ADB_SYNC_ID_RECV) {
+        device_gives(text, n);
+    } else if (id == ADB_SYNC_ID_SEND) {
+        if (!is_text(text, n, SENT)) die("a SEND's text", n, strlen(SENT));
+    } else if (id == ADB_SYNC_ID_DATA) {
+        add(&stored, text, n);
+    } else if (id == ADB_SYNC_ID_DONE) {
         stored_time = number;
         say(&due, ADB_SYNC_SEND_REPLIES, ADB_SYNC_ID_OKAY, none, NULL, 0);
-        break;
-    case ADB_SYNC_ID_QUIT: quit = 1; break;
-    default: die("a request that was not made", id, 0);
-    }
+    } else quit = 1;
 }
 
 /* ---- the device: frames */
@@ -194,6 +182,7 @@ static void device_okays(uint32_t n)
     uint8_t bytes[4];
     put32(bytes, n);
     device_sends("OKAY", bytes, delayed ? 4 : 0);
+    owed = 0;
 }
 
 static void device_hears(const uint8_t *f, size_t n)
@@ -226,10 +215,7 @@ static void device_acts(void)
         device_does(adb_sync_id(said), adb_sync_value(said, 0), front(&heard) + adb_sync_at(said), adb_sync_length(said));
         drop(&heard, n);
     } else if (r != ADB_SYNC_WAITING) die("a request is refused", r, 0);
-    if (owed > (delayed ? 9000 : 0) || (owed && chance(20))) {
-        device_okays((uint32_t)owed);
-        owed = 0;
-    }
+    if (owed > (delayed ? 9000 : 0) || (owed && chance(20))) device_okays((uint32_t)owed);
     if (opened && credit > 0 && count(&due)) {
         n = least(count(&due), chance(50) ? MAX_PAYLOAD : between(1, MAX_PAYLOAD));
         device_sends("WRTE", front(&due), n);
@@ -240,6 +226,8 @@ static void device_acts(void)
     n = least(count(&wire), chance(30) ? between(0, 30) : between(0, 7000));
     add(&in, front(&wire), n);
     drop(&wire, n);
+    idle = n || r == ADB_SYNC_MESSAGE ? 0 : idle + 1;
+    if (idle > 1000000) die("nothing moves any more", count(&due), count(&heard));
 }
 
 /* ---- the host: the channel */
@@ -257,11 +245,11 @@ static void after(void)
 
 static void host_opens(void)
 {
-    uint32_t r;
-    do {
+    uint32_t r = ADB_WAITING;
+    while (r == ADB_WAITING) {
         r = adb_open(LENT, (const uint8_t *)"sync:", 6, front(&in), count(&in), out, sizeof out, answer, sizeof answer);
         after();
-    } while (r == ADB_WAITING);
+    }
     if (r != ADB_DONE) die("open is refused", r, 0);
     slot = adb_answer_slot(answer);
     local = adb_answer_local(answer);
@@ -305,16 +293,14 @@ static uint8_t got[ADB_SYNC_ANSWER_LEN];
 static uint32_t reply(uint32_t exchange)
 {
     uint32_t r;
-    while ((r = adb_sync_read(exchange, front(&replies), count(&replies), got, sizeof got)) == ADB_SYNC_WAITING) {
-        const uint32_t said_by_read = host_reads();
-        if (said_by_read != ADB_DONE && said_by_read != ADB_WAITING) die("read is refused", said_by_read, 0);
-    }
+    while ((r = adb_sync_read(exchange, front(&replies), count(&replies), got, sizeof got)) == ADB_SYNC_WAITING)
+        if ((r = host_reads()) != ADB_DONE && r != ADB_WAITING) die("read is refused", r, 0);
     if (r != ADB_SYNC_MESSAGE) die("a reply is refused", r, exchange);
     messages_in++;
     return adb_sync_id(got);
 }
 
-/* It has this id, these numbers and, unless it is data, this text. */
+/* It has this id, these numbers and this text. */
 static void expect(uint32_t exchange, uint32_t id, const uint32_t v[4], const char *text)
 {
     const uint32_t found = reply(exchange);
@@ -327,13 +313,10 @@ static void expect(uint32_t exchange, uint32_t id, const uint32_t v[4], const ch
 
 static void host_sends_file(void)
 {
-    char text[64];
-    const int n = snprintf(text, sizeof text, "%s,%d", PATH, MODE);
-    asks(ADB_SYNC_ID_SEND, 0, text, (size_t)n);
-    for (size_t at = 0; at < count(&file);) {
-        const size_t k = least(count(&file) - at, chance(50) ? ADB_SYNC_DATA_MAX : between(1, ADB_SYNC_DATA_MAX));
+    asks(ADB_SYNC_ID_SEND, 0, SENT, strlen(SENT));
+    for (size_t at = 0, k; at < count(&file); at += k) {
+        k = piece(count(&file) - at);
         asks(ADB_SYNC_ID_DATA, 0, front(&file) + at, k);
-        at += k;
     }
     asks(ADB_SYNC_ID_DONE, TIME, NULL, 0);
     expect(ADB_SYNC_SEND_REPLIES, ADB_SYNC_ID_OKAY, none, "");
@@ -384,6 +367,7 @@ static void run(int with_delayed, uint64_t seed, size_t size)
     mode = delayed ? "delayed" : "plain";
     rng = seed * 2 + (uint64_t)delayed;
     credit = owed = opened = quit = closed = 0;
+    stored_time = 0;
     frames_in = frames_out = messages_in = messages_out = 0;
     rx_len = adb_rx_store_len(CHANNELS, MAX_PAYLOAD, MAX_RX);
     opens_len = adb_open_store_len(CHANNELS, MAX_PAYLOAD);
