@@ -238,7 +238,10 @@ static void device_acts(void)
 static void after(void)
 {
     const size_t written = (size_t)adb_answer_written(answer);
-    for (size_t at = 0; at < written; at += ADB_HEADER_LEN + adb_le32(out + at + 12)) device_hears(out + at, adb_le32(out + at + 12));
+    for (size_t at = 0, n; at < written; at += ADB_HEADER_LEN + n) {
+        n = adb_le32(out + at + 12);
+        device_hears(out + at, n);
+    }
     drop(&in, (size_t)adb_answer_used(answer));
     device_acts();
 }
@@ -259,7 +262,8 @@ static void host_writes(struct queue *q)
 {
     while (count(q)) {
         const size_t n = least(count(q), chance(20) ? between(1, 40) : between(1, MAX_BUF));
-        const uint32_t r = adb_write(LENT, slot, local, front(q), n, front(&in), count(&in), out, sizeof out, answer, sizeof answer);
+        const uint32_t r = adb_write(LENT, slot, local, front(q), n, front(&in), count(&in), out, sizeof out, answer,
+                                     sizeof answer);
         if (r != ADB_DONE && r != ADB_WAITING) die("write is refused", r, 0);
         if (r == ADB_DONE) drop(q, adb_answer_length(answer));
         after();
@@ -328,7 +332,8 @@ static void host_receives_file(void)
     asks(ADB_SYNC_ID_RECV, 0, PATH, strlen(PATH));
     while (reply(ADB_SYNC_RECV_REPLIES) == ADB_SYNC_ID_DATA) {
         const size_t n = adb_sync_length(got);
-        if (n > count(&file) - at || memcmp(front(&replies) + adb_sync_at(got), front(&file) + at, n)) die("a byte received", at, n);
+        if (n > count(&file) - at) die("more bytes than were sent", at, n);
+        if (memcmp(front(&replies) + adb_sync_at(got), front(&file) + at, n)) die("a byte received", at, n);
         at += n;
         drop(&replies, adb_sync_used(got));
     }
