@@ -1,12 +1,13 @@
 -- What the exported functions cite. Assumes nothing.
-use mathlib.Core.Path.{_≡_, refl, ap, _∙_}
+use mathlib.Core.Path.{_≡_, refl, sym, ap, _∙_}
 use mathlib.Core.List.{List, [], _∷_, _++_, append-assoc, append-nil}
-use Prim.Native.Nat.{ℕ, _+_, _≤_, _<_}
+use Prim.Native.Nat.{ℕ, _+_, _^_, _≤_, _<_}
 use native.Mathlib.Omega.{arith}
-use lib.ListN.{length, length-append}
+use lib.ListN.{length, drop, length-append}
+use lib.Seq.{take-at, drop-at}
 use borrow.Author.Tests.{lt-ltb, le-ltb}
 use Rattle.le.specs.Le.{bytesOf, put}
-use Rattle.le.proofs.Laws.{length-bytesOf}
+use Rattle.le.proofs.Laws.{length-bytesOf, write-read}
 use Rattle.le.proofs.Parts.{put-put}
 use Rattle.exchange.specs.declared.SyncId.{SyncId}
 use Rattle.exchange.specs.declared.Layout.{Layout}
@@ -21,7 +22,7 @@ use Rattle.sync.specs.Message.{readOf, numberOf}
 use Rattle.sync_write.specs.Write.{writeOf, Writes, writtenNumber}
 use Rattle.adb_sync.specs.declared.Values.{Values}
 use Rattle.adb_sync.specs.declared.Said.{Said}
-use Rattle.adb_sync.specs.Export.{saidOf, wordsBytes, valuesIn, saidBytes, readsIn, ReadDoes, fieldsFrom, writeFound, countOf, counted, writesIn, WriteDoes}
+use Rattle.adb_sync.specs.Export.{saidOf, wordsBytes, wordsIn, valuesIn, numbersIn, saidBytes, readsIn, ReadDoes, fieldsFrom, writeFound, countOf, counted, writesIn, WriteDoes}
 
 -- ---- the answer's bytes
 
@@ -71,17 +72,48 @@ said-put d d₄ d₅ s k e₄ e₅ =
     e₅ ∙ ap (λ (l : List ℕ). put l 32 b) e₄ ∙ put-put d 0 a 32 b (omega arith) (omega arith)
     ∙ ap (put d 0) (words-join (s .used) (s .at) (s .length) (s .word) (valuesIn (s .values)))
 
+-- ---- what the bytes say
+
+-- each is of 64 bits
+abbrev Small : List ℕ → Type 0
+Small [] = Unit {0}
+Small (x ∷ l) = (x < 2 ^ 64) × Small l
+
+-- numbers, read from their bytes
+words-back : (l rest : List ℕ) → Small l → wordsIn (length l) (wordsBytes l ++ rest) ≡ l
+unfolding wordsIn wordsBytes
+words-back [] rest h = refl
+words-back (x ∷ l) rest h =
+    let b = length-bytesOf 8 x in
+    let r = wordsBytes l ++ rest in
+    rw (append-assoc (bytesOf 8 x) (wordsBytes l) rest, take-at (bytesOf 8 x) r 8 b, drop-at (bytesOf 8 x) r 8 b, write-read 8 x (h .0), words-back l rest (h .1))
+
+put-back : (d l : List ℕ) → Small l → wordsIn (length l) (put d 0 (wordsBytes l)) ≡ l
+unfolding put
+put-back d l h = words-back l (drop (0 + length (wordsBytes l)) d) h
+
+pub said-back : (d d₅ : List ℕ) (s : Said) → s .used < 2 ^ 64 → s .at < 2 ^ 64 → s .length < 2 ^ 64 → s .word < 2 ^ 32 → s .values .a < 2 ^ 32 → s .values .b < 2 ^ 32
+    → s .values .c < 2 ^ 32 → s .values .d < 2 ^ 32 → d₅ ≡ put d 0 (saidBytes s) → wordsIn 8 d₅ ≡ numbersIn s
+unfolding saidBytes
+said-back d d₅ s u p n w a b c e is =
+    ap (wordsIn 8) is ∙ put-back d (numbersIn s) (u, (p, (n, (omega arith, (omega arith, (omega arith, (omega arith, (omega arith, tt))))))))
+
+pub count-back : (d d₁ : List ℕ) (n : ℕ) → n < 2 ^ 64 → d₁ ≡ put d 0 (bytesOf 8 n) → wordsIn 1 d₁ ≡ n ∷ []
+unfolding wordsBytes
+count-back d d₁ n h is =
+    ap (wordsIn 1) (is ∙ ap (put d 0) (sym (append-nil (bytesOf 8 n)))) ∙ put-back d (n ∷ []) (h, tt)
+
 -- ---- reading
 
 pub read-short : (x : ℕ) (received answer : List ℕ) → length answer < 64 → ReadDoes (readsIn x received answer) 8 answer
 unfolding readsIn
-read-short x received answer h = rw (lt-ltb (length answer) 64 h) (record { number-is = refl; answer-is = refl })
+read-short x received answer h = rw (lt-ltb (length answer) 64 h) (record { number-is = refl; answer-is = refl; said-is = refl })
 
 pub read-done : (x : ℕ) (received answer answer' : List ℕ) (e : Exchange) (r : Read) (s : Said) (n : ℕ) → 64 ≤ length answer → e ≡ exchangeOf x → r ≡ readOf e received
-    → s ≡ saidOf r → answer' ≡ put answer 0 (saidBytes s) → n ≡ numberOf r → ReadDoes (readsIn x received answer) n answer'
+    → s ≡ saidOf r → (answer' ≡ put answer 0 (saidBytes s)) × (wordsIn 8 answer' ≡ numbersIn s) → n ≡ numberOf r → ReadDoes (readsIn x received answer) n answer'
 unfolding readsIn
 read-done x received answer answer' e r s n h ee er es ea en =
-    rw (le-ltb (length answer) 64 h, ← ee, ← er, ← es) (record { number-is = en; answer-is = ea })
+    rw (le-ltb (length answer) 64 h, ← ee, ← er, ← es) (record { number-is = en; answer-is = ea .0; said-is = ea .1 })
 
 -- ---- writing
 
@@ -97,11 +129,11 @@ unknown-write x v text d word e = rw (← e) (record { result-is = refl; out-is 
 module _ (x word : ℕ) (v : Values) (text out answer : List ℕ) where
   pub write-short : length answer < 8 → WriteDoes (writesIn x word v text out answer) 8 out answer
   unfolding writesIn
-  write-short h = rw (lt-ltb (length answer) 8 h) (record { number-is = refl; out-is = refl; answer-is = refl })
+  write-short h = rw (lt-ltb (length answer) 8 h) (record { number-is = refl; out-is = refl; answer-is = refl; said-is = refl })
 
   pub write-done : (out' answer' : List ℕ) (e : Exchange) (r : Written) (k n : ℕ) → 8 ≤ length answer → e ≡ exchangeOf x
-      → Writes (writeFound e v text out (foundOf e word)) r out' → k ≡ countOf r → answer' ≡ put answer 0 (bytesOf 8 k) → n ≡ writtenNumber r
+      → Writes (writeFound e v text out (foundOf e word)) r out' → k ≡ countOf r → k < 2 ^ 64 → answer' ≡ put answer 0 (bytesOf 8 k) → n ≡ writtenNumber r
       → WriteDoes (writesIn x word v text out answer) n out' answer'
   unfolding writesIn counted
-  write-done out' answer' e r k n h ee w ek ea en =
-      rw (le-ltb (length answer) 8 h, ← ee, ← w .result-is, ← ek) (record { number-is = en; out-is = w .out-is; answer-is = ea })
+  write-done out' answer' e r k n h ee w ek small ea en =
+      rw (le-ltb (length answer) 8 h, ← ee, ← w .result-is, ← ek) (record { number-is = en; out-is = w .out-is; answer-is = ea; said-is = count-back answer answer' k small ea })

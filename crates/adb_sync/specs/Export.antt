@@ -1,11 +1,11 @@
 -- What the exported functions of the sync messages leave (docs/ARCHITECTURE.md, "Sync messages"). Assumes nothing.
-use Prim.Native.Nat.{ℕ}
+use Prim.Native.Nat.{ℕ, zero, suc}
 use mathlib.Core.Path.{_≡_}
 use mathlib.Core.Bool.{cond}
 use mathlib.Core.List.{List, [], _∷_, _++_}
 use lib.Dec.{ltb}
-use lib.ListN.{length, getD}
-use Rattle.le.specs.Le.{bytesOf, put}
+use lib.ListN.{length, take, drop, getD}
+use Rattle.le.specs.Le.{numOf, bytesOf, put}
 use Rattle.exchange.specs.declared.Layout.{Layout}
 use Rattle.exchange.specs.declared.Layout.the-variants.{Text, Number, Stat, Entry, End}
 use Rattle.exchange.specs.declared.Found.{Found}
@@ -46,32 +46,44 @@ unfoldable pub wordsBytes : List ℕ → List ℕ
 wordsBytes [] = []
 wordsBytes (x ∷ l) = bytesOf 8 x ++ wordsBytes l
 
+-- the n numbers that bytes begin with
+unfoldable pub wordsIn : ℕ → List ℕ → List ℕ
+wordsIn zero l = []
+wordsIn (suc n) l = numOf (take 8 l) ∷ wordsIn n (drop 8 l)
+
 -- four values in a row
 abbrev pub valuesIn : Values → List ℕ
 valuesIn v = v .a ∷ v .b ∷ v .c ∷ v .d ∷ []
 
--- the answer's 64 bytes
-unfoldable pub saidBytes : Said → List ℕ
-saidBytes s = wordsBytes (s .used ∷ s .at ∷ s .length ∷ s .word ∷ valuesIn (s .values))
+-- the answer's eight numbers
+abbrev pub numbersIn : Said → List ℕ
+numbersIn s = s .used ∷ s .at ∷ s .length ∷ s .word ∷ valuesIn (s .values)
 
--- a read's number, and the answer's bytes after it
+-- its 64 bytes
+unfoldable pub saidBytes : Said → List ℕ
+saidBytes s = wordsBytes (numbersIn s)
+
+-- a read's number, the answer's bytes after it, and the eight numbers that they say
 pub record ReadOutcome : Type 0 where
   pub number : ℕ
   pub answer : List ℕ
+  pub said : List ℕ
 
 -- 8 for an answer under 64 bytes, which is not touched; else what the reader finds
 unfoldable pub readsIn : ℕ → List ℕ → List ℕ → ReadOutcome
 readsIn exchange received answer =
-    cond (ltb (length answer) 64) (record { number = 8; answer = answer })
+    cond (ltb (length answer) 64) (record { number = 8; answer = answer; said = wordsIn 8 answer })
     (record {
       number = numberOf (readOf (exchangeOf exchange) received);
       answer = put answer 0 (saidBytes (saidOf (readOf (exchangeOf exchange) received)));
+      said = numbersIn (saidOf (readOf (exchangeOf exchange) received));
     })
 
--- what a read promises: the number, and every byte of the answer
+-- what a read promises: the number, every byte of the answer, and that these say the definition's numbers (each is below 2^64)
 pub record ReadDoes (o : ReadOutcome) (r : ℕ) (answer : List ℕ) : Type 0 where
   pub number-is : r ≡ o .number
   pub answer-is : answer ≡ o .answer
+  pub said-is : wordsIn 8 answer ≡ o .said
 
 -- ---- writing
 
@@ -99,24 +111,32 @@ countOf NotWritten = 0
 countOf TooLarge = 0
 countOf OutShort = 0
 
--- a write's number, the outgoing bytes and the answer's after it
+-- a write's number, the outgoing bytes and the answer's after it, and the count that these say
 pub record WriteOutcome : Type 0 where
   pub number : ℕ
   pub out : List ℕ
   pub answer : List ℕ
+  pub said : List ℕ
 
 -- what writing gave, with its count in the answer
 unfoldable pub counted : Outcome → List ℕ → WriteOutcome
-counted o answer = record { number = writtenNumber (o .result); out = o .out; answer = put answer 0 (bytesOf 8 (countOf (o .result))) }
+counted o answer =
+    record {
+      number = writtenNumber (o .result);
+      out = o .out;
+      answer = put answer 0 (bytesOf 8 (countOf (o .result)));
+      said = countOf (o .result) ∷ [];
+    }
 
 -- 8 for an answer under 8 bytes, and nothing is touched; else what the writer does
 unfoldable pub writesIn : ℕ → ℕ → Values → List ℕ → List ℕ → List ℕ → WriteOutcome
 writesIn exchange word v text out answer =
-    cond (ltb (length answer) 8) (record { number = 8; out = out; answer = answer })
+    cond (ltb (length answer) 8) (record { number = 8; out = out; answer = answer; said = wordsIn 1 answer })
     (counted (writeFound (exchangeOf exchange) v text out (foundOf (exchangeOf exchange) word)) answer)
 
--- what a write promises: the number, and every byte of out and of the answer
+-- what a write promises: the number, every byte of out and of the answer, and that this says the definition's count
 pub record WriteDoes (o : WriteOutcome) (r : ℕ) (out answer : List ℕ) : Type 0 where
   pub number-is : r ≡ o .number
   pub out-is : out ≡ o .out
   pub answer-is : answer ≡ o .answer
+  pub said-is : wordsIn 1 answer ≡ o .said

@@ -1,6 +1,6 @@
 -- What a read said, handed to a write (proofs/Handed.antt). Assumes nothing.
 use Prim.Native.Nat.{ℕ}
-use mathlib.Core.List.{List}
+use mathlib.Core.List.{List, [], _∷_}
 use lib.ListN.{take}
 use Rattle.le.specs.Le.{bytesOf, part, put}
 use Rattle.adb_sync.specs.declared.Said.{Said}
@@ -18,4 +18,5 @@ usedWritten said received out answer =
       number = 0;
       out = put out 0 (take (said .used) received);
       answer = put answer 0 (bytesOf 8 (said .used));
+      said = said .used ∷ [];
     }

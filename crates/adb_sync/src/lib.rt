@@ -17,7 +17,7 @@ ghost use Rattle.le.specs.Le.{put};
 ghost use Rattle.sync_write.specs.Write.{Writes};
 ghost use Rattle.exchange.specs.Exchange.{foundOf};
 ghost use Rattle.sync.specs.declared.Read.the-variants.{Whole};
-ghost use Rattle.adb_sync.specs.Export.{valuesOf, saidOf, wordsBytes, valuesIn, saidBytes, statFrom, fieldsFrom, writeFound, countOf, readsIn, ReadDoes, writesIn, WriteDoes};
+ghost use Rattle.adb_sync.specs.Export.{valuesOf, saidOf, wordsBytes, wordsIn, valuesIn, numbersIn, saidBytes, statFrom, fieldsFrom, writeFound, countOf, readsIn, ReadDoes, writesIn, WriteDoes};
 
 // A message's numbers in the order of its bytes, 0 where it has none.
 pub struct Values {
@@ -129,7 +129,7 @@ fn put_values(answer: &mut [u8], v: Values)
 // The answer's 64 bytes.
 fn put_said(answer: &mut [u8], said: Said)
     requires { ⌜ 64 ≤ length (now answer) ⌝ }
-    ensures { λ _. ⌜ now (answer .exit) ≡ put (now (answer .entry)) 0 (saidBytes said) ⌝ }
+    ensures { λ _. ⌜ (now (answer .exit) ≡ put (now (answer .entry)) 0 (saidBytes said)) × (wordsIn 8 (now (answer .exit)) ≡ numbersIn said) ⌝ }
 {
     le::put_usize(answer, 0, said.used);
     le::put_usize(answer, 8, said.at);

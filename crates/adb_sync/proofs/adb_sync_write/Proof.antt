@@ -29,7 +29,7 @@ same-length-2 : tie.Need-same-length-2
 same-length-2 c = search needs
 
 returns-2 : tie.Need-returns-2
-returns-2 c = write-done (c .before .before .before .before .before .before .before .before .before .before .before .before .before .before .before .args .exchange) (c .before .before .before .before .before .before .before .before .before .before .before .before .before .before .before .args .id) (record { a = c .before .before .before .before .before .before .before .before .before .before .before .before .before .before .before .args .a; b = c .before .before .before .before .before .before .before .before .before .before .before .before .before .before .before .args .b; c = c .before .before .before .before .before .before .before .before .before .before .before .before .before .before .before .args .c; d = c .before .before .before .before .before .before .before .before .before .before .before .before .before .before .before .args .d }) (c .before .before .before .before .before .before .before .before .before .before .before .before .before .before .before .args .text .now) (c .before .before .before .before .before .before .before .before .before .before .before .before .before .before .before .args .out .now) (c .before .before .before .before .before .before .before .before .before .before .before .before .before .before .before .args .answer .now) _ _ _ (c .before .before .before .before .before .before .before .before .write-found .result) _ _ (omega arith) (c .before .before .before .before .before .before .before .before .before .before .from-number .ensures) (c .before .before .before .before .before .before .before .before .write-found .ensures) (c .before .before .before .before .count-of .ensures) (c .before .before .before .put-usize .ensures) (c .number .ensures)
+returns-2 c = write-done (c .before .before .before .before .before .before .before .before .before .before .before .before .before .before .before .args .exchange) (c .before .before .before .before .before .before .before .before .before .before .before .before .before .before .before .args .id) (record { a = c .before .before .before .before .before .before .before .before .before .before .before .before .before .before .before .args .a; b = c .before .before .before .before .before .before .before .before .before .before .before .before .before .before .before .args .b; c = c .before .before .before .before .before .before .before .before .before .before .before .before .before .before .before .args .c; d = c .before .before .before .before .before .before .before .before .before .before .before .before .before .before .before .args .d }) (c .before .before .before .before .before .before .before .before .before .before .before .before .before .before .before .args .text .now) (c .before .before .before .before .before .before .before .before .before .before .before .before .before .before .before .args .out .now) (c .before .before .before .before .before .before .before .before .before .before .before .before .before .before .before .args .answer .now) _ _ _ (c .before .before .before .before .before .before .before .before .write-found .result) _ _ (omega arith) (c .before .before .before .before .before .before .before .before .before .before .from-number .ensures) (c .before .before .before .before .before .before .before .before .write-found .ensures) (c .before .before .before .before .count-of .ensures) (search needs) (c .before .before .before .put-usize .ensures) (c .number .ensures)
 
 pub adb-sync-write-spec : {M : Type 1} → statement M
 adb-sync-write-spec =

@@ -1,5 +1,5 @@
 use native.Mathlib.Omega.{arith}
-use Rattle.adb_sync.proofs.ExportLaws.{words-put, said-put}
+use Rattle.adb_sync.proofs.ExportLaws.{words-put, said-put, said-back}
 use borrow.Author.Needs.{needs}
 use Rattle.adb_sync.proofs.put_said.Statement.{statement}
 use Rattle.adb_sync.proofs.put_said.Tie as tie
@@ -26,7 +26,9 @@ same-length : tie.Need-same-length
 same-length c = search needs
 
 returns : tie.Need-returns
-returns c = said-put (c .before .before .before .before .before .before .before .before .before .before .before .before .before .before .before .before .before .before .before .before .before .before .args .answer .now) _ _ (c .before .before .before .before .before .before .before .before .before .before .before .before .before .before .before .before .before .before .before .before .before .before .args .said) (c .before .before .before .before .before .before .before .before .before .before .before .before .before .before .before .before .before .before .before .before .before .before .pre) (words-put (c .before .before .before .before .before .before .before .before .before .before .before .before .before .before .before .before .before .before .before .before .before .before .args .answer .now) 0 _ _ _ _ _ _ _ _ (omega (arith, c .before .before .before .before .before .before .before .before .before .before .before .before .before .before .before .before .before .before .before .before .before .before .pre)) (c .before .before .before .before .before .before .before .before .before .before .before .before .before .before .before .before .before .before .before .put-usize .ensures) (c .before .before .before .before .before .before .before .before .before .before .before .before .before .before .before .put-usize2 .ensures) (c .before .before .before .before .before .before .before .before .before .before .before .put-usize3 .ensures) (c .before .before .before .before .before .before .put-u64 .ensures)) (c .before .before .put-values .ensures)
+returns c =
+    let said = said-put (c .before .before .before .before .before .before .before .before .before .before .before .before .before .before .before .before .before .before .before .before .before .before .args .answer .now) _ _ (c .before .before .before .before .before .before .before .before .before .before .before .before .before .before .before .before .before .before .before .before .before .before .args .said) (c .before .before .before .before .before .before .before .before .before .before .before .before .before .before .before .before .before .before .before .before .before .before .pre) (words-put (c .before .before .before .before .before .before .before .before .before .before .before .before .before .before .before .before .before .before .before .before .before .before .args .answer .now) 0 _ _ _ _ _ _ _ _ (omega (arith, c .before .before .before .before .before .before .before .before .before .before .before .before .before .before .before .before .before .before .before .before .before .before .pre)) (c .before .before .before .before .before .before .before .before .before .before .before .before .before .before .before .before .before .before .before .put-usize .ensures) (c .before .before .before .before .before .before .before .before .before .before .before .before .before .before .before .put-usize2 .ensures) (c .before .before .before .before .before .before .before .before .before .before .before .put-usize3 .ensures) (c .before .before .before .before .before .before .put-u64 .ensures)) (c .before .before .put-values .ensures) in
+    (said, said-back (c .before .before .before .before .before .before .before .before .before .before .before .before .before .before .before .before .before .before .before .before .before .before .args .answer .now) _ (c .before .before .before .before .before .before .before .before .before .before .before .before .before .before .before .before .before .before .before .before .before .before .args .said) (search needs) (search needs) (search needs) (search needs) (search needs) (search needs) (search needs) (search needs) said)
 
 pub put-said-spec : {M : Type 1} → statement M
 put-said-spec =
