@@ -68,11 +68,11 @@ seam: header example $(OUT)/damage $(OUT)/demo $(OUT)/files
 	$(OUT)/demo 1 1
 	$(OUT)/files 1 200003
 
-$(OUT)/demo: demo/demo.c include/adb.h $(LIB)
+$(OUT)/demo: demo/demo.c demo/common.h include/adb.h $(LIB)
 	@mkdir -p $(OUT)
 	$(CC) -std=c99 $(WARNINGS) $(CFLAGS) -Iinclude demo/demo.c $(LIB) -o $@
 
-$(OUT)/files: demo/files.c include/adb.h include/adb_sync.h $(LIB) $(SYNC_LIB)
+$(OUT)/files: demo/files.c demo/common.h include/adb.h include/adb_sync.h $(LIB) $(SYNC_LIB)
 	@mkdir -p $(OUT)
 	$(CC) -std=c99 $(WARNINGS) $(CFLAGS) -Iinclude demo/files.c $(LIB) $(SYNC_LIB) -o $@
 

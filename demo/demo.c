@@ -8,12 +8,8 @@
  * device sends arrives cut at random places.
  */
 #define _POSIX_C_SOURCE 199309L
-#include <adb.h>
+#include "common.h"
 
-#include <inttypes.h>
-#include <stdio.h>
-#include <stdlib.h>
-#include <string.h>
 #include <time.h>
 
 #define PEERS 40
@@ -29,30 +25,6 @@
 #define GUARD 32
 #define MARK 0xA5
 
-static const char *mode = "start";
-
-static void die(const char *what, uint64_t a, uint64_t b)
-{
-    printf("FAULT (%s): %s (%" PRIu64 ", %" PRIu64 ")\n", mode, what, a, b);
-    exit(1);
-}
-
-/* ---- numbers */
-
-static uint64_t rng;
-
-static uint64_t mix(uint64_t z)
-{
-    z = (z ^ (z >> 30)) * 0xbf58476d1ce4e5b9u;
-    z = (z ^ (z >> 27)) * 0x94d049bb133111ebu;
-    return z ^ (z >> 31);
-}
-
-static uint64_t below(uint64_t n) { return mix(rng += 0x9e3779b97f4a7c15u) % n; }
-static uint64_t between(uint64_t a, uint64_t b) { return a + below(b - a + 1); }
-static int chance(unsigned percent) { return below(100) < percent; }
-static uint64_t least(uint64_t a, uint64_t b) { return a < b ? a : b; }
-
 /* Byte `at` of a stream: each channel has its own in each direction, so that bytes that are lost, repeated or mixed up show. */
 static uint8_t stream(uint64_t key, uint64_t at) { return (uint8_t)(mix(key + at / 8 * 0x9e3779b97f4a7c15u) >> at % 8 * 8); }
 
@@ -65,18 +37,6 @@ static void expect(const uint8_t *p, size_t n, uint64_t key, uint64_t at, const 
 {
     for (size_t i = 0; i < n; i++)
         if (p[i] != stream(key, at + i)) die(what, at + i, p[i]);
-}
-
-static void put32(uint8_t *p, uint32_t v)
-{
-    for (int i = 0; i < 4; i++) p[i] = (uint8_t)(v >> 8 * i);
-}
-
-static uint32_t sum(const uint8_t *p, size_t n)
-{
-    uint32_t s = 0;
-    for (size_t i = 0; i < n; i++) s += p[i];
-    return s;
 }
 
 static uint64_t now_ns(void)
@@ -172,13 +132,8 @@ static void device_sends(int command, uint32_t arg0, uint32_t arg1, const uint8_
     }
     if (wire_len + ADB_HEADER_LEN + n > WIRE_MAX) die("the device's queue is full", wire_len, n);
     f = wire + wire_len;
-    memcpy(f, names[command], 4);
-    put32(f + 4, arg0);
-    put32(f + 8, arg1);
-    put32(f + 12, (uint32_t)n);
     /* A check of 0 is not compared. */
-    put32(f + 16, chance(50) ? sum(payload, n) : 0);
-    put32(f + 20, ~adb_le32(f));
+    put_head(f, names[command], arg0, arg1, n, chance(50) ? sum(payload, n) : 0);
     if (n) memcpy(f + ADB_HEADER_LEN, payload, n);
     wire_len += ADB_HEADER_LEN + n;
     t.frames_in++;

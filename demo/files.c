@@ -7,13 +7,9 @@
  * simulated here: it speaks frames and reads requests and writes replies by adb_sync.h too. What either end sends arrives cut
  * at random places, messages and frames alike.
  */
-#include <adb.h>
-#include <adb_sync.h>
+#include "common.h"
 
-#include <inttypes.h>
-#include <stdio.h>
-#include <stdlib.h>
-#include <string.h>
+#include <adb_sync.h>
 
 #define CHANNELS 2
 #define MAX_PAYLOAD 4096
@@ -28,40 +24,6 @@
 #define SENT PATH ",33188" /* a SEND's text: the mode in decimal */
 #define TIME 1700000000
 #define WHY "No such file or directory"
-
-static const char *mode = "start";
-
-static void die(const char *what, uint64_t a, uint64_t b)
-{
-    printf("FAULT (%s): %s (%" PRIu64 ", %" PRIu64 ")\n", mode, what, a, b);
-    exit(1);
-}
-
-static uint64_t rng;
-
-static uint64_t below(uint64_t n)
-{
-    uint64_t z = rng += 0x9e3779b97f4a7c15u;
-    z = (z ^ (z >> 30)) * 0xbf58476d1ce4e5b9u;
-    z = (z ^ (z >> 27)) * 0x94d049bb133111ebu;
-    return (z ^ (z >> 31)) % n;
-}
-
-static uint64_t between(uint64_t a, uint64_t b) { return a + below(b - a + 1); }
-static int chance(unsigned percent) { return below(100) < percent; }
-static size_t least(uint64_t a, uint64_t b) { return (size_t)(a < b ? a : b); }
-
-static void put32(uint8_t *p, uint32_t v)
-{
-    for (int i = 0; i < 4; i++) p[i] = (uint8_t)(v >> 8 * i);
-}
-
-static uint32_t sum(const uint8_t *p, size_t n)
-{
-    uint32_t s = 0;
-    for (size_t i = 0; i < n; i++) s += p[i];
-    return s;
-}
 
 /* ---- queues of bytes: what is there stands from `from` to `len` */
 
@@ -166,12 +128,7 @@ static void device_does(uint32_t id, uint32_t number, const uint8_t *text, size_
 static void device_sends(const char *command, const uint8_t *payload, size_t n)
 {
     uint8_t head[ADB_HEADER_LEN];
-    memcpy(head, command, 4);
-    put32(head + 4, DEVICE);
-    put32(head + 8, host);
-    put32(head + 12, (uint32_t)n);
-    put32(head + 16, sum(payload, n));
-    put32(head + 20, ~adb_le32(head));
+    put_head(head, command, DEVICE, host, n, sum(payload, n));
     add(&wire, head, sizeof head);
     add(&wire, payload, n);
     frames_in++;
