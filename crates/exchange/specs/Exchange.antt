@@ -31,18 +31,9 @@ lettersOf FAIL = 70 ∷ 65 ∷ 73 ∷ 76 ∷ []
 unfoldable pub wordOf : SyncId → ℕ
 wordOf id = numOf (lettersOf id)
 
--- "Each chunk must not be larger than 64k" (SEND, RECV)
+-- more than the 64k that one DATA may have (SYNC.TXT, SEND and RECV)
 unfoldable pub isOver : SyncId → ℕ → Bool
-isOver LIST n = false
-isOver RECV n = false
-isOver SEND n = false
-isOver STAT n = false
-isOver DATA n = ltb 65_536 n
-isOver DONE n = false
-isOver QUIT n = false
-isOver DENT n = false
-isOver OKAY n = false
-isOver FAIL n = false
+isOver id n = cond (eqb (wordOf id) (wordOf DATA)) (ltb 65_536 n) false
 
 -- bytes ahead of the text: the id, and one word, three or four
 unfoldable pub headOf : Layout → ℕ

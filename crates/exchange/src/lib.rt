@@ -62,18 +62,10 @@ impl SyncId {
     pub fn is_over(self, n: usize) -> bool
         ensures { λ r. ⌜ r ≡ isOver self n ⌝ }
     {
-        match self {
-            SyncId::List => false,
-            SyncId::Recv => false,
-            SyncId::Send => false,
-            SyncId::Stat => false,
-            SyncId::Data => n > SYNC_DATA_MAX,
-            SyncId::Done => false,
-            SyncId::Quit => false,
-            SyncId::Dent => false,
-            SyncId::Okay => false,
-            SyncId::Fail => false,
+        if self.word() == ID_DATA {
+            return n > SYNC_DATA_MAX;
         }
+        false
     }
 }
 
