@@ -1,4 +1,4 @@
--- The ids of the sync messages and the exchanges that have them (SYNC.TXT; change request E3 for QUIT, FAIL and the
+-- The ids of the sync messages and the exchanges that have them (SYNC.TXT; docs/SCOPE.md, 10, for QUIT, FAIL and the
 -- numbers of a listing's DONE). Assumes nothing.
 use Prim.Native.Nat.{ℕ}
 use mathlib.Core.Bool.{Bool, false, cond}
@@ -67,23 +67,23 @@ pub record Row : Type 0 where
 abbrev pub row : SyncId → Layout → Row
 row i k = record { id = i; layout = k }
 
--- ours (SYNC.TXT, "The following sync requests are accepted", and SEND for DATA and DONE; change request E3 for QUIT)
+-- ours (SYNC.TXT, "The following sync requests are accepted", and SEND for DATA and DONE; docs/SCOPE.md, 10, for QUIT)
 unfoldable pub requests : List Row
 requests = row LIST Text ∷ row RECV Text ∷ row SEND Text ∷ row STAT Text ∷ row DATA Text ∷ row DONE Number ∷ row QUIT Number ∷ []
 
--- the replies to LIST (SYNC.TXT, LIST; change request E3 for the four numbers of DONE)
+-- the replies to LIST (SYNC.TXT, LIST; docs/SCOPE.md, 10, for the four numbers of DONE)
 unfoldable pub listReplies : List Row
 listReplies = row DENT Entry ∷ row DONE End ∷ []
 
--- the reply to STAT (change request E3)
+-- the reply to STAT (docs/SCOPE.md, 10)
 unfoldable pub statReplies : List Row
 statReplies = row STAT Stat ∷ []
 
--- the replies to RECV (SYNC.TXT, RECV; change request E3 for FAIL)
+-- the replies to RECV (SYNC.TXT, RECV; docs/SCOPE.md, 10, for FAIL)
 unfoldable pub recvReplies : List Row
 recvReplies = row DATA Text ∷ row DONE Number ∷ row FAIL Text ∷ []
 
--- the replies to SEND (SYNC.TXT, SEND; change request E3 for FAIL)
+-- the replies to SEND (SYNC.TXT, SEND; docs/SCOPE.md, 10, for FAIL)
 unfoldable pub sendReplies : List Row
 sendReplies = row OKAY Number ∷ row FAIL Text ∷ []
 

@@ -1,4 +1,4 @@
--- The sync messages from bytes (SYNC.TXT; change request E3 where it is silent). Assumes nothing.
+-- The sync messages from bytes (SYNC.TXT; docs/SCOPE.md, 10, where it is silent). Assumes nothing.
 use Prim.Native.Nat.{ℕ, _+_}
 use mathlib.Core.Bool.{cond}
 use mathlib.Core.List.{List}
@@ -18,7 +18,7 @@ use Rattle.sync.specs.declared.Read.{Read}
 use Rattle.sync.specs.declared.Read.the-variants.{Waiting, InvalidId, DataTooLarge, Whole}
 use Rattle.exchange.specs.Exchange.{isOver, headOf, foundOf}
 
--- mode, size and time behind the id (SYNC.TXT, LIST, of a DENT; change request E3 of a STAT reply)
+-- mode, size and time behind the id (SYNC.TXT, LIST, of a DENT; docs/SCOPE.md, 10, of a STAT reply)
 unfoldable pub statOf : List ℕ → StatV1
 statOf s = record { mode = record { 0 = numOf (part s 4 4) }; size = numOf (part s 8 4); mtime = numOf (part s 12 4) }
 

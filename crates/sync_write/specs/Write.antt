@@ -1,4 +1,4 @@
--- The sync messages to bytes (SYNC.TXT; change request E3 where it is silent). Assumes nothing.
+-- The sync messages to bytes (SYNC.TXT; docs/SCOPE.md, 10, where it is silent). Assumes nothing.
 use Prim.Native.Nat.{ℕ, _+_, _≤_, _<_, _^_}
 use mathlib.Core.Path.{_≡_}
 use mathlib.Core.Bool.{Bool, cond, not}
