@@ -1,7 +1,7 @@
 # C programs on the static libraries. `rt` proves a library before it writes it.
 #   make demo      forty simulated peers on one connection, in each mode (ARGS: seed, MiB)
 #   make files     a file by the sync messages to a simulated device and back, in each mode (ARGS: seed, bytes)
-#   make damage    the calls on broken states and short buffers
+#   make damage    the calls on broken states and short buffers; the sync messages on any bytes
 #   make compare   the port against libadb: SEEDS names libadb's folder libadb/src (ARGS: first and last seed, calls)
 #   make bench     the port's and libadb's time side by side: SEEDS as for compare (ARGS: repeats, ms each, rows)
 #   make header    adb.h and adb_sync.h, each alone and in either order, as C99 and as C++
@@ -28,8 +28,9 @@ demo: $(OUT)/demo
 files: $(OUT)/files
 	$(OUT)/files $(ARGS)
 
-damage: $(OUT)/damage
+damage: $(OUT)/damage $(OUT)/damage_sync
 	$(OUT)/damage $(ARGS)
+	$(OUT)/damage_sync $(ARGS)
 
 # compare.sh and run.sh make the default library themselves.
 OTHER_LIB = $(if $(filter-out target/staticlib/libadb.a,$(LIB)),$(abspath $(LIB)))
@@ -63,8 +64,9 @@ example:
 	grep -q 'adb_sync_read(' $(OUT)/example_sync.c
 	$(CC) -std=c99 $(WARNINGS) -Werror -Iinclude -c $(OUT)/example_sync.c -o $(OUT)/example_sync.o
 
-seam: header example $(OUT)/damage $(OUT)/demo $(OUT)/files
+seam: header example $(OUT)/damage $(OUT)/damage_sync $(OUT)/demo $(OUT)/files
 	$(OUT)/damage
+	$(OUT)/damage_sync
 	$(OUT)/demo 1 1
 	$(OUT)/files 1 200003
 
@@ -79,6 +81,10 @@ $(OUT)/files: demo/files.c demo/common.h include/adb.h include/adb_sync.h $(LIB)
 $(OUT)/damage: tests/damage.c include/adb.h $(LIB)
 	@mkdir -p $(OUT)
 	$(CC) -std=c99 $(WARNINGS) $(CFLAGS) -Iinclude tests/damage.c $(LIB) -o $@
+
+$(OUT)/damage_sync: tests/damage_sync.c include/adb_sync.h $(SYNC_LIB)
+	@mkdir -p $(OUT)
+	$(CC) -std=c99 $(WARNINGS) $(CFLAGS) -Iinclude tests/damage_sync.c $(SYNC_LIB) -o $@
 
 target/staticlib/lib%.a: crates.txt $(shell find crates -name '*.rt' -o -name '*.antt')
 	rt staticlib $*

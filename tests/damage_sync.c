@@ -1,0 +1,184 @@
+/* The sync messages on any bytes, against a reader and a writer that are written here again from docs/SCOPE.md, 10: every
+ * exchange and two numbers that name none, every id and some that are none, texts of every kind of length, cut anywhere,
+ * answers and outgoing buffers of every length. Guard bytes stand around what is lent. Prints counts; exit status 1 on a fault.
+ *
+ *   damage_sync [SEED [CALLS]]
+ */
+#include <adb_sync.h>
+
+#include <inttypes.h>
+#include <stdio.h>
+#include <stdlib.h>
+#include <string.h>
+
+#define GUARD 16
+#define MARK 0xA5
+#define ROOM (ADB_SYNC_HEAD_MAX + ADB_SYNC_DATA_MAX + 64)
+
+static uint64_t rng;
+
+static uint64_t below(uint64_t n)
+{
+    uint64_t z = rng += 0x9e3779b97f4a7c15u;
+    z = (z ^ (z >> 30)) * 0xbf58476d1ce4e5b9u;
+    z = (z ^ (z >> 27)) * 0x94d049bb133111ebu;
+    return (z ^ (z >> 31)) % n;
+}
+
+static void die(const char *what, uint64_t a, uint64_t b)
+{
+    printf("FAULT: %s (%" PRIu64 ", %" PRIu64 ")\n", what, a, b);
+    exit(1);
+}
+
+static void put(uint8_t *p, uint64_t v, int n)
+{
+    for (int i = 0; i < n; i++) p[i] = (uint8_t)(v >> 8 * i);
+}
+
+static uint32_t get32(const uint8_t *p) { return p[0] | (uint32_t)p[1] << 8 | (uint32_t)p[2] << 16 | (uint32_t)p[3] << 24; }
+
+/* ---- the messages: how many numbers each has, and whether the last of its words is a text's length */
+
+struct row { uint32_t exchange; const char *id; int numbers, text; };
+
+static const struct row rows[] = {
+    { 0, "LIST", 0, 1 }, { 0, "RECV", 0, 1 }, { 0, "SEND", 0, 1 }, { 0, "STAT", 0, 1 }, { 0, "DATA", 0, 1 },
+    { 0, "DONE", 1, 0 }, { 0, "QUIT", 1, 0 }, { 1, "DENT", 3, 1 }, { 1, "DONE", 4, 0 }, { 2, "STAT", 3, 0 },
+    { 3, "DATA", 0, 1 }, { 3, "DONE", 1, 0 }, { 3, "FAIL", 0, 1 }, { 4, "OKAY", 1, 0 }, { 4, "FAIL", 0, 1 },
+};
+
+#define ROWS (sizeof rows / sizeof *rows)
+
+static const struct row *found(uint32_t exchange, const uint8_t *id)
+{
+    for (size_t i = 0; i < ROWS; i++)
+        if (rows[i].exchange == exchange && !memcmp(rows[i].id, id, 4)) return &rows[i];
+    return NULL;
+}
+
+/* The number of a read, and its eight numbers. */
+static uint32_t reads(uint32_t exchange, const uint8_t *s, size_t n, uint64_t v[8])
+{
+    memset(v, 0, 8 * sizeof *v);
+    if (n < 4) return 100;
+    const struct row *m = found(exchange, s);
+    if (!m) return 14;
+    const size_t head = 4 * (size_t)(1 + m->numbers + m->text);
+    if (n < head) return 100;
+    const size_t text = m->text ? get32(s + head - 4) : 0;
+    if (!memcmp(m->id, "DATA", 4) && text > 65536) return 15;
+    if (n - head < text) return 100;
+    v[0] = head + text, v[1] = head, v[2] = text, v[3] = get32(s);
+    for (int i = 0; i < m->numbers; i++) v[4 + i] = get32(s + 4 + 4 * i);
+    return 0;
+}
+
+/* The number of a write, and the message's bytes in `out`, whose length goes to *n. */
+static uint32_t writes(uint32_t exchange, uint32_t id, const uint32_t v[4], const uint8_t *text, size_t len, size_t room,
+                       uint8_t *out, size_t *n)
+{
+    uint8_t word[4];
+    put(word, id, 4);
+    const struct row *m = found(exchange, word);
+    *n = 0;
+    if (!m) return 14;
+    const size_t head = 4 * (size_t)(1 + m->numbers + m->text);
+    if (!memcmp(m->id, "DATA", 4) && len > 65536) return 15;
+    if ((!m->text && len > 0) || room < head + len) return 9;
+    memcpy(out, word, 4);
+    for (int i = 0; i < m->numbers; i++) put(out + 4 + 4 * i, v[i], 4);
+    if (m->text) put(out + head - 4, len, 4);
+    if (len) memcpy(out + head, text, len);
+    *n = head + len;
+    return 0;
+}
+
+/* ---- lent buffers */
+
+static uint8_t in[ROOM], text[ROOM], made[ROOM], out[2 * GUARD + ROOM], answer[2 * GUARD + 80];
+
+static void mark(uint8_t *p, size_t n) { memset(p, MARK, n); }
+
+static void held(const uint8_t *p, size_t from, size_t to, const char *what)
+{
+    for (size_t i = from; i < to; i++)
+        if (p[i] != MARK) die(what, i, p[i]);
+}
+
+static uint32_t some(void) { return below(4) ? (uint32_t)below(300) : (uint32_t)below(UINT64_C(1) << 32); }
+
+/* Mostly short; now and then at DATA's end. */
+static size_t some_length(void) { return below(40) ? (size_t)below(40) : 65534 + (size_t)below(5); }
+
+/* Mostly of the exchange, where there is such a one. */
+static uint32_t some_id(uint32_t exchange, uint8_t *p)
+{
+    size_t i = below(ROWS);
+    if (exchange < 5 && below(5))
+        while (rows[i].exchange != exchange) i = (i + 1) % ROWS;
+    memcpy(p, rows[i].id, 4);
+    if (!below(12)) p[below(4)] = (uint8_t)below(256);
+    return get32(p);
+}
+
+static uint64_t counts[101];
+
+static void try_read(void)
+{
+    const uint32_t exchange = below(12) ? (uint32_t)below(7) : some();
+    for (size_t i = 0; i < 64; i++) in[i] = (uint8_t)below(256);
+    some_id(exchange, in);
+    const struct row *m = found(exchange, in);
+    if (m && m->text && below(8)) put(in + 4 * (m->numbers + 1), some_length(), 4);
+    size_t n = below(20) ? (size_t)below(64) : ROOM - (size_t)below(100);
+    const size_t len = below(4) ? 64 + (size_t)below(17) : (size_t)below(64);
+    uint64_t v[8];
+    mark(answer, sizeof answer);
+    const uint32_t want = len < 64 ? 8 : reads(exchange, in, n, v);
+    const uint32_t r = adb_sync_read(exchange, n ? in : NULL, n, len ? answer + GUARD : NULL, len);
+    if (r != want) die("the number of a read", r, want);
+    held(answer, 0, GUARD, "a byte before the answer");
+    held(answer, GUARD + (r == 8 ? 0 : 64), sizeof answer, "a byte behind the answer");
+    if (r != 8)
+        for (int i = 0; i < 8; i++)
+            if (adb_sync_number(answer + GUARD, i) != v[i]) die("a number of a read", adb_sync_number(answer + GUARD, i), v[i]);
+    counts[r]++;
+}
+
+static void try_write(void)
+{
+    const uint32_t exchange = below(12) ? (uint32_t)below(7) : some(), v[4] = { some(), some(), some(), some() };
+    uint8_t word[4];
+    const uint32_t id = some_id(exchange, word);
+    const size_t len = below(3) ? some_length() : 0, size = below(4) ? 64 + (size_t)below(17) : (size_t)below(12);
+    const size_t room = below(2) ? len + (size_t)below(30) : (size_t)below(ROOM);
+    size_t n;
+    mark(answer, sizeof answer);
+    mark(out, sizeof out);
+    uint32_t want = writes(exchange, id, v, text, len, room, made, &n);
+    if (size < 8) want = 8, n = 0;
+    const uint32_t r = adb_sync_write(exchange, id, v[0], v[1], v[2], v[3], len ? text : NULL, len, room ? out + GUARD : NULL,
+                                      room, size ? answer + GUARD : NULL, size);
+    if (r != want) die("the number of a write", r, want);
+    held(out, 0, GUARD, "a byte before out");
+    if (n && memcmp(out + GUARD, made, n)) die("a message's bytes", id, n);
+    held(out, GUARD + n, sizeof out, "a byte behind the message");
+    held(answer, 0, GUARD, "a byte before the answer");
+    held(answer, GUARD + (r == 8 ? 0 : 8), sizeof answer, "a byte behind the count");
+    if (r != 8 && adb_sync_written(answer + GUARD) != n) die("the count of a write", adb_sync_written(answer + GUARD), n);
+    counts[r]++;
+}
+
+int main(int argc, char **argv)
+{
+    const uint64_t calls = argc > 2 ? strtoull(argv[2], NULL, 10) : 20000;
+    rng = argc > 1 ? strtoull(argv[1], NULL, 10) : 1;
+    for (size_t i = 0; i < ROOM; i++) in[i] = (uint8_t)below(256), text[i] = (uint8_t)below(256);
+    for (uint64_t i = 0; i < calls; i++) try_read(), try_write();
+    printf("sync messages: %" PRIu64 " reads and as many writes", calls);
+    for (size_t i = 0; i < 101; i++)
+        if (counts[i]) printf("; %zu: %" PRIu64, i, counts[i]);
+    printf("\n");
+    return 0;
+}
