@@ -1,6 +1,6 @@
 -- One channel's numbers (docs/SCOPE.md, 4; slot.rs). A name in backquotes is the function of slot.rs that a definition follows.
 -- Assumes nothing.
-use Prim.Native.Nat.{ℕ, _+_, _-_, _*_, _≤_, _<_, min}
+use Prim.Native.Nat.{ℕ, _+_, _-_, _*_, _≤_, min}
 use mathlib.Core.Bool.{Bool, true, false, not, cond, _&&_}
 use mathlib.Core.List.{List}
 use lib.Dec.{leb, ltb, eqb}

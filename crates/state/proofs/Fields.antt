@@ -10,7 +10,7 @@ use Rattle.le.proofs.Parts.{put-seq, length-part, lent-part, lent-back}
 use Rattle.slot.specs.declared.ChannelSlot.{ChannelSlot}
 use Rattle.state.specs.declared.Header.{Header}
 use Rattle.state.specs.declared.PendingOpen.{PendingOpen}
-use Rattle.state.specs.State.{flagByte, stateTag, failedTag, slotNumbers, tagOf, slotBytes, openBytes, headerSizes, headerWords, headerTags, headerBytes, putHeader}
+use Rattle.state.specs.State.{flagByte, slotNumbers, tagOf, slotBytes, openBytes, headerSizes, headerWords, headerTags, headerBytes, putHeader}
 
 pub numbers-put : (d : List ℕ) (s : ChannelSlot) → 49 ≤ length d
     → put (put (put (put (put (put (put d 0 (bytesOf 4 (s .local .0))) 4 (bytesOf 4 (s .remote .0))) 8 (bytesOf 8 (unsigned 63 (s .«send_budget»)))) 16 (bytesOf 8 (s .unacked))) 24 (bytesOf 8 (s .settled))) 32 (bytesOf 8 (s .head))) 40 (bytesOf 8 (s .buffered)) ≡ put d 0 (slotNumbers s)

@@ -5,20 +5,16 @@ use Rattle.adb.proofs.ack_length.Tie as tie
 use Rattle.adb.proofs.ack_length.Reads as reads
 use Rattle.adb.proofs.ack_length.Lts as lts
 
--- src/lib.rt:53:25
 enum-known-ack : tie.Need-enum-known-ack
 enum-known-ack c = search needs
 
--- src/lib.rt:54:32
 enum-told : tie.Need-enum-told
 enum-told c = search needs
 
--- src/lib.rt:49:1
 returns : tie.Need-returns
 unfolding ackLength
 returns c = rw (c .before .ack .given .1)
 
--- src/lib.rt:49:1
 returns-2 : tie.Need-returns-2
 unfolding ackLength
 returns-2 c = rw (c .enum-told .given .1)

@@ -8,27 +8,21 @@ use Rattle.adb.proofs.is_yes.Reads as is-yes-reads
 use Rattle.calls.proofs.make.make.Reads as make-reads
 use Rattle.connection.proofs.Answer.number.Reads as number-reads
 
--- src/lib.rt:347:9
 is-yes-requires : tie.Need-is-yes-requires
 is-yes-requires c κs = search needs
 
--- src/lib.rt:348:9
 is-yes-requires-2 : tie.Need-is-yes-requires-2
 is-yes-requires-2 c κs = search needs
 
--- src/lib.rt:349:9
 make-requires : tie.Need-make-requires
 make-requires c κs = search needs
 
--- src/lib.rt:350:5
 number-requires : tie.Need-number-requires
 number-requires c κs = search needs
 
--- src/lib.rt:327:1
 same-length : tie.Need-same-length
 same-length c = search needs
 
--- src/lib.rt:327:1
 returns : tie.Need-returns
 returns c = makes-is _ (c .before .before .before .before .before .before .before .before .args .version) (c .before .before .before .before .before .before .before .before .args .device-max-payload) (c .before .before .before .before .before .before .before .before .args .host-delayed-ack) (c .before .before .before .before .before .before .before .before .args .device-delayed-ack) (c .before .before .before .before .before .before .is-yes .result) (c .before .before .before .before .before .is-yes2 .result) (c .before .before .before .before .before .before .before .before .args .state .now) _ (c .before .before .before .make .result) _ (c .before .before .before .before .before .before .is-yes .ensures) (c .before .before .before .before .before .is-yes2 .ensures) (c .before .before .before .make .ensures) (c .number .ensures)
 

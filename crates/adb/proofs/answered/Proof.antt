@@ -9,31 +9,24 @@ use Rattle.adb.proofs.values_of.Reads as values-of-reads
 use Rattle.connection.proofs.Answer.number.Reads as number-reads
 use Rattle.le.proofs.put_usize.Reads as put-usize-reads
 
--- src/lib.rt:123:5
 put-usize-requires : tie.Need-put-usize-requires
 put-usize-requires c κs = search needs
 
--- src/lib.rt:124:5
 put-usize-requires-2 : tie.Need-put-usize-requires-2
 put-usize-requires-2 c κs = search needs
 
--- src/lib.rt:125:24
 values-of-requires : tie.Need-values-of-requires
 values-of-requires c κs = search needs
 
--- src/lib.rt:125:5
 put-values-requires : tie.Need-put-values-requires
 put-values-requires c κs = search needs
 
--- src/lib.rt:126:5
 number-requires : tie.Need-number-requires
 number-requires c κs = search needs
 
--- src/lib.rt:118:1
 same-length : tie.Need-same-length
 same-length c = search needs
 
--- src/lib.rt:118:1
 returns : tie.Need-returns
 returns c =
     let said = answer-put (c .before .before .before .before .before .before .before .before .before .before .before .before .before .before .before .args .answer .now) (c .before .before .before .before .before .before .before .before .before .before .before .before .before .before .before .args .reply) (c .before .before .before .before .values-of .result) _ _ _ (c .before .before .before .before .before .before .before .before .before .before .before .before .before .before .before .pre) (c .before .before .before .before .before .before .before .before .before .before .before .before .put-usize .ensures) (c .before .before .before .before .before .before .before .before .put-usize2 .ensures) (c .before .before .before .before .values-of .ensures) (c .before .before .before .put-values .ensures) in

@@ -5,11 +5,9 @@ use Rattle.adb.proofs.is_short.Tie as tie
 use Rattle.adb.proofs.is_short.Reads as reads
 use Rattle.adb.proofs.is_short.Lts as lts
 
--- src/lib.rt:133:9
 returns : tie.Need-returns
 returns c = short-state (c .before .args .state) (c .before .args .answer) (omega arith)
 
--- src/lib.rt:129:1
 returns-2 : tie.Need-returns-2
 returns-2 c = short-answer (c .before .args .state) (c .before .args .answer) (omega arith)
 

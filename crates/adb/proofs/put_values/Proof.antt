@@ -6,27 +6,21 @@ use Rattle.adb.proofs.put_values.Reads as reads
 use Rattle.adb.proofs.put_values.Lts as lts
 use Rattle.le.proofs.put_u64.Reads as put-u64-reads
 
--- src/lib.rt:111:5
 put-u64-requires : tie.Need-put-u64-requires
 put-u64-requires c κs = search needs
 
--- src/lib.rt:112:5
 put-u64-requires-2 : tie.Need-put-u64-requires-2
 put-u64-requires-2 c κs = search needs
 
--- src/lib.rt:113:5
 put-u64-requires-3 : tie.Need-put-u64-requires-3
 put-u64-requires-3 c κs = search needs
 
--- src/lib.rt:114:5
 put-u64-requires-4 : tie.Need-put-u64-requires-4
 put-u64-requires-4 c κs = search needs
 
--- src/lib.rt:107:1
 same-length : tie.Need-same-length
 same-length c = search needs
 
--- src/lib.rt:107:1
 returns : tie.Need-returns
 returns c = values-put (c .before .before .before .before .before .before .before .before .before .before .before .before .before .before .before .before .before .args .answer .now) (c .before .before .before .before .before .before .before .before .before .before .before .before .before .before .before .before .before .args .v) _ _ _ _ (c .before .before .before .before .before .before .before .before .before .before .before .before .before .before .before .before .before .pre) (c .before .before .before .before .before .before .before .before .before .before .before .before .before .before .put-u64 .ensures) (c .before .before .before .before .before .before .before .before .before .before .put-u642 .ensures) (c .before .before .before .before .before .before .put-u643 .ensures) (c .before .before .put-u644 .ensures)
 

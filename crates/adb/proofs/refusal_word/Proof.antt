@@ -5,119 +5,93 @@ use Rattle.adb.proofs.refusal_word.Tie as tie
 use Rattle.adb.proofs.refusal_word.Reads as reads
 use Rattle.adb.proofs.refusal_word.Lts as lts
 
--- src/lib.rt:62:33
 enum-known-refusal : tie.Need-enum-known-refusal
 enum-known-refusal c = search needs
 
--- src/lib.rt:63:34
 enum-told : tie.Need-enum-told
 enum-told c = search needs
 
--- src/lib.rt:64:37
 enum-told-2 : tie.Need-enum-told-2
 enum-told-2 c = search needs
 
--- src/lib.rt:65:37
 enum-told-3 : tie.Need-enum-told-3
 enum-told-3 c = search needs
 
--- src/lib.rt:66:39
 enum-told-4 : tie.Need-enum-told-4
 enum-told-4 c = search needs
 
--- src/lib.rt:67:39
 enum-told-5 : tie.Need-enum-told-5
 enum-told-5 c = search needs
 
--- src/lib.rt:68:31
 enum-told-6 : tie.Need-enum-told-6
 enum-told-6 c = search needs
 
--- src/lib.rt:69:32
 enum-told-7 : tie.Need-enum-told-7
 enum-told-7 c = search needs
 
--- src/lib.rt:70:30
 enum-told-8 : tie.Need-enum-told-8
 enum-told-8 c = search needs
 
--- src/lib.rt:71:35
 enum-told-9 : tie.Need-enum-told-9
 enum-told-9 c = search needs
 
--- src/lib.rt:72:39
 enum-told-10 : tie.Need-enum-told-10
 enum-told-10 c = search needs
 
--- src/lib.rt:73:36
 enum-told-11 : tie.Need-enum-told-11
 enum-told-11 c = search needs
 
--- src/lib.rt:74:33
 enum-told-12 : tie.Need-enum-told-12
 enum-told-12 c = search needs
 
--- src/lib.rt:58:1
 returns : tie.Need-returns
 unfolding refusalWord
 returns c = rw (c .before .refusal .given .1)
 
--- src/lib.rt:58:1
 returns-2 : tie.Need-returns-2
 unfolding refusalWord
 returns-2 c = rw (c .enum-told .given .1)
 
--- src/lib.rt:58:1
 returns-3 : tie.Need-returns-3
 unfolding refusalWord
 returns-3 c = rw (c .enum-told2 .given .1)
 
--- src/lib.rt:58:1
 returns-4 : tie.Need-returns-4
 unfolding refusalWord
 returns-4 c = rw (c .enum-told3 .given .1)
 
--- src/lib.rt:58:1
 returns-5 : tie.Need-returns-5
 unfolding refusalWord
 returns-5 c = rw (c .enum-told4 .given .1)
 
--- src/lib.rt:58:1
 returns-6 : tie.Need-returns-6
 unfolding refusalWord
 returns-6 c = rw (c .enum-told5 .given .1)
 
--- src/lib.rt:58:1
 returns-7 : tie.Need-returns-7
 unfolding refusalWord
 returns-7 c = rw (c .enum-told6 .given .1)
 
--- src/lib.rt:58:1
 returns-8 : tie.Need-returns-8
 unfolding refusalWord
 returns-8 c = rw (c .enum-told7 .given .1)
 
--- src/lib.rt:58:1
 returns-9 : tie.Need-returns-9
 unfolding refusalWord
 returns-9 c = rw (c .enum-told8 .given .1)
 
--- src/lib.rt:58:1
 returns-10 : tie.Need-returns-10
 unfolding refusalWord
 returns-10 c = rw (c .enum-told9 .given .1)
 
--- src/lib.rt:58:1
 returns-11 : tie.Need-returns-11
 unfolding refusalWord
 returns-11 c = rw (c .enum-told10 .given .1)
 
--- src/lib.rt:58:1
 returns-12 : tie.Need-returns-12
 unfolding refusalWord
 returns-12 c = rw (c .enum-told11 .given .1)
 
--- src/lib.rt:58:1
 returns-13 : tie.Need-returns-13
 unfolding refusalWord
 returns-13 c = rw (c .enum-told12 .given .1)

@@ -12,131 +12,101 @@ use Rattle.adb.proofs.ack_length.Reads as ack-length-reads
 use Rattle.adb.proofs.one.Reads as one-reads
 use Rattle.adb.proofs.refusal_word.Reads as refusal-word-reads
 
--- src/lib.rt:82:25
 enum-told : tie.Need-enum-told
 enum-told c = search needs
 
--- src/lib.rt:82:25
 one-requires : tie.Need-one-requires
 one-requires c κs = search needs
 
--- src/lib.rt:83:28
 enum-told-2 : tie.Need-enum-told-2
 enum-told-2 c = search needs
 
--- src/lib.rt:83:28
 one-requires-2 : tie.Need-one-requires-2
 one-requires-2 c κs = search needs
 
--- src/lib.rt:84:28
 enum-told-3 : tie.Need-enum-told-3
 enum-told-3 c = search needs
 
--- src/lib.rt:84:28
 one-requires-3 : tie.Need-one-requires-3
 one-requires-3 c κs = search needs
 
--- src/lib.rt:85:24
 enum-known-answer : tie.Need-enum-known-answer
 enum-known-answer c = search needs
 
--- src/lib.rt:89:20
 cast-t14 : tie.Need-cast-t14
 cast-t14 c = search needs
 
--- src/lib.rt:94:25
 enum-known-answer-2 : tie.Need-enum-known-answer-2
 enum-known-answer-2 c = search needs
 
--- src/lib.rt:94:37
 ack-length-requires : tie.Need-ack-length-requires
 ack-length-requires c κs = search needs
 
--- src/lib.rt:94:33
 one-requires-4 : tie.Need-one-requires-4
 one-requires-4 c κs = search needs
 
--- src/lib.rt:95:22
 enum-known-answer-3 : tie.Need-enum-known-answer-3
 enum-known-answer-3 c = search needs
 
--- src/lib.rt:95:28
 one-requires-5 : tie.Need-one-requires-5
 one-requires-5 c κs = search needs
 
--- src/lib.rt:96:25
 enum-known-answer-4 : tie.Need-enum-known-answer-4
 enum-known-answer-4 c = search needs
 
--- src/lib.rt:96:31
 one-requires-6 : tie.Need-one-requires-6
 one-requires-6 c κs = search needs
 
--- src/lib.rt:97:23
 enum-known-answer-5 : tie.Need-enum-known-answer-5
 enum-known-answer-5 c = search needs
 
--- src/lib.rt:98:16
 cast-t18 : tie.Need-cast-t18
 cast-t18 c = search needs
 
--- src/lib.rt:99:16
 cast-t19 : tie.Need-cast-t19
 cast-t19 c = search needs
 
--- src/lib.rt:103:25
 enum-known-answer-6 : tie.Need-enum-known-answer-6
 enum-known-answer-6 c = search needs
 
--- src/lib.rt:103:41
 refusal-word-requires : tie.Need-refusal-word-requires
 refusal-word-requires c κs = search needs
 
--- src/lib.rt:103:37
 one-requires-7 : tie.Need-one-requires-7
 one-requires-7 c κs = search needs
 
--- src/lib.rt:78:1
 returns : tie.Need-returns
 unfolding valuesOf
 returns c = rw (c .before .enum-told .given .1) (ap valuesIn (c .one .ensures))
 
--- src/lib.rt:78:1
 returns-2 : tie.Need-returns-2
 unfolding valuesOf
 returns-2 c = rw (c .before .enum-told2 .given .1) (ap valuesIn (c .one2 .ensures))
 
--- src/lib.rt:78:1
 returns-3 : tie.Need-returns-3
 unfolding valuesOf
 returns-3 c = rw (c .before .enum-told3 .given .1) (ap valuesIn (c .one3 .ensures))
 
--- src/lib.rt:78:1
 returns-4 : tie.Need-returns-4
 unfolding valuesOf
 returns-4 c = rw (c .before .before .before .answer .given .1)
 
--- src/lib.rt:78:1
 returns-5 : tie.Need-returns-5
 unfolding valuesOf
 returns-5 c = rw (c .before .before .before .answer2 .given .1) (ap valuesIn (c .one4 .ensures) ∙ ap (λ (x : ℕ). x ∷ 0 ∷ 0 ∷ 0 ∷ []) (c .before .ack-length .ensures))
 
--- src/lib.rt:78:1
 returns-6 : tie.Need-returns-6
 unfolding valuesOf
 returns-6 c = rw (c .before .before .answer3 .given .1) (ap valuesIn (c .one5 .ensures))
 
--- src/lib.rt:78:1
 returns-7 : tie.Need-returns-7
 unfolding valuesOf
 returns-7 c = rw (c .before .before .answer4 .given .1) (ap valuesIn (c .one6 .ensures))
 
--- src/lib.rt:78:1
 returns-8 : tie.Need-returns-8
 unfolding valuesOf
 returns-8 c = rw (c .before .before .answer5 .given .1)
 
--- src/lib.rt:78:1
 returns-9 : tie.Need-returns-9
 unfolding valuesOf
 returns-9 c = rw (c .before .before .before .answer6 .given .1) (ap valuesIn (c .one7 .ensures) ∙ ap (λ (x : ℕ). x ∷ 0 ∷ 0 ∷ 0 ∷ []) (c .before .refusal-word .ensures))

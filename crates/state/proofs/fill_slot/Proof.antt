@@ -2,11 +2,6 @@ use Rattle.state.proofs.Fields.{slot-put}
 use borrow.Author.Needs.{needs}
 use Rattle.state.proofs.fill_slot.Statement.{statement}
 use Rattle.state.proofs.fill_slot.Tie as tie
-use Rattle.state.proofs.fill_slot.Reads as reads
-use Rattle.state.proofs.fill_slot.Lts as lts
-use Rattle.le.proofs.put_u8.Reads as put-u8-reads
-use Rattle.state.proofs.fill_numbers.Reads as fill-numbers-reads
-use Rattle.state.proofs.tag_of.Reads as tag-of-reads
 
 fill-numbers-requires : tie.Need-fill-numbers-requires
 fill-numbers-requires c κs = search needs

@@ -2,10 +2,6 @@ use Rattle.state.proofs.Fields.{header-tags-put}
 use borrow.Author.Needs.{needs}
 use Rattle.state.proofs.put_tags.Statement.{statement}
 use Rattle.state.proofs.put_tags.Tie as tie
-use Rattle.state.proofs.put_tags.Reads as reads
-use Rattle.state.proofs.put_tags.Lts as lts
-use Rattle.le.proofs.put_u8.Reads as put-u8-reads
-use Rattle.state.proofs.flag_byte.Reads as flag-byte-reads
 
 flag-byte-requires : tie.Need-flag-byte-requires
 flag-byte-requires c κs = search needs

@@ -4,14 +4,6 @@ use Rattle.state.specs.State.{slotOf}
 use borrow.Author.Needs.{needs}
 use Rattle.state.proofs.slot_of.Statement.{statement}
 use Rattle.state.proofs.slot_of.Tie as tie
-use Rattle.state.proofs.slot_of.Reads as reads
-use Rattle.state.proofs.slot_of.Lts as lts
-use Rattle.le.proofs.get_i64.Reads as get-i64-reads
-use Rattle.le.proofs.get_u32.Reads as get-u32-reads
-use Rattle.le.proofs.get_usize.Reads as get-usize-reads
-use Rattle.state.proofs.failed_of.Reads as failed-of-reads
-use Rattle.state.proofs.flag.Reads as flag-reads
-use Rattle.state.proofs.state_of.Reads as state-of-reads
 
 shared-slice-read-tag : tie.Need-shared-slice-read-tag
 shared-slice-read-tag c = search needs

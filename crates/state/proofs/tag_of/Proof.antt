@@ -3,11 +3,6 @@ use Rattle.state.specs.State.{tagOf}
 use borrow.Author.Needs.{needs}
 use Rattle.state.proofs.tag_of.Statement.{statement}
 use Rattle.state.proofs.tag_of.Tie as tie
-use Rattle.state.proofs.tag_of.Reads as reads
-use Rattle.state.proofs.tag_of.Lts as lts
-use Rattle.state.proofs.failed_tag.Reads as failed-tag-reads
-use Rattle.state.proofs.flag_byte.Reads as flag-byte-reads
-use Rattle.state.proofs.state_tag.Reads as state-tag-reads
 
 flag-byte-requires : tie.Need-flag-byte-requires
 flag-byte-requires c κs = search needs

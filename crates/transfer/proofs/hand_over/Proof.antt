@@ -6,39 +6,30 @@ use Rattle.transfer.proofs.hand_over.Reads as reads
 use Rattle.transfer.proofs.hand_over.Lts as lts
 use Rattle.rx_store.proofs.take.Reads as take-reads
 
--- src/lib.rt:35:17
 mul-width : tie.Need-mul-width
 mul-width c = search needs
 
--- src/lib.rt:36:14
 mul-at : tie.Need-mul-at
 mul-at c = search needs
 
--- src/lib.rt:37:15
 add-end : tie.Need-add-end
 add-end c = search needs
 
--- src/lib.rt:38:20
 sub-take : tie.Need-sub-take
 sub-take c = search needs
 
--- src/lib.rt:38:20
 part-take-start : tie.Need-part-take-start
 part-take-start c = search needs
 
--- src/lib.rt:38:20
 part-take-end : tie.Need-part-take-end
 part-take-end c = search needs
 
--- src/lib.rt:38:5
 take-requires : tie.Need-take-requires
 take-requires c κs = search needs
 
--- src/lib.rt:31:1
 same-length : tie.Need-same-length
 same-length c = search needs
 
--- src/lib.rt:31:1
 returns : tie.Need-returns
 returns c = handed-is (c .before .before .before .before .before .before .before .args .rx .now) (c .before .before .before .before .before .before .before .args .buf .now) _ (c .before .before .before .before .before .before .before .args .cap) (c .before .before .before .before .before .before .before .args .i) (c .before .before .before .before .before .before .before .args .s) (c .before .before .before .before .before .before .before .args .n) (c .before .before .take .ensures)
 

@@ -13,48 +13,37 @@ use Rattle.calls.proofs.admit.drop_waiting.Reads as drop-waiting-reads
 use Rattle.calls.proofs.admit.refused.Reads as refused-reads
 use Rattle.transfer.proofs.take_step.Reads as take-step-reads
 
--- src/lib.rt:165:9
 admit-requires : tie.Need-admit-requires
 admit-requires c κs = search needs
 
--- src/lib.rt:167:22
 enum-known-admitted : tie.Need-enum-known-admitted
 enum-known-admitted c = search needs
 
--- src/lib.rt:167:34
 refused-requires : tie.Need-refused-requires
 refused-requires c κs = search needs
 
--- src/lib.rt:168:23
 enum-known-admitted-2 : tie.Need-enum-known-admitted-2
 enum-known-admitted-2 c = search needs
 
--- src/lib.rt:168:66
 drop-waiting-requires : tie.Need-drop-waiting-requires
 drop-waiting-requires c κs = search needs
 
--- src/lib.rt:168:29
 take-step-requires : tie.Need-take-step-requires
 take-step-requires c κs = (goes-admits (c .before .before .before .before .before .before .before .before .before .before .before .before .args .state .now) (c .before .before .before .before .before .before .before .before .before .before .before .before .args .rx .now) (c .before .before .before .before .before .before .before .before .before .before .before .before .args .store .now) 56 _ (admitted-goes (c .before .before .before .before .before .before .before .before .before .before .before .before .args .state .now) (c .before .before .before .before .before .before .before .before .before .before .before .before .args .rx .now) (c .before .before .before .before .before .before .before .before .before .before .before .before .args .store .now) 56 _ (c .before .before .before .before .before .before .admit .result) (c .before .before .before .before .before .before .admit .ensures) (c .before .before .before .before .admitted2 .given .1)) (λ j. c .before .before .before .before .before .before .before .before .before .before .before .slice-known .given j .fits), c .drop-waiting .ensures ∙ ap dropped ((admitted-goes (c .before .before .before .before .before .before .before .before .before .before .before .before .args .state .now) (c .before .before .before .before .before .before .before .before .before .before .before .before .args .rx .now) (c .before .before .before .before .before .before .before .before .before .before .before .before .args .store .now) 56 _ (c .before .before .before .before .before .before .admit .result) (c .before .before .before .before .before .before .admit .ensures) (c .before .before .before .before .admitted2 .given .1)) .header))
 
--- src/lib.rt:162:1
 same-length : tie.Need-same-length
 same-length c = search needs
 
--- src/lib.rt:162:1
 returns : tie.Need-returns
 unfolding takeOf
 returns c = wide-refuses (c .before .before .before .before .before .before .before .before .before .before .args .state .now) (c .before .before .before .before .before .before .before .before .before .before .args .rx .now) (c .before .before .before .before .before .before .before .before .before .before .args .store .now) (agreedIn (c .before .before .before .before .before .before .before .before .before .before .args .state .now)) _ _ _ _ (c .before .before .before .before .admit .result) _ (c .before .before .before .before .admit .ensures) (c .before .before .admitted .given .1) (c .refused .ensures)
 
--- src/lib.rt:162:1
 same-length-2 : tie.Need-same-length-2
 same-length-2 c = search needs
 
--- src/lib.rt:162:1
 same-length-3 : tie.Need-same-length-3
 same-length-3 c = search needs
 
--- src/lib.rt:162:1
 returns-2 : tie.Need-returns-2
 unfolding takeOf
 returns-2 c = wide-leaves (c .before .before .before .before .before .before .before .before .before .before .before .before .before .before .before .before .before .args .state .now) (c .before .before .before .before .before .before .before .before .before .before .before .before .before .before .before .before .before .args .rx .now) (c .before .before .before .before .before .before .before .before .before .before .before .before .before .before .before .before .before .args .store .now) (agreedIn (c .before .before .before .before .before .before .before .before .before .before .before .before .before .before .before .before .before .args .state .now)) _ _ _ _ _ _ _ _ _ _ (admitted-goes (c .before .before .before .before .before .before .before .before .before .before .before .before .before .before .before .before .before .args .state .now) (c .before .before .before .before .before .before .before .before .before .before .before .before .before .before .before .before .before .args .rx .now) (c .before .before .before .before .before .before .before .before .before .before .before .before .before .before .before .before .before .args .store .now) 56 _ (c .before .before .before .before .before .before .before .before .before .before .before .admit .result) (c .before .before .before .before .before .before .before .before .before .before .before .admit .ensures) (c .before .before .before .before .before .before .before .before .before .admitted2 .given .1)) (c .before .before .before .before .take-step .ensures)

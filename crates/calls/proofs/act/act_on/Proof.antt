@@ -17,254 +17,192 @@ use Rattle.incoming.proofs.push_back.Reads as push-back-reads
 use Rattle.incoming.proofs.withdraw.Reads as withdraw-reads
 use Rattle.table.proofs.dispatch.dispatch.Reads as dispatch-reads
 
--- src/act.rt:43:56
 rx-policy-requires : tie.Need-rx-policy-requires
 rx-policy-requires c κs = search needs
 
--- src/act.rt:43:9
 dispatch-requires : tie.Need-dispatch-requires
 dispatch-requires c κs = subst (λ (q : RxPolicy). Sound (c .before .before .before .before .before .before .before .before .before .before .args .state .now) (c .before .before .before .before .before .before .before .before .before .before .args .rx .now) (c .before .before .before .before .before .before .before .before .before .before .args .h .negotiated .config .channels) (q .«rx_cap»)) (sym (c .rx-policy .ensures)) (c .before .before .before .before .before .before .before .before .before .before .pre .table)
 
--- src/act.rt:45:38
 enum-known-outcome : tie.Need-enum-known-outcome
 enum-known-outcome c = search needs
 
--- src/act.rt:46:17
 put-okay-requires : tie.Need-put-okay-requires
 put-okay-requires c κs = search needs
 
--- src/act.rt:47:13
 done-requires : tie.Need-done-requires
 done-requires c κs = search needs
 
--- src/act.rt:49:37
 enum-known-outcome-2 : tie.Need-enum-known-outcome-2
 enum-known-outcome-2 c = search needs
 
--- src/act.rt:50:17
 put-close-requires : tie.Need-put-close-requires
 put-close-requires c κs = search needs
 
--- src/act.rt:51:13
 done-requires-2 : tie.Need-done-requires-2
 done-requires-2 c κs = search needs
 
--- src/act.rt:53:39
 enum-known-outcome-3 : tie.Need-enum-known-outcome-3
 enum-known-outcome-3 c = search needs
 
--- src/act.rt:54:17
 push-back-requires : tie.Need-push-back-requires
 push-back-requires c κs = search needs
 
--- src/act.rt:56:32
 enum-known-pushed : tie.Need-enum-known-pushed
 enum-known-pushed c = search needs
 
--- src/act.rt:56:41
 done-requires-3 : tie.Need-done-requires-3
 done-requires-3 c κs = search needs
 
--- src/act.rt:58:25
 enum-told : tie.Need-enum-told
 enum-told c = search needs
 
--- src/act.rt:59:25
 put-close-requires-2 : tie.Need-put-close-requires-2
 put-close-requires-2 c κs = search needs
 
--- src/act.rt:60:21
 done-requires-4 : tie.Need-done-requires-4
 done-requires-4 c κs = search needs
 
--- src/act.rt:64:44
 enum-known-outcome-4 : tie.Need-enum-known-outcome-4
 enum-known-outcome-4 c = search needs
 
--- src/act.rt:64:60
 withdraw-requires : tie.Need-withdraw-requires
 withdraw-requires c κs = search needs
 
--- src/act.rt:64:55
 done-requires-5 : tie.Need-done-requires-5
 done-requires-5 c κs = search needs
 
--- src/act.rt:65:48
 enum-known-outcome-5 : tie.Need-enum-known-outcome-5
 enum-known-outcome-5 c = search needs
 
--- src/act.rt:70:46
 enum-told-2 : tie.Need-enum-told-2
 enum-told-2 c = search needs
 
--- src/act.rt:70:46
 done-requires-6 : tie.Need-done-requires-6
 done-requires-6 c κs = search needs
 
--- src/act.rt:71:43
 enum-told-3 : tie.Need-enum-told-3
 enum-told-3 c = search needs
 
--- src/act.rt:71:43
 done-requires-7 : tie.Need-done-requires-7
 done-requires-7 c κs = search needs
 
--- src/act.rt:72:45
 enum-told-4 : tie.Need-enum-told-4
 enum-told-4 c = search needs
 
--- src/act.rt:72:45
 done-requires-8 : tie.Need-done-requires-8
 done-requires-8 c κs = search needs
 
--- src/act.rt:73:39
 enum-told-5 : tie.Need-enum-told-5
 enum-told-5 c = search needs
 
--- src/act.rt:73:39
 done-requires-9 : tie.Need-done-requires-9
 done-requires-9 c κs = search needs
 
--- src/act.rt:28:1
 same-length : tie.Need-same-length
 same-length c = search needs
 
--- src/act.rt:28:1
 same-length-2 : tie.Need-same-length-2
 same-length-2 c = search needs
 
--- src/act.rt:28:1
 same-length-3 : tie.Need-same-length-3
 same-length-3 c = search needs
 
--- src/act.rt:28:1
 returns : tie.Need-returns
 returns c = acts-okay (c .before .before .before .before .before .before .before .before .before .before .before .before .before .before .before .before .before .before .before .before .before .before .before .args .h) (c .before .before .before .before .before .before .before .before .before .before .before .before .before .before .before .before .before .before .before .before .before .before .before .args .state .now) (c .before .before .before .before .before .before .before .before .before .before .before .before .before .before .before .before .before .before .before .before .before .before .before .args .rx .now) (c .before .before .before .before .before .before .before .before .before .before .before .before .before .before .before .before .before .before .before .before .before .before .before .args .store .now) (c .before .before .before .before .before .before .before .before .before .before .before .before .before .before .before .before .before .before .before .before .before .before .before .args .payload .now) (c .before .before .before .before .before .before .before .before .before .before .before .before .before .before .before .before .before .before .before .before .before .before .before .args .out .now) (c .before .before .before .before .before .before .before .before .before .before .before .before .before .before .before .before .before .before .before .before .before .before .before .args .at) (c .before .before .before .before .before .before .before .before .before .before .before .before .before .before .before .before .before .before .before .before .before .before .before .args .packet) (c .before .before .before .before .before .before .before .before .before .before .before .before .before .rx-policy .result) (c .before .before .before .before .before .before .before .before .before .before .before .before .dispatch .result) (c .before .before .before .before .before .before .before .before .before .before .before .before .dispatch .last .0) (c .before .before .before .before .before .before .before .before .before .before .before .before .dispatch .last .1 .0) (c .before .before .before .before .before .before .before .before .before .before .before .before .before .rx-policy .ensures) (c .before .before .before .before .before .before .before .before .before .before .before .before .dispatch .ensures) _ _ _ _ _ _ (c .before .before .before .before .before .before .outcome .given .1) (c .done .ensures) (c .before .before .before .put-okay .ensures) (c .before .before .before .before .before .before .before .before .before .before .before .before .before .before .before .before .before .before .before .before .before .before .before .pre .room)
 
--- src/act.rt:28:1
 same-length-4 : tie.Need-same-length-4
 same-length-4 c = search needs
 
--- src/act.rt:28:1
 same-length-5 : tie.Need-same-length-5
 same-length-5 c = search needs
 
--- src/act.rt:28:1
 same-length-6 : tie.Need-same-length-6
 same-length-6 c = search needs
 
--- src/act.rt:28:1
 returns-2 : tie.Need-returns-2
 returns-2 c = acts-stray (c .before .before .before .before .before .before .before .before .before .before .before .before .before .before .before .before .before .before .before .before .before .before .before .args .h) (c .before .before .before .before .before .before .before .before .before .before .before .before .before .before .before .before .before .before .before .before .before .before .before .args .state .now) (c .before .before .before .before .before .before .before .before .before .before .before .before .before .before .before .before .before .before .before .before .before .before .before .args .rx .now) (c .before .before .before .before .before .before .before .before .before .before .before .before .before .before .before .before .before .before .before .before .before .before .before .args .store .now) (c .before .before .before .before .before .before .before .before .before .before .before .before .before .before .before .before .before .before .before .before .before .before .before .args .payload .now) (c .before .before .before .before .before .before .before .before .before .before .before .before .before .before .before .before .before .before .before .before .before .before .before .args .out .now) (c .before .before .before .before .before .before .before .before .before .before .before .before .before .before .before .before .before .before .before .before .before .before .before .args .at) (c .before .before .before .before .before .before .before .before .before .before .before .before .before .before .before .before .before .before .before .before .before .before .before .args .packet) (c .before .before .before .before .before .before .before .before .before .before .before .before .before .rx-policy .result) (c .before .before .before .before .before .before .before .before .before .before .before .before .dispatch .result) (c .before .before .before .before .before .before .before .before .before .before .before .before .dispatch .last .0) (c .before .before .before .before .before .before .before .before .before .before .before .before .dispatch .last .1 .0) (c .before .before .before .before .before .before .before .before .before .before .before .before .before .rx-policy .ensures) (c .before .before .before .before .before .before .before .before .before .before .before .before .dispatch .ensures) _ _ _ _ (c .before .before .before .before .before .before .outcome2 .given .1) (c .done2 .ensures) (c .before .before .before .put-close .ensures) (c .before .before .before .before .before .before .before .before .before .before .before .before .before .before .before .before .before .before .before .before .before .before .before .pre .room)
 
--- src/act.rt:28:1
 same-length-7 : tie.Need-same-length-7
 same-length-7 c = omega (arith, c .before .before .before .before .before .before .before .before .before .before .before .before .before .before .before .before .before .state .given, c .before .before .before .before .before .before .before .state2 .given)
 
--- src/act.rt:28:1
 same-length-8 : tie.Need-same-length-8
 same-length-8 c = omega (arith, c .before .before .before .before .before .before .before .before .before .before .before .before .before .before .before .rx .given)
 
--- src/act.rt:28:1
 same-length-9 : tie.Need-same-length-9
 same-length-9 c = search needs
 
--- src/act.rt:28:1
 returns-3 : tie.Need-returns-3
 returns-3 c = acts-queued (c .before .before .before .before .before .before .before .before .before .before .before .before .before .before .before .before .before .before .before .before .before .before .before .before .before .before .before .before .before .args .h) (c .before .before .before .before .before .before .before .before .before .before .before .before .before .before .before .before .before .before .before .before .before .before .before .before .before .before .before .before .before .args .state .now) (c .before .before .before .before .before .before .before .before .before .before .before .before .before .before .before .before .before .before .before .before .before .before .before .before .before .before .before .before .before .args .rx .now) (c .before .before .before .before .before .before .before .before .before .before .before .before .before .before .before .before .before .before .before .before .before .before .before .before .before .before .before .before .before .args .store .now) (c .before .before .before .before .before .before .before .before .before .before .before .before .before .before .before .before .before .before .before .before .before .before .before .before .before .before .before .before .before .args .payload .now) (c .before .before .before .before .before .before .before .before .before .before .before .before .before .before .before .before .before .before .before .before .before .before .before .before .before .before .before .before .before .args .out .now) (c .before .before .before .before .before .before .before .before .before .before .before .before .before .before .before .before .before .before .before .before .before .before .before .before .before .before .before .before .before .args .at) (c .before .before .before .before .before .before .before .before .before .before .before .before .before .before .before .before .before .before .before .before .before .before .before .before .before .before .before .before .before .args .packet) (c .before .before .before .before .before .before .before .before .before .before .before .before .before .before .before .before .before .before .before .rx-policy .result) (c .before .before .before .before .before .before .before .before .before .before .before .before .before .before .before .before .before .before .dispatch .result) (c .before .before .before .before .before .before .before .before .before .before .before .before .before .before .before .before .before .before .dispatch .last .0) (c .before .before .before .before .before .before .before .before .before .before .before .before .before .before .before .before .before .before .dispatch .last .1 .0) (c .before .before .before .before .before .before .before .before .before .before .before .before .before .before .before .before .before .before .before .rx-policy .ensures) (c .before .before .before .before .before .before .before .before .before .before .before .before .before .before .before .before .before .before .dispatch .ensures) _ _ _ _ _ _ _ (c .before .before .before .before .before .before .before .before .before .before .before .before .outcome3 .given .1) (c .before .before .pushed .given .1) (c .before .before .before .before .before .before .before .before .push-back .ensures) (c .done3 .ensures) (c .before .before .before .before .before .before .before .before .before .before .before .before .before .before .before .before .before .before .before .before .before .before .before .before .before .before .before .before .before .pre .room)
 
--- src/act.rt:28:1
 same-length-10 : tie.Need-same-length-10
 same-length-10 c = omega (arith, c .before .before .before .before .before .before .before .before .before .before .before .before .before .before .before .before .before .before .before .before .state .given, c .before .before .before .before .before .before .before .before .before .before .state2 .given)
 
--- src/act.rt:28:1
 same-length-11 : tie.Need-same-length-11
 same-length-11 c = omega (arith, c .before .before .before .before .before .before .before .before .before .before .before .before .before .before .before .before .before .before .rx .given)
 
--- src/act.rt:28:1
 same-length-12 : tie.Need-same-length-12
 same-length-12 c = search needs
 
--- src/act.rt:28:1
 same-length-13 : tie.Need-same-length-13
 same-length-13 c = search needs
 
--- src/act.rt:28:1
 returns-4 : tie.Need-returns-4
 returns-4 c = acts-full (c .before .before .before .before .before .before .before .before .before .before .before .before .before .before .before .before .before .before .before .before .before .before .before .before .before .before .before .before .before .before .before .before .args .h) (c .before .before .before .before .before .before .before .before .before .before .before .before .before .before .before .before .before .before .before .before .before .before .before .before .before .before .before .before .before .before .before .before .args .state .now) (c .before .before .before .before .before .before .before .before .before .before .before .before .before .before .before .before .before .before .before .before .before .before .before .before .before .before .before .before .before .before .before .before .args .rx .now) (c .before .before .before .before .before .before .before .before .before .before .before .before .before .before .before .before .before .before .before .before .before .before .before .before .before .before .before .before .before .before .before .before .args .store .now) (c .before .before .before .before .before .before .before .before .before .before .before .before .before .before .before .before .before .before .before .before .before .before .before .before .before .before .before .before .before .before .before .before .args .payload .now) (c .before .before .before .before .before .before .before .before .before .before .before .before .before .before .before .before .before .before .before .before .before .before .before .before .before .before .before .before .before .before .before .before .args .out .now) (c .before .before .before .before .before .before .before .before .before .before .before .before .before .before .before .before .before .before .before .before .before .before .before .before .before .before .before .before .before .before .before .before .args .at) (c .before .before .before .before .before .before .before .before .before .before .before .before .before .before .before .before .before .before .before .before .before .before .before .before .before .before .before .before .before .before .before .before .args .packet) (c .before .before .before .before .before .before .before .before .before .before .before .before .before .before .before .before .before .before .before .before .before .before .rx-policy .result) (c .before .before .before .before .before .before .before .before .before .before .before .before .before .before .before .before .before .before .before .before .before .dispatch .result) (c .before .before .before .before .before .before .before .before .before .before .before .before .before .before .before .before .before .before .before .before .before .dispatch .last .0) (c .before .before .before .before .before .before .before .before .before .before .before .before .before .before .before .before .before .before .before .before .before .dispatch .last .1 .0) (c .before .before .before .before .before .before .before .before .before .before .before .before .before .before .before .before .before .before .before .before .before .before .rx-policy .ensures) (c .before .before .before .before .before .before .before .before .before .before .before .before .before .before .before .before .before .before .before .before .before .dispatch .ensures) _ _ _ _ _ _ _ _ (c .before .before .before .before .before .before .before .before .before .before .before .before .before .before .before .outcome3 .given .1) (c .before .before .before .before .before .enum-told .given .1) (c .before .before .before .before .before .before .before .before .before .before .before .push-back .ensures) (c .done4 .ensures) (c .before .before .before .put-close2 .ensures) (c .before .before .before .before .before .before .before .before .before .before .before .before .before .before .before .before .before .before .before .before .before .before .before .before .before .before .before .before .before .before .before .before .pre .room)
 
--- src/act.rt:28:1
 same-length-14 : tie.Need-same-length-14
 same-length-14 c = search needs
 
--- src/act.rt:28:1
 same-length-15 : tie.Need-same-length-15
 same-length-15 c = search needs
 
--- src/act.rt:28:1
 returns-5 : tie.Need-returns-5
 returns-5 c = acts-withdrawn (c .before .before .before .before .before .before .before .before .before .before .before .before .before .before .before .before .before .before .before .before .before .before .before .args .h) (c .before .before .before .before .before .before .before .before .before .before .before .before .before .before .before .before .before .before .before .before .before .before .before .args .state .now) (c .before .before .before .before .before .before .before .before .before .before .before .before .before .before .before .before .before .before .before .before .before .before .before .args .rx .now) (c .before .before .before .before .before .before .before .before .before .before .before .before .before .before .before .before .before .before .before .before .before .before .before .args .store .now) (c .before .before .before .before .before .before .before .before .before .before .before .before .before .before .before .before .before .before .before .before .before .before .before .args .payload .now) (c .before .before .before .before .before .before .before .before .before .before .before .before .before .before .before .before .before .before .before .before .before .before .before .args .out .now) (c .before .before .before .before .before .before .before .before .before .before .before .before .before .before .before .before .before .before .before .before .before .before .before .args .at) (c .before .before .before .before .before .before .before .before .before .before .before .before .before .before .before .before .before .before .before .before .before .before .before .args .packet) (c .before .before .before .before .before .before .before .before .before .before .before .before .before .rx-policy .result) (c .before .before .before .before .before .before .before .before .before .before .before .before .dispatch .result) (c .before .before .before .before .before .before .before .before .before .before .before .before .dispatch .last .0) (c .before .before .before .before .before .before .before .before .before .before .before .before .dispatch .last .1 .0) (c .before .before .before .before .before .before .before .before .before .before .before .before .before .rx-policy .ensures) (c .before .before .before .before .before .before .before .before .before .before .before .before .dispatch .ensures) _ _ _ _ (c .before .before .before .before .before .before .outcome4 .given .1) (c .before .before .before .withdraw .ensures) (c .done5 .ensures) (c .before .before .before .before .before .before .before .before .before .before .before .before .before .before .before .before .before .before .before .before .before .before .before .pre .room)
 
--- src/act.rt:28:1
 same-length-16 : tie.Need-same-length-16
 same-length-16 c = search needs
 
--- src/act.rt:28:1
 same-length-17 : tie.Need-same-length-17
 same-length-17 c = search needs
 
--- src/act.rt:28:1
 returns-6 : tie.Need-returns-6
 returns-6 c = acts-fault (c .before .before .before .before .before .before .before .before .before .before .before .before .before .before .before .before .before .before .args .h) (c .before .before .before .before .before .before .before .before .before .before .before .before .before .before .before .before .before .before .args .state .now) (c .before .before .before .before .before .before .before .before .before .before .before .before .before .before .before .before .before .before .args .rx .now) (c .before .before .before .before .before .before .before .before .before .before .before .before .before .before .before .before .before .before .args .store .now) (c .before .before .before .before .before .before .before .before .before .before .before .before .before .before .before .before .before .before .args .payload .now) (c .before .before .before .before .before .before .before .before .before .before .before .before .before .before .before .before .before .before .args .out .now) (c .before .before .before .before .before .before .before .before .before .before .before .before .before .before .before .before .before .before .args .at) (c .before .before .before .before .before .before .before .before .before .before .before .before .before .before .before .before .before .before .args .packet) (c .before .before .before .before .before .before .before .before .rx-policy .result) (c .before .before .before .before .before .before .before .dispatch .result) (c .before .before .before .before .before .before .before .dispatch .last .0) (c .before .before .before .before .before .before .before .dispatch .last .1 .0) (c .before .before .before .before .before .before .before .before .rx-policy .ensures) (c .before .before .before .before .before .before .before .dispatch .ensures) _ _ _ _ _ (c .before .outcome5 .given .1) refl (c .before .before .before .before .before .before .before .before .before .before .before .before .before .before .before .before .before .before .pre .room)
 
--- src/act.rt:28:1
 same-length-18 : tie.Need-same-length-18
 same-length-18 c = search needs
 
--- src/act.rt:28:1
 same-length-19 : tie.Need-same-length-19
 same-length-19 c = search needs
 
--- src/act.rt:28:1
 returns-7 : tie.Need-returns-7
 unfolding actedBy
 returns-7 c = acts-none (c .before .before .before .before .before .before .before .before .before .before .before .before .before .before .before .before .before .before .args .h) (c .before .before .before .before .before .before .before .before .before .before .before .before .before .before .before .before .before .before .args .state .now) (c .before .before .before .before .before .before .before .before .before .before .before .before .before .before .before .before .before .before .args .rx .now) (c .before .before .before .before .before .before .before .before .before .before .before .before .before .before .before .before .before .before .args .store .now) (c .before .before .before .before .before .before .before .before .before .before .before .before .before .before .before .before .before .before .args .payload .now) (c .before .before .before .before .before .before .before .before .before .before .before .before .before .before .before .before .before .before .args .out .now) (c .before .before .before .before .before .before .before .before .before .before .before .before .before .before .before .before .before .before .args .at) (c .before .before .before .before .before .before .before .before .before .before .before .before .before .before .before .before .before .before .args .packet) (c .before .before .before .before .before .before .before .before .rx-policy .result) (c .before .before .before .before .before .before .before .dispatch .result) (c .before .before .before .before .before .before .before .dispatch .last .0) (c .before .before .before .before .before .before .before .dispatch .last .1 .0) (c .before .before .before .before .before .before .before .before .rx-policy .ensures) (c .before .before .before .before .before .before .before .dispatch .ensures) _ _ (c .before .enum-told2 .given .1) refl (c .done6 .ensures) (c .before .before .before .before .before .before .before .before .before .before .before .before .before .before .before .before .before .before .pre .room)
 
--- src/act.rt:28:1
 same-length-20 : tie.Need-same-length-20
 same-length-20 c = search needs
 
--- src/act.rt:28:1
 same-length-21 : tie.Need-same-length-21
 same-length-21 c = search needs
 
--- src/act.rt:28:1
 returns-8 : tie.Need-returns-8
 unfolding actedBy
 returns-8 c = acts-none (c .before .before .before .before .before .before .before .before .before .before .before .before .before .before .before .before .before .before .args .h) (c .before .before .before .before .before .before .before .before .before .before .before .before .before .before .before .before .before .before .args .state .now) (c .before .before .before .before .before .before .before .before .before .before .before .before .before .before .before .before .before .before .args .rx .now) (c .before .before .before .before .before .before .before .before .before .before .before .before .before .before .before .before .before .before .args .store .now) (c .before .before .before .before .before .before .before .before .before .before .before .before .before .before .before .before .before .before .args .payload .now) (c .before .before .before .before .before .before .before .before .before .before .before .before .before .before .before .before .before .before .args .out .now) (c .before .before .before .before .before .before .before .before .before .before .before .before .before .before .before .before .before .before .args .at) (c .before .before .before .before .before .before .before .before .before .before .before .before .before .before .before .before .before .before .args .packet) (c .before .before .before .before .before .before .before .before .rx-policy .result) (c .before .before .before .before .before .before .before .dispatch .result) (c .before .before .before .before .before .before .before .dispatch .last .0) (c .before .before .before .before .before .before .before .dispatch .last .1 .0) (c .before .before .before .before .before .before .before .before .rx-policy .ensures) (c .before .before .before .before .before .before .before .dispatch .ensures) _ _ (c .before .enum-told3 .given .1) refl (c .done7 .ensures) (c .before .before .before .before .before .before .before .before .before .before .before .before .before .before .before .before .before .before .pre .room)
 
--- src/act.rt:28:1
 same-length-22 : tie.Need-same-length-22
 same-length-22 c = search needs
 
--- src/act.rt:28:1
 same-length-23 : tie.Need-same-length-23
 same-length-23 c = search needs
 
--- src/act.rt:28:1
 returns-9 : tie.Need-returns-9
 unfolding actedBy
 returns-9 c = acts-none (c .before .before .before .before .before .before .before .before .before .before .before .before .before .before .before .before .before .before .args .h) (c .before .before .before .before .before .before .before .before .before .before .before .before .before .before .before .before .before .before .args .state .now) (c .before .before .before .before .before .before .before .before .before .before .before .before .before .before .before .before .before .before .args .rx .now) (c .before .before .before .before .before .before .before .before .before .before .before .before .before .before .before .before .before .before .args .store .now) (c .before .before .before .before .before .before .before .before .before .before .before .before .before .before .before .before .before .before .args .payload .now) (c .before .before .before .before .before .before .before .before .before .before .before .before .before .before .before .before .before .before .args .out .now) (c .before .before .before .before .before .before .before .before .before .before .before .before .before .before .before .before .before .before .args .at) (c .before .before .before .before .before .before .before .before .before .before .before .before .before .before .before .before .before .before .args .packet) (c .before .before .before .before .before .before .before .before .rx-policy .result) (c .before .before .before .before .before .before .before .dispatch .result) (c .before .before .before .before .before .before .before .dispatch .last .0) (c .before .before .before .before .before .before .before .dispatch .last .1 .0) (c .before .before .before .before .before .before .before .before .rx-policy .ensures) (c .before .before .before .before .before .before .before .dispatch .ensures) _ _ (c .before .enum-told4 .given .1) refl (c .done8 .ensures) (c .before .before .before .before .before .before .before .before .before .before .before .before .before .before .before .before .before .before .pre .room)
 
--- src/act.rt:28:1
 same-length-24 : tie.Need-same-length-24
 same-length-24 c = search needs
 
--- src/act.rt:28:1
 same-length-25 : tie.Need-same-length-25
 same-length-25 c = search needs
 
--- src/act.rt:28:1
 returns-10 : tie.Need-returns-10
 unfolding actedBy
 returns-10 c = acts-none (c .before .before .before .before .before .before .before .before .before .before .before .before .before .before .before .before .before .before .args .h) (c .before .before .before .before .before .before .before .before .before .before .before .before .before .before .before .before .before .before .args .state .now) (c .before .before .before .before .before .before .before .before .before .before .before .before .before .before .before .before .before .before .args .rx .now) (c .before .before .before .before .before .before .before .before .before .before .before .before .before .before .before .before .before .before .args .store .now) (c .before .before .before .before .before .before .before .before .before .before .before .before .before .before .before .before .before .before .args .payload .now) (c .before .before .before .before .before .before .before .before .before .before .before .before .before .before .before .before .before .before .args .out .now) (c .before .before .before .before .before .before .before .before .before .before .before .before .before .before .before .before .before .before .args .at) (c .before .before .before .before .before .before .before .before .before .before .before .before .before .before .before .before .before .before .args .packet) (c .before .before .before .before .before .before .before .before .rx-policy .result) (c .before .before .before .before .before .before .before .dispatch .result) (c .before .before .before .before .before .before .before .dispatch .last .0) (c .before .before .before .before .before .before .before .dispatch .last .1 .0) (c .before .before .before .before .before .before .before .before .rx-policy .ensures) (c .before .before .before .before .before .before .before .dispatch .ensures) _ _ (c .before .enum-told5 .given .1) refl (c .done9 .ensures) (c .before .before .before .before .before .before .before .before .before .before .before .before .before .before .before .before .before .before .pre .room)

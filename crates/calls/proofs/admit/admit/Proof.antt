@@ -12,31 +12,24 @@ use Rattle.config.proofs.ConnectionConfig.stores_fit.Reads as stores-fit-reads
 use Rattle.state.proofs.header_of.Reads as header-of-reads
 use Rattle.state.proofs.valid.is_whole.Reads as is-whole-reads
 
--- src/admit.rt:29:8
 is-whole-requires : tie.Need-is-whole-requires
 is-whole-requires c κs = search needs
 
--- src/admit.rt:30:13
 header-of-requires : tie.Need-header-of-requires
 header-of-requires c κs = let k = whole-long (c .before .before .before .args .state .now) (sym (c .before .is-whole .ensures) ∙ c .if1 .taken) in omega arith
 
--- src/admit.rt:33:12
 stores-fit-requires : tie.Need-stores-fit-requires
 stores-fit-requires c κs = subst (λ (x : Header). Within (x .negotiated .config)) (sym (c .before .before .header-of .ensures)) (whole-header (c .before .before .before .before .before .before .args .state .now) (sym (c .before .before .before .before .is-whole .ensures) ∙ c .before .before .before .if1 .taken) .within)
 
--- src/admit.rt:35:17
 returns : tie.Need-returns
 returns c = admits-out (c .before .before .before .before .before .before .before .before .before .args .state .now) (c .before .before .before .before .before .before .before .before .before .args .rx) (c .before .before .before .before .before .before .before .before .before .args .store) (c .before .before .before .before .before .before .before .before .before .args .out) (c .before .before .before .before .before .header-of .result) (c .before .before .before .before .before .header-of .ensures) (sym (c .before .before .before .before .before .before .before .is-whole .ensures) ∙ c .before .before .before .before .before .before .if1 .taken) (sym (c .before .before .stores-fit .ensures) ∙ c .before .if2 .taken) (omega arith)
 
--- src/admit.rt:37:13
 returns-2 : tie.Need-returns-2
 returns-2 c = admits-yes (c .before .before .before .before .before .before .before .before .before .args .state .now) (c .before .before .before .before .before .before .before .before .before .args .rx) (c .before .before .before .before .before .before .before .before .before .args .store) (c .before .before .before .before .before .before .before .before .before .args .out) (c .before .before .before .before .before .header-of .result) (c .before .before .before .before .before .header-of .ensures) (sym (c .before .before .before .before .before .before .before .is-whole .ensures) ∙ c .before .before .before .before .before .before .if1 .taken) (sym (c .before .before .stores-fit .ensures) ∙ c .before .if2 .taken) (omega arith)
 
--- src/admit.rt:39:9
 returns-3 : tie.Need-returns-3
 returns-3 c = admits-short (c .before .before .before .before .before .before .before .before .args .state .now) (c .before .before .before .before .before .before .before .before .args .rx) (c .before .before .before .before .before .before .before .before .args .store) (c .before .before .before .before .before .before .before .before .args .out) (c .before .before .before .before .header-of .result) (c .before .before .before .before .header-of .ensures) (sym (c .before .before .before .before .before .before .is-whole .ensures) ∙ c .before .before .before .before .before .if1 .taken) (sym (c .before .stores-fit .ensures) ∙ c .if2 .left)
 
--- src/admit.rt:26:1
 returns-4 : tie.Need-returns-4
 returns-4 c = admits-not (c .before .before .before .args .state .now) (c .before .before .before .args .rx) (c .before .before .before .args .store) (c .before .before .before .args .out) (sym (c .before .is-whole .ensures) ∙ c .if1 .left)
 

@@ -8,23 +8,18 @@ use Rattle.calls.proofs.admit.get.Lts as lts
 use Rattle.state.proofs.slot_at.Reads as slot-at-reads
 use Rattle.table.proofs.has_local.Reads as has-local-reads
 
--- src/admit.rt:72:13
 slot-at-requires : tie.Need-slot-at-requires
 slot-at-requires c κs = search needs
 
--- src/admit.rt:74:12
 has-local-requires : tie.Need-has-local-requires
 has-local-requires c κs = search needs
 
--- src/admit.rt:75:13
 returns : tie.Need-returns
 returns c = get-slot (c .before .before .before .before .before .before .before .args .state .now) (c .before .before .before .before .before .before .before .args .n) (c .before .before .before .before .before .before .before .args .ch) (omega arith) (omega arith) (c .before .before .before .slot-at .result) (c .before .before .before .slot-at .ensures) (c .before .has-local .result) (c .before .has-local .ensures) (c .if2 .taken)
 
--- src/admit.rt:77:9
 returns-2 : tie.Need-returns-2
 returns-2 c = get-other (c .before .before .before .before .before .before .before .args .state .now) (c .before .before .before .before .before .before .before .args .n) (c .before .before .before .before .before .before .before .args .ch) (omega arith) (omega arith) (c .before .before .before .slot-at .result) (c .before .before .before .slot-at .ensures) (c .before .has-local .result) (c .before .has-local .ensures) (c .if2 .left)
 
--- src/admit.rt:67:1
 returns-3 : tie.Need-returns-3
 returns-3 c = get-far (c .before .before .before .args .state .now) (c .before .before .before .args .n) (c .before .before .before .args .ch) (omega arith) (omega arith)
 

@@ -12,48 +12,37 @@ use Rattle.calls.proofs.admit.drop_waiting.Reads as drop-waiting-reads
 use Rattle.calls.proofs.admit.refused.Reads as refused-reads
 use Rattle.calls.proofs.close.close_step.Reads as close-step-reads
 
--- src/close.rt:73:9
 admit-requires : tie.Need-admit-requires
 admit-requires c κs = search needs
 
--- src/close.rt:75:22
 enum-known-admitted : tie.Need-enum-known-admitted
 enum-known-admitted c = search needs
 
--- src/close.rt:75:34
 refused-requires : tie.Need-refused-requires
 refused-requires c κs = search needs
 
--- src/close.rt:76:23
 enum-known-admitted-2 : tie.Need-enum-known-admitted-2
 enum-known-admitted-2 c = search needs
 
--- src/close.rt:76:67
 drop-waiting-requires : tie.Need-drop-waiting-requires
 drop-waiting-requires c κs = search needs
 
--- src/close.rt:76:29
 close-step-requires : tie.Need-close-step-requires
 close-step-requires c κs = (goes-admits (c .before .before .before .before .before .before .before .before .before .before .before .before .args .state .now) (c .before .before .before .before .before .before .before .before .before .before .before .before .args .rx .now) (c .before .before .before .before .before .before .before .before .before .before .before .before .args .store .now) _ _ (admitted-goes (c .before .before .before .before .before .before .before .before .before .before .before .before .args .state .now) (c .before .before .before .before .before .before .before .before .before .before .before .before .args .rx .now) (c .before .before .before .before .before .before .before .before .before .before .before .before .args .store .now) _ _ (c .before .before .before .before .before .before .admit .result) (c .before .before .before .before .before .before .admit .ensures) (c .before .before .before .before .admitted2 .given .1)) (λ j. c .before .before .before .before .before .before .before .before .before .before .before .slice-known .given j .fits), c .drop-waiting .ensures ∙ ap dropped ((admitted-goes (c .before .before .before .before .before .before .before .before .before .before .before .before .args .state .now) (c .before .before .before .before .before .before .before .before .before .before .before .before .args .rx .now) (c .before .before .before .before .before .before .before .before .before .before .before .before .args .store .now) _ _ (c .before .before .before .before .before .before .admit .result) (c .before .before .before .before .before .before .admit .ensures) (c .before .before .before .before .admitted2 .given .1)) .header))
 
--- src/close.rt:70:1
 same-length : tie.Need-same-length
 same-length c = search needs
 
--- src/close.rt:70:1
 returns : tie.Need-returns
 unfolding closeOf
 returns c = refused-leaves (c .before .before .before .before .before .before .before .before .before .before .args .state .now) (c .before .before .before .before .before .before .before .before .before .before .args .rx .now) (c .before .before .before .before .before .before .before .before .before .before .args .store .now) _ (agreedIn (c .before .before .before .before .before .before .before .before .before .before .args .state .now)) _ _ _ _ (c .before .before .before .before .admit .result) _ (c .before .before .before .before .admit .ensures) (c .before .before .admitted .given .1) (c .refused .ensures)
 
--- src/close.rt:70:1
 same-length-2 : tie.Need-same-length-2
 same-length-2 c = search needs
 
--- src/close.rt:70:1
 same-length-3 : tie.Need-same-length-3
 same-length-3 c = search needs
 
--- src/close.rt:70:1
 returns-2 : tie.Need-returns-2
 unfolding closeOf
 returns-2 c = goes-leaves (c .before .before .before .before .before .before .before .before .before .before .before .before .before .before .before .before .before .args .state .now) (c .before .before .before .before .before .before .before .before .before .before .before .before .before .before .before .before .before .args .rx .now) (c .before .before .before .before .before .before .before .before .before .before .before .before .before .before .before .before .before .args .store .now) _ (agreedIn (c .before .before .before .before .before .before .before .before .before .before .before .before .before .before .before .before .before .args .state .now)) _ _ _ _ _ _ _ _ _ _ (admitted-goes (c .before .before .before .before .before .before .before .before .before .before .before .before .before .before .before .before .before .args .state .now) (c .before .before .before .before .before .before .before .before .before .before .before .before .before .before .before .before .before .args .rx .now) (c .before .before .before .before .before .before .before .before .before .before .before .before .before .before .before .before .before .args .store .now) _ _ (c .before .before .before .before .before .before .before .before .before .before .before .admit .result) (c .before .before .before .before .before .before .before .before .before .before .before .admit .ensures) (c .before .before .before .before .before .before .before .before .before .admitted2 .given .1)) (c .before .before .before .before .close-step .ensures)

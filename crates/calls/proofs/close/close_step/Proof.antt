@@ -14,59 +14,45 @@ use Rattle.calls.proofs.store.store_slot.Reads as store-slot-reads
 use Rattle.slot.proofs.ChannelSlot.empty.Reads as empty-reads
 use Rattle.state.proofs.put_header.Reads as put-header-reads
 
--- src/close.rt:39:9
 get-requires : tie.Need-get-requires
 get-requires c κs = looks (c .before .before .before .before .before .before .before .args .state .now) (c .before .before .before .before .before .before .before .args .rx .now) (c .before .before .before .before .before .before .before .args .store .now) (c .before .before .before .before .before .before .before .args .h) (c .before .before .before .before .before .before .before .pre .1) _ (c .before .before .before .before .before .before .before .pre .0)
 
--- src/close.rt:41:21
 enum-known-found : tie.Need-enum-known-found
 enum-known-found c = search needs
 
--- src/close.rt:42:44
 ids-in-requires : tie.Need-ids-in-requires
 ids-in-requires c κs = search needs
 
--- src/close.rt:42:17
 put-close-requires : tie.Need-put-close-requires
 put-close-requires c κs = search needs
 
--- src/close.rt:43:17
 empty-requires : tie.Need-empty-requires
 empty-requires c κs = search needs
 
--- src/close.rt:44:13
 store-slot-requires : tie.Need-store-slot-requires
 store-slot-requires c κs = (close-place (c .before .before .before .before .before .before .before .before .before .before .before .before .before .before .before .before .before .before .args .state .now) (c .before .before .before .before .before .before .before .before .before .before .before .before .before .before .before .before .before .before .args .rx .now) (c .before .before .before .before .before .before .before .before .before .before .before .before .before .before .before .before .before .before .args .store .now) (c .before .before .before .before .before .before .before .before .before .before .before .before .before .before .before .before .before .before .args .out .now) (c .before .before .before .before .before .before .before .before .before .before .before .before .before .before .before .before .before .before .args .h) (c .before .before .before .before .before .before .before .before .before .before .before .before .before .before .before .before .before .before .pre .1) (c .before .before .before .before .before .before .before .before .before .before .before .before .before .before .before .before .before .before .args .ch) (c .before .before .before .before .before .before .before .before .before .before .get .result) (c .before .before .before .before .before .before .before .before .before .before .get .ensures) (c .before .before .before .before .before .before .before .before .before .before .before .before .before .before .before .before .before .before .pre .0) _ (c .before .before .before .before .before .before .before .before .found .given .1), c .before .before .before .before .before .before .before .before .before .before .before .before .before .before .before .before .before .before .pre .0 .state-fits)
 
--- src/close.rt:52:24
 enum-told : tie.Need-enum-told
 enum-told c = search needs
 
--- src/close.rt:52:13
 put-header-requires : tie.Need-put-header-requires
 put-header-requires c κs = search needs
 
--- src/close.rt:53:13
 refused-requires : tie.Need-refused-requires
 refused-requires c κs = search needs
 
--- src/close.rt:26:1
 same-length : tie.Need-same-length
 same-length c = search needs
 
--- src/close.rt:26:1
 same-length-2 : tie.Need-same-length-2
 same-length-2 c = search needs
 
--- src/close.rt:26:1
 returns : tie.Need-returns
 returns c = close-leaves (c .before .before .before .before .before .before .before .before .before .before .before .before .before .before .before .before .before .before .before .before .before .args .state .now) (c .before .before .before .before .before .before .before .before .before .before .before .before .before .before .before .before .before .before .before .before .before .args .rx .now) (c .before .before .before .before .before .before .before .before .before .before .before .before .before .before .before .before .before .before .before .before .before .args .store .now) (c .before .before .before .before .before .before .before .before .before .before .before .before .before .before .before .before .before .before .before .before .before .args .out .now) (c .before .before .before .before .before .before .before .before .before .before .before .before .before .before .before .before .before .before .before .before .before .args .h) (c .before .before .before .before .before .before .before .before .before .before .before .before .before .before .before .before .before .before .before .before .before .pre .1) (c .before .before .before .before .before .before .before .before .before .before .before .before .before .before .before .before .before .before .before .before .before .args .ch) (c .before .before .before .before .before .before .before .before .before .before .before .before .before .get .result) (c .before .before .before .before .before .before .before .before .before .before .before .before .before .get .ensures) (c .before .before .before .before .before .before .before .before .before .before .before .before .before .before .before .before .before .before .before .before .before .pre .0) _ (c .before .before .before .before .before .before .before .before .before .before .before .found .given .1) (c .before .before .before .before .empty .result) (c .before .before .before .before .before .before .before .before .ids-in .result) _ _ _ _ (c .before .before .before .before .before .before .before .before .ids-in .ensures) (c .before .before .before .before .before .before .before .put-close .ensures) (c .before .before .before .before .empty .ensures) (c .before .before .store-slot .ensures) refl
 
--- src/close.rt:26:1
 same-length-3 : tie.Need-same-length-3
 same-length-3 c = search needs
 
--- src/close.rt:26:1
 returns-2 : tie.Need-returns-2
 returns-2 c = close-refuses (c .before .before .before .before .before .before .before .before .before .before .before .before .before .before .before .args .state .now) (c .before .before .before .before .before .before .before .before .before .before .before .before .before .before .before .args .rx .now) (c .before .before .before .before .before .before .before .before .before .before .before .before .before .before .before .args .store .now) (c .before .before .before .before .before .before .before .before .before .before .before .before .before .before .before .args .out .now) (c .before .before .before .before .before .before .before .before .before .before .before .before .before .before .before .args .h) (c .before .before .before .before .before .before .before .before .before .before .before .before .before .before .before .pre .1) (c .before .before .before .before .before .before .before .before .before .before .before .before .before .before .before .args .ch) (c .before .before .before .before .before .before .before .get .result) (c .before .before .before .before .before .before .before .get .ensures) _ _ (c .before .before .before .before .before .enum-told .given .1) (c .before .before .before .put-header .ensures) (c .refused .ensures)
 

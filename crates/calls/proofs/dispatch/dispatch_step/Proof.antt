@@ -15,66 +15,51 @@ use Rattle.calls.proofs.recv.unless_fault.Reads as unless-fault-reads
 use Rattle.protocol.proofs.packet.Packet.payload.Reads as payload-reads
 use Rattle.state.proofs.put_header.Reads as put-header-reads
 
--- src/dispatch.rt:36:9
 recv-pkt-requires : tie.Need-recv-pkt-requires
 recv-pkt-requires c κs = search needs
 
--- src/dispatch.rt:38:24
 enum-known-found : tie.Need-enum-known-found
 enum-known-found c = search needs
 
--- src/dispatch.rt:39:13
 put-header-requires : tie.Need-put-header-requires
 put-header-requires c κs = search needs
 
--- src/dispatch.rt:46:26
 enum-known-found-2 : tie.Need-enum-known-found-2
 enum-known-found-2 c = search needs
 
--- src/dispatch.rt:47:17
 payload-requires : tie.Need-payload-requires
 payload-requires c κs = (packet-room (c .before .before .before .before .before .before .before .before .before .before .before .args .received .now) (c .before .before .before .before .before .before .before .before .before .before .before .args .h .negotiated .config .«max_payload») (c .before .before .before .recv-pkt .result) _ (c .before .before .before .recv-pkt .ensures) (c .before .found2 .given .1)) .whole
 
--- src/dispatch.rt:48:17
 act-on-requires : tie.Need-act-on-requires
 act-on-requires c κs = let k = c .before .before .before .before .before .before .before .before .before .before .before .before .before .before .before .before .pre .0 .room in call-room (c .before .before .before .before .before .before .before .before .before .before .before .before .before .before .before .before .args .state .now) (c .before .before .before .before .before .before .before .before .before .before .before .before .before .before .before .before .args .rx .now) (c .before .before .before .before .before .before .before .before .before .before .before .before .before .before .before .before .args .store .now) (c .before .before .before .before .before .before .before .before .before .before .before .before .before .before .before .before .args .out .now) (c .before .before .before .before .before .before .before .before .before .before .before .before .before .before .before .before .args .h) (c .before .before .before .before .before .before .before .before .before .before .before .before .before .before .before .before .pre .1) (c .before .before .before .before .before .before .before .before .before .before .before .before .before .before .before .before .args .received .now) (c .before .before .before .before .payload .result .now) _ 0 (c .before .before .before .before .before .before .before .before .before .before .before .before .before .before .before .before .pre .0) (packet-room (c .before .before .before .before .before .before .before .before .before .before .before .before .before .before .before .before .args .received .now) (c .before .before .before .before .before .before .before .before .before .before .before .before .before .before .before .before .args .h .negotiated .config .«max_payload») (c .before .before .before .before .before .before .before .before .recv-pkt .result) _ (c .before .before .before .before .before .before .before .before .recv-pkt .ensures) (c .before .before .before .before .before .before .found2 .given .1)) (c .before .before .before .before .payload .ensures) (omega arith)
 
--- src/dispatch.rt:51:13
 put-header-requires-2 : tie.Need-put-header-requires-2
 put-header-requires-2 c κs = omega (arith, c .before .before .before .before .before .before .before .before .before .before .before .before .before .before .before .before .before .before .before .before .before .before .before .before .before .before .before .pre, c .before .before .before .before .before .before .before .before .before .state2 .given)
 
 frame-len-requires : tie.Need-frame-len-requires
 frame-len-requires c κs = (packet-room (c .before .before .before .before .before .before .before .before .before .before .before .before .before .before .before .before .before .before .before .before .before .before .before .before .before .before .before .before .before .before .args .received .now) (c .before .before .before .before .before .before .before .before .before .before .before .before .before .before .before .before .before .before .before .before .before .before .before .before .before .before .before .before .before .before .args .h .negotiated .config .«max_payload») (c .before .before .before .before .before .before .before .before .before .before .before .before .before .before .before .before .before .before .before .before .before .before .recv-pkt .result) _ (c .before .before .before .before .before .before .before .before .before .before .before .before .before .before .before .before .before .before .before .before .before .before .recv-pkt .ensures) (c .before .before .before .before .before .before .before .before .before .before .before .before .before .before .before .before .before .before .before .before .found2 .given .1)) .most
 
--- src/dispatch.rt:53:25
 unless-fault-requires : tie.Need-unless-fault-requires
 unless-fault-requires c κs = search needs
 
--- src/dispatch.rt:23:1
 same-length : tie.Need-same-length
 same-length c = search needs
 
--- src/dispatch.rt:23:1
 returns : tie.Need-returns
 returns c = dispatch-stops (c .before .before .before .before .before .before .before .before .before .before .before .before .before .before .before .args .state .now) (c .before .before .before .before .before .before .before .before .before .before .before .before .before .before .before .args .rx .now) (c .before .before .before .before .before .before .before .before .before .before .before .before .before .before .before .args .store .now) (c .before .before .before .before .before .before .before .before .before .before .before .before .before .before .before .args .out .now) (c .before .before .before .before .before .before .before .before .before .before .before .before .before .before .before .args .h) (c .before .before .before .before .before .before .before .before .before .before .before .before .before .before .before .pre .1) (c .before .before .before .before .before .before .before .before .before .before .before .before .before .before .before .args .received .now) (c .before .before .before .before .before .before .before .recv-pkt .result) (c .before .before .before .before .before .before .before .recv-pkt .ensures) _ _ _ _ (c .before .before .before .before .before .found .given .1) (c .before .before .put-header .ensures) refl
 
--- src/dispatch.rt:23:1
 same-length-2 : tie.Need-same-length-2
 same-length-2 c = search needs
 
--- src/dispatch.rt:23:1
 same-length-3 : tie.Need-same-length-3
 same-length-3 c = search needs
 
--- src/dispatch.rt:23:1
 same-length-4 : tie.Need-same-length-4
 same-length-4 c = search needs
 
--- src/dispatch.rt:23:1
 same-length-5 : tie.Need-same-length-5
 same-length-5 c = search needs
 
--- src/dispatch.rt:23:1
 returns-2 : tie.Need-returns-2
 returns-2 c = dispatch-acts (c .before .before .before .before .before .before .before .before .before .before .before .before .before .before .before .before .before .before .before .before .before .before .before .before .before .before .before .before .before .before .before .before .args .state .now) (c .before .before .before .before .before .before .before .before .before .before .before .before .before .before .before .before .before .before .before .before .before .before .before .before .before .before .before .before .before .before .before .before .args .rx .now) (c .before .before .before .before .before .before .before .before .before .before .before .before .before .before .before .before .before .before .before .before .before .before .before .before .before .before .before .before .before .before .before .before .args .store .now) (c .before .before .before .before .before .before .before .before .before .before .before .before .before .before .before .before .before .before .before .before .before .before .before .before .before .before .before .before .before .before .before .before .args .out .now) (c .before .before .before .before .before .before .before .before .before .before .before .before .before .before .before .before .before .before .before .before .before .before .before .before .before .before .before .before .before .before .before .before .args .h) (c .before .before .before .before .before .before .before .before .before .before .before .before .before .before .before .before .before .before .before .before .before .before .before .before .before .before .before .before .before .before .before .before .pre .1) (c .before .before .before .before .before .before .before .before .before .before .before .before .before .before .before .before .before .before .before .before .before .before .before .before .before .before .before .before .before .before .before .before .args .received .now) (c .before .before .before .before .before .before .before .before .before .before .before .before .before .before .before .before .before .before .before .before .before .before .before .before .recv-pkt .result) (c .before .before .before .before .before .before .before .before .before .before .before .before .before .before .before .before .before .before .before .before .before .before .before .before .recv-pkt .ensures) _ (c .before .before .before .before .before .before .before .before .before .before .before .before .before .before .before .before .before .before .before .before .payload .result .now) (c .before .before .before .before .before .before .before .before .before .before .before .before .before .before .before .act-on .result) (c .unless-fault .result) _ _ _ _ _ _ (c .before .before .before .before .before .before .before .before .before .before .before .before .before .before .before .before .before .before .before .before .before .before .found2 .given .1) (c .before .before .before .before .before .before .before .before .before .before .before .before .before .before .before .before .before .before .before .before .payload .ensures) (c .before .before .before .before .before .before .before .before .before .before .before .before .before .before .before .act-on .ensures) (c .unless-fault .ensures) (c .before .before .before .before .put-header2 .ensures) (ap (λ (x : ℕ). record { answer = c .unless-fault .result; used = x; written = c .before .before .before .before .before .before .before .before .before .before .before .before .before .before .before .act-on .result .end }) (c .before .frame-len .ensures))
 

@@ -13,44 +13,34 @@ use Rattle.calls.proofs.admit.drop_waiting.Reads as drop-waiting-reads
 use Rattle.calls.proofs.admit.refused.Reads as refused-reads
 use Rattle.calls.proofs.dispatch.front_step.Reads as front-step-reads
 
--- src/dispatch.rt:113:9
 admit-requires : tie.Need-admit-requires
 admit-requires c κs = search needs
 
--- src/dispatch.rt:115:22
 enum-known-admitted : tie.Need-enum-known-admitted
 enum-known-admitted c = search needs
 
--- src/dispatch.rt:115:34
 refused-requires : tie.Need-refused-requires
 refused-requires c κs = search needs
 
--- src/dispatch.rt:116:23
 enum-known-admitted-2 : tie.Need-enum-known-admitted-2
 enum-known-admitted-2 c = search needs
 
--- src/dispatch.rt:116:58
 drop-waiting-requires : tie.Need-drop-waiting-requires
 drop-waiting-requires c κs = search needs
 
--- src/dispatch.rt:116:29
 front-step-requires : tie.Need-front-step-requires
 front-step-requires c κs = (goes-admits (c .before .before .before .before .before .before .before .before .before .before .args .state .now) (c .before .before .before .before .before .before .before .before .before .before .args .rx .now) (c .before .before .before .before .before .before .before .before .before .before .args .store .now) 56 _ (admitted-goes (c .before .before .before .before .before .before .before .before .before .before .args .state .now) (c .before .before .before .before .before .before .before .before .before .before .args .rx .now) (c .before .before .before .before .before .before .before .before .before .before .args .store .now) 56 _ (c .before .before .before .before .before .admit .result) (c .before .before .before .before .before .admit .ensures) (c .before .before .before .admitted2 .given .1)) (λ j. c .before .before .before .before .before .before .before .before .before .slice-known .given j .fits), c .drop-waiting .ensures ∙ ap dropped ((admitted-goes (c .before .before .before .before .before .before .before .before .before .before .args .state .now) (c .before .before .before .before .before .before .before .before .before .before .args .rx .now) (c .before .before .before .before .before .before .before .before .before .before .args .store .now) 56 _ (c .before .before .before .before .before .admit .result) (c .before .before .before .before .before .admit .ensures) (c .before .before .before .admitted2 .given .1)) .header))
 
--- src/dispatch.rt:110:1
 same-length : tie.Need-same-length
 same-length c = search needs
 
--- src/dispatch.rt:110:1
 returns : tie.Need-returns
 unfolding frontCall
 returns c = wide-refuses (c .before .before .before .before .before .before .before .before .before .args .state .now) (c .before .before .before .before .before .before .before .before .before .args .rx .now) (c .before .before .before .before .before .before .before .before .before .args .store .now) (agreedIn (c .before .before .before .before .before .before .before .before .before .args .state .now)) _ _ _ _ (c .before .before .before .before .admit .result) _ (c .before .before .before .before .admit .ensures) (c .before .before .admitted .given .1) (c .refused .ensures)
 
--- src/dispatch.rt:110:1
 same-length-2 : tie.Need-same-length-2
 same-length-2 c = search needs
 
--- src/dispatch.rt:110:1
 returns-2 : tie.Need-returns-2
 unfolding frontCall
 returns-2 c = wide-leaves (c .before .before .before .before .before .before .before .before .before .before .before .before .before .args .state .now) (c .before .before .before .before .before .before .before .before .before .before .before .before .before .args .rx .now) (c .before .before .before .before .before .before .before .before .before .before .before .before .before .args .store .now) (agreedIn (c .before .before .before .before .before .before .before .before .before .before .before .before .before .args .state .now)) _ _ _ _ _ _ _ _ _ _ (admitted-goes (c .before .before .before .before .before .before .before .before .before .before .before .before .before .args .state .now) (c .before .before .before .before .before .before .before .before .before .before .before .before .before .args .rx .now) (c .before .before .before .before .before .before .before .before .before .before .before .before .before .args .store .now) 56 _ (c .before .before .before .before .before .before .before .before .admit .result) (c .before .before .before .before .before .before .before .before .admit .ensures) (c .before .before .before .before .before .before .admitted2 .given .1)) (c .before .before .front-step .ensures)

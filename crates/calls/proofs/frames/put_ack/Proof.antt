@@ -9,32 +9,25 @@ use Rattle.calls.proofs.frames.put_ack.Lts as lts
 use Rattle.calls.proofs.frames.ids_in.Reads as ids-in-reads
 use Rattle.calls.proofs.frames.put_okay.Reads as put-okay-reads
 
--- src/frames.rt:65:32
 enum-told : tie.Need-enum-told
 enum-told c = search needs
 
--- src/frames.rt:66:25
 enum-known-ack : tie.Need-enum-known-ack
 enum-known-ack c = search needs
 
--- src/frames.rt:66:54
 ids-in-requires : tie.Need-ids-in-requires
 ids-in-requires c κs = search needs
 
--- src/frames.rt:66:33
 put-okay-requires : tie.Need-put-okay-requires
 unfolding isAck
 put-okay-requires c κs = c .before .before .before .before .before .before .pre (ap isAck (c .before .before .before .ack .given .1))
 
--- src/frames.rt:54:1
 returns : tie.Need-returns
 returns c = ack-none (c .before .before .before .args .n) (c .before .before .before .args .s) _ _ (c .before .before .before .args .ack) (c .enum-told .given .1)
 
--- src/frames.rt:54:1
 same-length : tie.Need-same-length
 same-length c = search needs
 
--- src/frames.rt:54:1
 returns-2 : tie.Need-returns-2
 returns-2 c = ack-some (c .before .before .before .before .before .before .before .before .before .args .n) (c .before .before .before .before .before .before .before .before .before .args .s) _ _ _ _ (c .before .before .before .before .before .before .before .before .before .args .ack) _ _ (c .before .before .before .before .before .before .ack .given .1) (c .before .before .before .ids-in .ensures) (c .before .before .put-okay .ensures)
 

@@ -9,23 +9,18 @@ use Rattle.config.proofs.negotiated.Negotiated.checksum.Reads as checksum-reads
 use Rattle.calls.proofs.frames.word.Reads as word-reads
 use Rattle.wire.proofs.send_okay.Reads as send-okay-reads
 
--- src/frames.rt:43:44
 word-requires : tie.Need-word-requires
 word-requires c κs = search needs
 
--- src/frames.rt:43:55
 checksum-requires : tie.Need-checksum-requires
 checksum-requires c κs = search needs
 
--- src/frames.rt:43:5
 send-okay-requires : tie.Need-send-okay-requires
 send-okay-requires c κs = search needs
 
--- src/frames.rt:33:1
 same-length : tie.Need-same-length
 same-length c = search needs
 
--- src/frames.rt:33:1
 returns : tie.Need-returns
 returns c = okay-puts (c .before .before .before .before .before .before .before .args .n) (c .before .before .before .before .before .before .before .args .ids) (c .before .before .before .before .before .before .before .args .len) (c .before .before .before .before .word .result) _ (c .before .before .before .checksum .result) _ _ _ _ (c .before .before .before .before .word .ensures) refl (c .before .before .before .checksum .ensures) (c .before .before .send-okay .ensures)
 

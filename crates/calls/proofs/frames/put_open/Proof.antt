@@ -8,23 +8,18 @@ use Rattle.config.proofs.negotiated.Negotiated.advertised_credit.Reads as adver
 use Rattle.config.proofs.negotiated.Negotiated.checksum.Reads as checksum-reads
 use Rattle.wire.proofs.send_open.Reads as send-open-reads
 
--- src/frames.rt:74:9
 advertised-credit-requires : tie.Need-advertised-credit-requires
 advertised-credit-requires c κs = search needs
 
--- src/frames.rt:76:9
 checksum-requires : tie.Need-checksum-requires
 checksum-requires c κs = search needs
 
--- src/frames.rt:69:5
 send-open-requires : tie.Need-send-open-requires
 send-open-requires c κs = search needs
 
--- src/frames.rt:59:1
 same-length : tie.Need-same-length
 same-length c = search needs
 
--- src/frames.rt:59:1
 returns : tie.Need-returns
 unfolding frameBytes
 returns c = rw (c .before .before .before .checksum .ensures, c .before .before .before .before .advertised-credit .ensures) at (c .before .before .send-open .ensures)

@@ -7,19 +7,15 @@ use Rattle.calls.proofs.frames.put_write.Lts as lts
 use Rattle.config.proofs.negotiated.Negotiated.checksum.Reads as checksum-reads
 use Rattle.wire.proofs.send_write.Reads as send-write-reads
 
--- src/frames.rt:85:71
 checksum-requires : tie.Need-checksum-requires
 checksum-requires c κs = search needs
 
--- src/frames.rt:85:5
 send-write-requires : tie.Need-send-write-requires
 send-write-requires c κs = search needs
 
--- src/frames.rt:73:1
 same-length : tie.Need-same-length
 same-length c = search needs
 
--- src/frames.rt:73:1
 returns : tie.Need-returns
 unfolding frameBytes
 returns c = rw (c .before .before .before .checksum .ensures) at (c .before .before .send-write .ensures)

@@ -19,35 +19,27 @@ Inv-loop state₀ i₀ state i = (i ≤ 64) × (length state ≡ length state₀
 abbrev μ-loop : tie.MeasureT-loop
 μ-loop state₀ i₀ state i = 64 - i
 
--- src/make.rt:29:5
 loop-holds : tie.Need-loop-holds Inv-loop μ-loop
 loop-holds c = (omega arith, refl, slots-none (c .before .args .state .now))
 
--- src/make.rt:30:28
 empty-requires : tie.Need-empty-requires Inv-loop μ-loop
 empty-requires c κs = search needs
 
--- src/make.rt:30:9
 put-slot-requires : tie.Need-put-slot-requires Inv-loop μ-loop
 put-slot-requires c κs = search needs
 
--- src/make.rt:31:9
 add-i : tie.Need-add-i Inv-loop μ-loop
 add-i c = search needs
 
--- src/make.rt:29:5
 loop-less : tie.Need-loop-less Inv-loop μ-loop
 loop-less c = search needs
 
--- src/make.rt:29:5
 loop-again : tie.Need-loop-again Inv-loop μ-loop
 loop-again c = (omega arith, omega arith, slots-more (c .before .before .before .before .before .before .before .before .args .state .now) (c .before .before .before .before .before .before .loop .state) _ (c .before .before .before .empty .result) (c .before .before .before .before .before .before .loop .i) (omega arith) (omega arith) (c .before .before .before .before .before .before .loop .inv .2) (c .before .before .before .empty .ensures) (c .before .before .put-slot .ensures))
 
--- src/make.rt:24:1
 same-length : tie.Need-same-length Inv-loop μ-loop
 same-length c = search needs
 
--- src/make.rt:24:1
 returns : tie.Need-returns Inv-loop μ-loop
 returns c = let e : c .before .loop .i ≡ 64 = omega arith in subst (λ (x : ℕ). c .before .loop .state ≡ put (c .before .before .before .args .state .now) 58 (emptySlots x)) e (c .before .loop .inv .2)
 

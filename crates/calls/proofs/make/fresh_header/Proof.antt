@@ -5,7 +5,6 @@ use Rattle.calls.proofs.make.fresh_header.Tie as tie
 use Rattle.calls.proofs.make.fresh_header.Reads as reads
 use Rattle.calls.proofs.make.fresh_header.Lts as lts
 
--- src/make.rt:59:1
 returns : tie.Need-returns
 unfolding fresh
 returns c = refl

@@ -13,43 +13,33 @@ use Rattle.calls.proofs.make.clear_slots.Reads as clear-slots-reads
 use Rattle.calls.proofs.make.fresh_header.Reads as fresh-header-reads
 use Rattle.state.proofs.put_header.Reads as put-header-reads
 
--- src/make.rt:88:9
 returns : tie.Need-returns
 returns c = make-short (c .before .before .args .state .now) (c .before .before .args .config) (c .before .before .args .version) (c .before .before .args .max-payload) (c .before .before .args .host-delayed-ack) (c .before .before .args .device-delayed-ack) _ (omega arith) refl
 
--- src/make.rt:90:8
 within-limits-requires : tie.Need-within-limits-requires
 within-limits-requires c κs = search needs
 
--- src/make.rt:91:13
 new-requires : tie.Need-new-requires
 new-requires c κs = search needs
 
--- src/make.rt:98:9
 clear-slots-requires : tie.Need-clear-slots-requires
 clear-slots-requires c κs = search needs
 
--- src/make.rt:99:9
 clear-opens-requires : tie.Need-clear-opens-requires
 clear-opens-requires c κs = search needs
 
--- src/make.rt:100:27
 fresh-header-requires : tie.Need-fresh-header-requires
 fresh-header-requires c κs = search needs
 
--- src/make.rt:100:9
 put-header-requires : tie.Need-put-header-requires
 put-header-requires c κs = search needs
 
--- src/make.rt:101:9
 same-length : tie.Need-same-length
 same-length c = search needs
 
--- src/make.rt:101:9
 returns-2 : tie.Need-returns-2
 returns-2 c = make-done (c .before .before .before .before .before .before .before .before .before .before .before .before .before .before .before .before .before .before .args .state .now) (c .before .before .before .before .before .before .before .before .before .before .before .before .before .before .before .before .before .before .args .config) (c .before .before .before .before .before .before .before .before .before .before .before .before .before .before .before .before .before .before .args .version) (c .before .before .before .before .before .before .before .before .before .before .before .before .before .before .before .before .before .before .args .max-payload) (c .before .before .before .before .before .before .before .before .before .before .before .before .before .before .before .before .before .before .args .host-delayed-ack) (c .before .before .before .before .before .before .before .before .before .before .before .before .before .before .before .before .before .before .args .device-delayed-ack) _ (c .before .before .before .before .before .before .before .before .before .before .before .before .before .new .result) (c .before .before .before .fresh-header .result) _ _ _ (omega arith) (sym (c .before .before .before .before .before .before .before .before .before .before .before .before .before .before .before .within-limits .ensures) ∙ c .before .before .before .before .before .before .before .before .before .before .before .before .before .before .if2 .taken) (c .before .before .before .before .before .before .before .before .before .before .before .before .before .new .ensures) (c .before .before .before .before .before .before .before .before .before .before .before .clear-slots .ensures) (c .before .before .before .before .before .before .before .clear-opens .ensures) (c .before .before .before .fresh-header .ensures) (c .before .before .put-header .ensures) refl
 
--- src/make.rt:77:1
 returns-3 : tie.Need-returns-3
 returns-3 c = make-bad (c .before .before .before .before .args .state .now) (c .before .before .before .before .args .config) (c .before .before .before .before .args .version) (c .before .before .before .before .args .max-payload) (c .before .before .before .before .args .host-delayed-ack) (c .before .before .before .before .args .device-delayed-ack) _ (omega arith) (sym (c .before .within-limits .ensures) ∙ c .if2 .left) refl
 

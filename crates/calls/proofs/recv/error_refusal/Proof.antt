@@ -6,24 +6,19 @@ use Rattle.calls.proofs.recv.error_refusal.Reads as reads
 use Rattle.calls.proofs.recv.error_refusal.Lts as lts
 use Rattle.calls.proofs.recv.fault_refusal.Reads as fault-refusal-reads
 
--- src/recv.rt:50:33
 enum-told : tie.Need-enum-told
 enum-told c = search needs
 
--- src/recv.rt:51:29
 enum-known-error : tie.Need-enum-known-error
 enum-known-error c = search needs
 
--- src/recv.rt:51:39
 fault-refusal-requires : tie.Need-fault-refusal-requires
 fault-refusal-requires c κs = search needs
 
--- src/recv.rt:46:1
 returns : tie.Need-returns
 unfolding errorRefusal
 returns c = rw (c .enum-told .given .1)
 
--- src/recv.rt:46:1
 returns-2 : tie.Need-returns-2
 unfolding errorRefusal
 returns-2 c = rw (c .before .before .error .given .1) (c .fault-refusal .ensures)

@@ -5,29 +5,23 @@ use Rattle.calls.proofs.recv.fault_refusal.Tie as tie
 use Rattle.calls.proofs.recv.fault_refusal.Reads as reads
 use Rattle.calls.proofs.recv.fault_refusal.Lts as lts
 
--- src/recv.rt:40:37
 enum-told : tie.Need-enum-told
 enum-told c = search needs
 
--- src/recv.rt:41:44
 enum-told-2 : tie.Need-enum-told-2
 enum-told-2 c = search needs
 
--- src/recv.rt:42:44
 enum-told-3 : tie.Need-enum-told-3
 enum-told-3 c = search needs
 
--- src/recv.rt:36:1
 returns : tie.Need-returns
 unfolding faultRefusal
 returns c = rw (c .enum-told .given .1)
 
--- src/recv.rt:36:1
 returns-2 : tie.Need-returns-2
 unfolding faultRefusal
 returns-2 c = rw (c .enum-told2 .given .1)
 
--- src/recv.rt:36:1
 returns-3 : tie.Need-returns-3
 unfolding faultRefusal
 returns-3 c = rw (c .enum-told3 .given .1)

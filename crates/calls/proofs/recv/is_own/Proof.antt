@@ -7,11 +7,9 @@ use Rattle.calls.proofs.recv.is_own.Tie as tie
 use Rattle.calls.proofs.recv.is_own.Reads as reads
 use Rattle.calls.proofs.recv.is_own.Lts as lts
 
--- src/open.rt:86:9
 returns : tie.Need-returns
 returns c = and-goes (c .before .before .args .test) (eqb (c .before .before .args .arg1) (c .before .before .args .local .0)) _ (c .before .if1 .taken) refl
 
--- src/open.rt:82:1
 returns-2 : tie.Need-returns-2
 returns-2 c = search needs
 

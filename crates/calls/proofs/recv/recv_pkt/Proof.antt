@@ -7,15 +7,12 @@ use Rattle.calls.proofs.recv.recv_pkt.Reads as reads
 use Rattle.calls.proofs.recv.recv_pkt.Lts as lts
 use Rattle.protocol.proofs.packet.Packet.decode.Reads as decode-reads
 
--- src/recv.rt:19:9
 decode-requires : tie.Need-decode-requires
 decode-requires c κs = search needs
 
--- src/recv.rt:21:44
 enum-told : tie.Need-enum-told
 enum-told c = search needs
 
--- src/recv.rt:22:33
 enum-known-decoded : tie.Need-enum-known-decoded
 enum-known-decoded c = search needs
 
@@ -25,44 +22,35 @@ cast-wide c = search needs
 enum-told-2 : tie.Need-enum-told-2
 enum-told-2 c = search needs
 
--- src/recv.rt:27:68
 enum-told-3 : tie.Need-enum-told-3
 enum-told-3 c = search needs
 
--- src/recv.rt:28:36
 enum-known-decoded-2 : tie.Need-enum-known-decoded-2
 enum-known-decoded-2 c = search needs
 
--- src/recv.rt:32:27
 enum-known-decoded-3 : tie.Need-enum-known-decoded-3
 enum-known-decoded-3 c = search needs
 
--- src/recv.rt:16:1
 returns : tie.Need-returns
 unfolding receivedBy
 returns c = rw (sym (c .before .before .decode .ensures), c .enum-told .given .1)
 
--- src/recv.rt:16:1
 returns-2 : tie.Need-returns-2
 unfolding receivedBy
 returns-2 c = rw (sym (c .before .before .before .decode .ensures), c .before .decoded .given .1)
 
--- src/recv.rt:16:1
 returns-3 : tie.Need-returns-3
 unfolding receivedBy
 returns-3 c = rw (sym (c .before .before .decode .ensures), c .enum-told2 .given .1)
 
--- src/recv.rt:16:1
 returns-4 : tie.Need-returns-4
 unfolding receivedBy
 returns-4 c = rw (sym (c .before .before .decode .ensures), c .enum-told3 .given .1)
 
--- src/recv.rt:16:1
 returns-5 : tie.Need-returns-5
 unfolding receivedBy
 returns-5 c = rw (sym (c .before .before .before .decode .ensures), c .before .decoded2 .given .1)
 
--- src/recv.rt:16:1
 returns-6 : tie.Need-returns-6
 unfolding receivedBy
 returns-6 c = rw (sym (c .before .before .before .decode .ensures), c .before .decoded3 .given .1)

@@ -8,24 +8,19 @@ use Rattle.calls.proofs.recv.unless_fault.Reads as reads
 use Rattle.calls.proofs.recv.unless_fault.Lts as lts
 use Rattle.calls.proofs.recv.fault_refusal.Reads as fault-refusal-reads
 
--- src/recv.rt:60:23
 enum-told : tie.Need-enum-told
 enum-told c = search needs
 
--- src/recv.rt:61:20
 enum-known-fault : tie.Need-enum-known-fault
 enum-known-fault c = search needs
 
--- src/recv.rt:61:44
 fault-refusal-requires : tie.Need-fault-refusal-requires
 fault-refusal-requires c κs = search needs
 
--- src/recv.rt:56:1
 returns : tie.Need-returns
 unfolding unlessFault
 returns c = rw (c .enum-told .given .1)
 
--- src/recv.rt:56:1
 returns-2 : tie.Need-returns-2
 unfolding unlessFault
 returns-2 c = rw (c .before .before .fault .given .1) (ap Refused (c .fault-refusal .ensures))

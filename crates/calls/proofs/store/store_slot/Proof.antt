@@ -10,19 +10,15 @@ use Rattle.calls.proofs.store.store_slot.Lts as lts
 use Rattle.state.proofs.put_header.Reads as put-header-reads
 use Rattle.state.proofs.put_slot.Reads as put-slot-reads
 
--- src/transfer.rt:46:5
 put-slot-requires : tie.Need-put-slot-requires
 put-slot-requires c κs = search needs
 
--- src/transfer.rt:47:5
 put-header-requires : tie.Need-put-header-requires
 put-header-requires c κs = search needs
 
--- src/transfer.rt:42:1
 same-length : tie.Need-same-length
 same-length c = search needs
 
--- src/transfer.rt:42:1
 returns : tie.Need-returns
 returns c = c .before .before .put-header .ensures ∙ ap (λ (x : List ℕ). putHeader x (c .before .before .before .before .before .before .before .before .before .args .h)) (c .before .before .before .before .before .before .put-slot .ensures)
 

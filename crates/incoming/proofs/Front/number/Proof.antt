@@ -5,20 +5,16 @@ use Rattle.incoming.proofs.Front.number.Tie as tie
 use Rattle.incoming.proofs.Front.number.Reads as reads
 use Rattle.incoming.proofs.Front.number.Lts as lts
 
--- src/lib.rt:52:34
 enum-told : tie.Need-enum-told
 enum-told c = search needs
 
--- src/lib.rt:53:31
 enum-told-2 : tie.Need-enum-told-2
 enum-told-2 c = search needs
 
--- src/lib.rt:48:5
 returns : tie.Need-returns
 unfolding frontNumber
 returns c = rw (c .enum-told .given .1)
 
--- src/lib.rt:48:5
 returns-2 : tie.Need-returns-2
 unfolding frontNumber
 returns-2 c = rw (c .enum-told2 .given .1)

@@ -10,55 +10,42 @@ use Rattle.opening.proofs.open.still_waits.Reads as still-waits-reads
 use Rattle.calls.proofs.recv.recv_pkt.Reads as recv-pkt-reads
 use Rattle.state.proofs.put_header.Reads as put-header-reads
 
--- src/open.rt:237:9
 recv-pkt-requires : tie.Need-recv-pkt-requires
 recv-pkt-requires c κs = search needs
 
--- src/open.rt:239:24
 enum-known-found : tie.Need-enum-known-found
 enum-known-found c = search needs
 
--- src/open.rt:240:31
 still-waits-requires : tie.Need-still-waits-requires
 still-waits-requires c κs = search needs
 
--- src/open.rt:240:13
 put-header-requires : tie.Need-put-header-requires
 put-header-requires c κs = search needs
 
--- src/open.rt:247:26
 enum-known-found-2 : tie.Need-enum-known-found-2
 enum-known-found-2 c = search needs
 
--- src/open.rt:247:37
 open-packet-requires : tie.Need-open-packet-requires
 open-packet-requires c κs = (c .before .before .before .before .before .before .before .before .before .before .before .before .before .before .before .pre .0, c .before .before .before .before .before .before .before .before .before .before .before .before .before .before .before .pre .1, c .before .before .before .before .before .before .before .before .before .before .before .before .before .before .before .pre .2, await-packet (c .before .before .before .before .before .before .before .before .before .before .before .before .before .before .before .args .state .now) (c .before .before .before .before .before .before .before .before .before .before .before .before .before .before .before .args .rx .now) (c .before .before .before .before .before .before .before .before .before .before .before .before .before .before .before .args .store .now) (c .before .before .before .before .before .before .before .before .before .before .before .before .before .before .before .args .out .now) (c .before .before .before .before .before .before .before .before .before .before .before .before .before .before .before .args .h) (c .before .before .before .before .before .before .before .before .before .before .before .before .before .before .before .pre .1) (c .before .before .before .before .before .before .before .before .before .before .before .before .before .before .before .args .received .now) (c .before .before .before .before .before .before .before .recv-pkt .result) (c .before .before .before .before .before .before .before .recv-pkt .ensures) _ (c .before .before .before .before .before .found2 .given .1))
 
--- src/open.rt:224:1
 same-length : tie.Need-same-length
 same-length c = search needs
 
--- src/open.rt:224:1
 returns : tie.Need-returns
 returns c = await-stops (c .before .before .before .before .before .before .before .before .before .before .before .before .before .before .before .before .args .state .now) (c .before .before .before .before .before .before .before .before .before .before .before .before .before .before .before .before .args .rx .now) (c .before .before .before .before .before .before .before .before .before .before .before .before .before .before .before .before .args .store .now) (c .before .before .before .before .before .before .before .before .before .before .before .before .before .before .before .before .args .out .now) (c .before .before .before .before .before .before .before .before .before .before .before .before .before .before .before .before .args .h) (c .before .before .before .before .before .before .before .before .before .before .before .before .before .before .before .before .pre .1) (c .before .before .before .before .before .before .before .before .before .before .before .before .before .before .before .before .args .received .now) (c .before .before .before .before .before .before .before .before .recv-pkt .result) (c .before .before .before .before .before .before .before .before .recv-pkt .ensures) _ _ (c .before .before .before .still-waits .result) _ _ (c .before .before .before .before .before .before .found .given .1) (c .before .before .before .still-waits .ensures) (c .before .before .put-header .ensures) refl
 
--- src/open.rt:224:1
 same-length-2 : tie.Need-same-length-2
 same-length-2 c = search needs
 
--- src/open.rt:224:1
 same-length-3 : tie.Need-same-length-3
 same-length-3 c = search needs
 
--- src/open.rt:224:1
 same-length-4 : tie.Need-same-length-4
 same-length-4 c = search needs
 
--- src/open.rt:224:1
 same-length-5 : tie.Need-same-length-5
 same-length-5 c = search needs
 
--- src/open.rt:224:1
 returns-2 : tie.Need-returns-2
 returns-2 c = await-goes (c .before .before .before .before .before .before .before .before .before .before .before .before .before .before .before .before .before .before .before .before .before .before .before .before .args .state .now) (c .before .before .before .before .before .before .before .before .before .before .before .before .before .before .before .before .before .before .before .before .before .before .before .before .args .rx .now) (c .before .before .before .before .before .before .before .before .before .before .before .before .before .before .before .before .before .before .before .before .before .before .before .before .args .store .now) (c .before .before .before .before .before .before .before .before .before .before .before .before .before .before .before .before .before .before .before .before .before .before .before .before .args .out .now) (c .before .before .before .before .before .before .before .before .before .before .before .before .before .before .before .before .before .before .before .before .before .before .before .before .args .h) (c .before .before .before .before .before .before .before .before .before .before .before .before .before .before .before .before .before .before .before .before .before .before .before .before .pre .1) (c .before .before .before .before .before .before .before .before .before .before .before .before .before .before .before .before .before .before .before .before .before .before .before .before .args .received .now) (c .before .before .before .before .before .before .before .before .before .before .before .before .before .before .before .before .recv-pkt .result) (c .before .before .before .before .before .before .before .before .before .before .before .before .before .before .before .before .recv-pkt .ensures) _ _ _ _ _ _ (c .before .before .before .before .before .before .before .before .before .before .before .before .before .before .found2 .given .1) (c .before .before .before .before .before .before .before .before .open-packet .ensures)
 

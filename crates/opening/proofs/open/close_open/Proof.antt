@@ -9,27 +9,21 @@ use Rattle.calls.proofs.admit.drop_waiting.Reads as drop-waiting-reads
 use Rattle.calls.proofs.frames.put_close.Reads as put-close-reads
 use Rattle.state.proofs.put_header.Reads as put-header-reads
 
--- src/open.rt:112:9
 put-close-requires : tie.Need-put-close-requires
 put-close-requires c κs = search needs
 
--- src/open.rt:113:23
 drop-waiting-requires : tie.Need-drop-waiting-requires
 drop-waiting-requires c κs = search needs
 
--- src/open.rt:113:5
 put-header-requires : tie.Need-put-header-requires
 put-header-requires c κs = search needs
 
--- src/open.rt:104:1
 same-length : tie.Need-same-length
 same-length c = search needs
 
--- src/open.rt:104:1
 same-length-2 : tie.Need-same-length-2
 same-length-2 c = search needs
 
--- src/open.rt:104:1
 returns : tie.Need-returns
 returns c = (c .before .before .before .before .before .before .before .put-close .ensures, c .before .before .put-header .ensures ∙ ap (putHeader (c .before .before .before .before .before .before .before .before .before .before .before .before .before .before .args .state .now)) (c .before .before .before .drop-waiting .ensures))
 

@@ -10,52 +10,40 @@ use Rattle.calls.proofs.admit.admit.Reads as admit-reads
 use Rattle.calls.proofs.admit.refused.Reads as refused-reads
 use Rattle.opening.proofs.open.open_step.Reads as open-step-reads
 
--- src/open.rt:321:9
 admit-requires : tie.Need-admit-requires
 admit-requires c κs = search needs
 
--- src/open.rt:323:22
 enum-known-admitted : tie.Need-enum-known-admitted
 enum-known-admitted c = search needs
 
--- src/open.rt:323:34
 refused-requires : tie.Need-refused-requires
 refused-requires c κs = search needs
 
--- src/open.rt:324:23
 enum-known-admitted-2 : tie.Need-enum-known-admitted-2
 enum-known-admitted-2 c = search needs
 
--- src/open.rt:324:29
 open-step-requires : tie.Need-open-step-requires
 open-step-requires c κs = (goes-admits (c .before .before .before .before .before .before .before .before .before .before .before .before .before .before .before .args .state .now) (c .before .before .before .before .before .before .before .before .before .before .before .before .before .before .before .args .rx .now) (c .before .before .before .before .before .before .before .before .before .before .before .before .before .before .before .args .store .now) _ _ (admitted-goes (c .before .before .before .before .before .before .before .before .before .before .before .before .before .before .before .args .state .now) (c .before .before .before .before .before .before .before .before .before .before .before .before .before .before .before .args .rx .now) (c .before .before .before .before .before .before .before .before .before .before .before .before .before .before .before .args .store .now) _ _ (c .before .before .before .before .before .before .before .admit .result) (c .before .before .before .before .before .before .before .admit .ensures) (c .before .before .before .before .before .admitted2 .given .1)) (λ j. c .before .before .before .before .before .before .before .before .before .before .before .before .before .before .slice-known .given j .fits), (admitted-goes (c .before .before .before .before .before .before .before .before .before .before .before .before .before .before .before .args .state .now) (c .before .before .before .before .before .before .before .before .before .before .before .before .before .before .before .args .rx .now) (c .before .before .before .before .before .before .before .before .before .before .before .before .before .before .before .args .store .now) _ _ (c .before .before .before .before .before .before .before .admit .result) (c .before .before .before .before .before .before .before .admit .ensures) (c .before .before .before .before .before .admitted2 .given .1)) .header)
 
--- src/open.rt:311:1
 same-length : tie.Need-same-length
 same-length c = search needs
 
--- src/open.rt:311:1
 returns : tie.Need-returns
 unfolding openOf
 returns c = refused-leaves (c .before .before .before .before .before .before .before .before .before .before .before .before .args .state .now) (c .before .before .before .before .before .before .before .before .before .before .before .before .args .rx .now) (c .before .before .before .before .before .before .before .before .before .before .before .before .args .store .now) _ (agreedIn (c .before .before .before .before .before .before .before .before .before .before .before .before .args .state .now)) _ _ _ _ (c .before .before .before .before .admit .result) _ (c .before .before .before .before .admit .ensures) (c .before .before .admitted .given .1) (c .refused .ensures)
 
--- src/open.rt:311:1
 same-length-2 : tie.Need-same-length-2
 same-length-2 c = search needs
 
--- src/open.rt:311:1
 same-length-3 : tie.Need-same-length-3
 same-length-3 c = search needs
 
--- src/open.rt:311:1
 same-length-4 : tie.Need-same-length-4
 same-length-4 c = search needs
 
--- src/open.rt:311:1
 same-length-5 : tie.Need-same-length-5
 same-length-5 c = search needs
 
--- src/open.rt:311:1
 returns-2 : tie.Need-returns-2
 unfolding openOf
 returns-2 c = goes-leaves (c .before .before .before .before .before .before .before .before .before .before .before .before .before .before .before .before .before .before .before .before .before .before .before .before .args .state .now) (c .before .before .before .before .before .before .before .before .before .before .before .before .before .before .before .before .before .before .before .before .before .before .before .before .args .rx .now) (c .before .before .before .before .before .before .before .before .before .before .before .before .before .before .before .before .before .before .before .before .before .before .before .before .args .store .now) _ (agreedIn (c .before .before .before .before .before .before .before .before .before .before .before .before .before .before .before .before .before .before .before .before .before .before .before .before .args .state .now)) _ _ _ _ _ _ _ _ _ _ (admitted-goes (c .before .before .before .before .before .before .before .before .before .before .before .before .before .before .before .before .before .before .before .before .before .before .before .before .args .state .now) (c .before .before .before .before .before .before .before .before .before .before .before .before .before .before .before .before .before .before .before .before .before .before .before .before .args .rx .now) (c .before .before .before .before .before .before .before .before .before .before .before .before .before .before .before .before .before .before .before .before .before .before .before .before .args .store .now) _ _ (c .before .before .before .before .before .before .before .before .before .before .before .before .before .before .before .before .admit .result) (c .before .before .before .before .before .before .before .before .before .before .before .before .before .before .before .before .admit .ensures) (c .before .before .before .before .before .before .before .before .before .before .before .before .before .before .admitted2 .given .1)) (c .before .before .before .before .before .before .before .before .open-step .ensures)

@@ -14,47 +14,36 @@ use Rattle.calls.proofs.recv.unless_fault.Reads as unless-fault-reads
 use Rattle.protocol.proofs.packet.Packet.payload.Reads as payload-reads
 use Rattle.state.proofs.put_header.Reads as put-header-reads
 
--- src/open.rt:171:16
 frame-len-requires : tie.Need-frame-len-requires
 frame-len-requires c κs = (packet-fits (c .before .before .before .before .before .args .state .now) (c .before .before .before .before .before .args .rx .now) (c .before .before .before .before .before .args .store .now) (c .before .before .before .before .before .args .out .now) (c .before .before .before .before .before .args .h) (c .before .before .before .before .before .pre .1) (c .before .before .before .before .before .args .received .now) (c .before .before .before .before .before .args .packet) (c .before .before .before .before .before .pre .2)) .most
 
--- src/open.rt:172:9
 payload-requires : tie.Need-payload-requires
 payload-requires c κs = (packet-fits (c .before .before .before .before .before .before .args .state .now) (c .before .before .before .before .before .before .args .rx .now) (c .before .before .before .before .before .before .args .store .now) (c .before .before .before .before .before .before .args .out .now) (c .before .before .before .before .before .before .args .h) (c .before .before .before .before .before .before .pre .1) (c .before .before .before .before .before .before .args .received .now) (c .before .before .before .before .before .before .args .packet) (c .before .before .before .before .before .before .pre .2)) .whole
 
--- src/open.rt:173:9
 act-on-requires : tie.Need-act-on-requires
 act-on-requires c κs = open-room (c .before .before .before .before .before .before .before .before .before .before .before .args .state .now) (c .before .before .before .before .before .before .before .before .before .before .before .args .rx .now) (c .before .before .before .before .before .before .before .before .before .before .before .args .store .now) (c .before .before .before .before .before .before .before .before .before .before .before .args .out .now) (c .before .before .before .before .before .before .before .before .before .before .before .args .h) (c .before .before .before .before .before .before .before .before .before .before .before .pre .1) (c .before .before .before .before .before .before .before .before .before .before .before .pre .0) (c .before .before .before .before .before .before .before .before .before .before .before .args .received .now) (c .before .before .before .before .payload .result .now) (c .before .before .before .before .before .before .before .before .before .before .before .args .packet) (c .before .before .before .before .before .before .before .before .before .before .before .pre .2) (c .before .before .before .before .payload .ensures)
 
--- src/open.rt:176:9
 unless-fault-requires : tie.Need-unless-fault-requires
 unless-fault-requires c κs = search needs
 
--- src/open.rt:177:23
 still-waits-requires : tie.Need-still-waits-requires
 still-waits-requires c κs = search needs
 
--- src/open.rt:177:5
 put-header-requires : tie.Need-put-header-requires
 put-header-requires c κs = omega (arith, c .before .before .before .before .before .before .before .before .before .before .before .before .before .before .before .before .before .before .before .before .before .before .before .before .pre, c .before .before .before .before .before .before .before .before .before .before .before .state .given)
 
--- src/open.rt:159:1
 same-length : tie.Need-same-length
 same-length c = search needs
 
--- src/open.rt:159:1
 same-length-2 : tie.Need-same-length-2
 same-length-2 c = search needs
 
--- src/open.rt:159:1
 same-length-3 : tie.Need-same-length-3
 same-length-3 c = search needs
 
--- src/open.rt:159:1
 same-length-4 : tie.Need-same-length-4
 same-length-4 c = search needs
 
--- src/open.rt:159:1
 returns : tie.Need-returns
 returns c = open-acts (c .before .before .before .before .before .before .before .before .before .before .before .before .before .before .before .before .before .before .before .before .before .before .before .before .before .before .before .args .state .now) (c .before .before .before .before .before .before .before .before .before .before .before .before .before .before .before .before .before .before .before .before .before .before .before .before .before .before .before .args .rx .now) (c .before .before .before .before .before .before .before .before .before .before .before .before .before .before .before .before .before .before .before .before .before .before .before .before .before .before .before .args .store .now) (c .before .before .before .before .before .before .before .before .before .before .before .before .before .before .before .before .before .before .before .before .before .before .before .before .before .before .before .args .out .now) (c .before .before .before .before .before .before .before .before .before .before .before .before .before .before .before .before .before .before .before .before .before .before .before .before .before .before .before .args .h) (c .before .before .before .before .before .before .before .before .before .before .before .before .before .before .before .before .before .before .before .before .before .before .before .before .before .before .before .pre .1) (c .before .before .before .before .before .before .before .before .before .before .before .before .before .before .before .before .before .before .before .before .before .before .before .before .before .before .before .args .received .now) (c .before .before .before .before .before .before .before .before .before .before .before .before .before .before .before .before .before .before .before .before .before .before .before .before .before .before .before .args .packet) (c .before .before .before .before .before .before .before .before .before .before .before .before .before .before .before .before .before .before .before .before .payload .result .now) (c .before .before .before .before .before .before .before .before .before .before .before .before .before .before .before .act-on .result) (c .before .before .before .before .before .unless-fault .result) (c .before .before .before .still-waits .result) _ _ _ _ _ _ (c .before .before .before .before .before .before .before .before .before .before .before .before .before .before .before .before .before .before .before .before .payload .ensures) (c .before .before .before .before .before .before .before .before .before .before .before .before .before .before .before .act-on .ensures) (c .before .before .before .before .before .unless-fault .ensures) (c .before .before .before .still-waits .ensures) (c .before .before .put-header .ensures) (ap (λ (x : ℕ). record { answer = c .before .before .before .before .before .unless-fault .result; used = x; written = c .before .before .before .before .before .before .before .before .before .before .before .before .before .before .before .act-on .result .end }) (c .before .before .before .before .before .before .before .before .before .before .before .before .before .before .before .before .before .before .before .before .before .frame-len .ensures))
 

@@ -21,67 +21,51 @@ use Rattle.protocol.proofs.packet.Packet.payload.Reads as payload-reads
 use Rattle.slot.proofs.ChannelSlot.accept_open_ready.Reads as accept-open-ready-reads
 use Rattle.slot.proofs.ChannelSlot.opening.Reads as opening-reads
 
--- src/open.rt:131:9
 waited-for-requires : tie.Need-waited-for-requires
 waited-for-requires c κs = search needs
 
--- src/open.rt:134:16
 frame-len-requires : tie.Need-frame-len-requires
 frame-len-requires c κs = (packet-fits (c .before .before .before .before .before .before .before .before .args .state .now) (c .before .before .before .before .before .before .before .before .args .rx .now) (c .before .before .before .before .before .before .before .before .args .store .now) (c .before .before .before .before .before .before .before .before .args .out .now) (c .before .before .before .before .before .before .before .before .args .h) (c .before .before .before .before .before .before .before .before .pre .1) (c .before .before .before .before .before .before .before .before .args .received .now) (c .before .before .before .before .before .before .before .before .args .packet) (c .before .before .before .before .before .before .before .before .pre .3)) .most
 
--- src/open.rt:135:9
 payload-requires : tie.Need-payload-requires
 payload-requires c κs = (packet-fits (c .before .before .before .before .before .before .before .before .before .args .state .now) (c .before .before .before .before .before .before .before .before .before .args .rx .now) (c .before .before .before .before .before .before .before .before .before .args .store .now) (c .before .before .before .before .before .before .before .before .before .args .out .now) (c .before .before .before .before .before .before .before .before .before .args .h) (c .before .before .before .before .before .before .before .before .before .pre .1) (c .before .before .before .before .before .before .before .before .before .args .received .now) (c .before .before .before .before .before .before .before .before .before .args .packet) (c .before .before .before .before .before .before .before .before .before .pre .3)) .whole
 
--- src/open.rt:136:9
 opening-requires : tie.Need-opening-requires
 opening-requires c κs = search needs
 
--- src/open.rt:137:62
 rx-policy-requires : tie.Need-rx-policy-requires
 rx-policy-requires c κs = open-limits (c .before .before .before .before .before .before .before .before .before .before .before .args .state .now) (c .before .before .before .before .before .before .before .before .before .before .before .args .rx .now) (c .before .before .before .before .before .before .before .before .before .before .before .args .store .now) (c .before .before .before .before .before .before .before .before .before .before .before .args .out .now) (c .before .before .before .before .before .before .before .before .before .before .before .args .h) (c .before .before .before .before .before .before .before .before .before .before .before .pre .1) (c .before .before .before .before .before .before .before .before .before .before .before .pre .0)
 
--- src/open.rt:137:9
 accept-open-ready-requires : tie.Need-accept-open-ready-requires
 accept-open-ready-requires c κs = search needs
 
--- src/open.rt:139:23
 enum-known-readied : tie.Need-enum-known-readied
 enum-known-readied c = search needs
 
--- src/open.rt:140:46
 drop-waiting-requires : tie.Need-drop-waiting-requires
 drop-waiting-requires c κs = search needs
 
--- src/open.rt:140:13
 store-slot-requires : tie.Need-store-slot-requires
 store-slot-requires c κs = subst (λ (x : ChannelId). (x .slot < 64) × (4730 ≤ length (c .before .before .before .before .before .before .before .before .before .before .before .before .before .before .before .before .before .before .args .state .now))) (sym (c .before .before .before .before .before .before .before .before .before .before .before .waited-for .ensures)) (open-place (c .before .before .before .before .before .before .before .before .before .before .before .before .before .before .before .before .before .before .args .state .now) (c .before .before .before .before .before .before .before .before .before .before .before .before .before .before .before .before .before .before .args .rx .now) (c .before .before .before .before .before .before .before .before .before .before .before .before .before .before .before .before .before .before .args .store .now) (c .before .before .before .before .before .before .before .before .before .before .before .before .before .before .before .before .before .before .args .out .now) (c .before .before .before .before .before .before .before .before .before .before .before .before .before .before .before .before .before .before .args .h) (c .before .before .before .before .before .before .before .before .before .before .before .before .before .before .before .before .before .before .pre .1) (c .before .before .before .before .before .before .before .before .before .before .before .before .before .before .before .before .before .before .pre .0) (c .before .before .before .before .before .before .before .before .before .before .before .before .before .before .before .before .before .before .pre .2))
 
--- src/open.rt:148:34
 enum-told : tie.Need-enum-told
 enum-told c = search needs
 
--- src/open.rt:148:17
 close-open-requires : tie.Need-close-open-requires
 close-open-requires c κs = let k = c .before .before .before .before .before .before .before .before .before .before .before .before .before .before .before .before .before .pre .0 .room in let j = c .before .before .before .before .before .before .before .before .before .before .before .before .before .before .before .before .before .pre .0 .state-fits in (j, omega arith)
 
--- src/open.rt:118:1
 same-length : tie.Need-same-length
 same-length c = search needs
 
--- src/open.rt:118:1
 returns : tie.Need-returns
 returns c = ready-fills (c .before .before .before .before .before .before .before .before .before .before .before .before .before .before .before .before .before .before .before .before .before .args .state .now) (c .before .before .before .before .before .before .before .before .before .before .before .before .before .before .before .before .before .before .before .before .before .args .rx .now) (c .before .before .before .before .before .before .before .before .before .before .before .before .before .before .before .before .before .before .before .before .before .args .store .now) (c .before .before .before .before .before .before .before .before .before .before .before .before .before .before .before .before .before .before .before .before .before .args .out .now) (c .before .before .before .before .before .before .before .before .before .before .before .before .before .before .before .before .before .before .before .before .before .args .h) (c .before .before .before .before .before .before .before .before .before .before .before .before .before .before .before .before .before .before .before .before .before .pre .1) (c .before .before .before .before .before .before .before .before .before .before .before .before .before .before .before .before .before .before .before .before .before .args .received .now) (c .before .before .before .before .before .before .before .before .before .before .before .before .before .before .before .before .before .before .before .before .before .args .packet) (c .before .before .before .before .before .before .before .before .before .before .before .before .before .before .waited-for .result) (c .before .before .before .before .before .before .before .before .before .before .before .before .before .before .waited-for .ensures) (c .before .before .before .before .before .before .before .before .before .before .before .payload .result .now) (c .before .before .before .before .before .before .before .before .before .before .before .payload .ensures) (c .before .before .before .before .before .before .before .before .before .rx-policy .result) (c .before .before .before .before .before .before .before .before .before .rx-policy .ensures) (c .before .before .before .before .before .before .before .before .before .before .opening .result) (c .before .before .before .before .before .before .before .before .before .before .opening .ensures) (c .before .before .before .before .before .before .before .before .accept-open-ready .result) (c .before .before .before .before .before .before .before .before .accept-open-ready .ensures) _ (c .before .before .before .drop-waiting .result) _ _ (c .before .before .before .before .before .before .readied .given .1) (c .before .before .before .drop-waiting .ensures) (c .before .before .store-slot .ensures) (ap (λ (x : ℕ). record { answer = Opened (c .before .before .before .before .before .before .before .before .before .before .before .before .before .before .waited-for .result); used = x; written = 0 }) (c .before .before .before .before .before .before .before .before .before .before .before .before .frame-len .ensures))
 
--- src/open.rt:118:1
 same-length-2 : tie.Need-same-length-2
 same-length-2 c = search needs
 
--- src/open.rt:118:1
 same-length-3 : tie.Need-same-length-3
 same-length-3 c = search needs
 
--- src/open.rt:118:1
 returns-2 : tie.Need-returns-2
 returns-2 c = ready-short (c .before .before .before .before .before .before .before .before .before .before .before .before .before .before .before .before .before .before .before .before .before .before .args .state .now) (c .before .before .before .before .before .before .before .before .before .before .before .before .before .before .before .before .before .before .before .before .before .before .args .rx .now) (c .before .before .before .before .before .before .before .before .before .before .before .before .before .before .before .before .before .before .before .before .before .before .args .store .now) (c .before .before .before .before .before .before .before .before .before .before .before .before .before .before .before .before .before .before .before .before .before .before .args .out .now) (c .before .before .before .before .before .before .before .before .before .before .before .before .before .before .before .before .before .before .before .before .before .before .args .h) (c .before .before .before .before .before .before .before .before .before .before .before .before .before .before .before .before .before .before .before .before .before .before .pre .1) (c .before .before .before .before .before .before .before .before .before .before .before .before .before .before .before .before .before .before .before .before .before .before .args .received .now) (c .before .before .before .before .before .before .before .before .before .before .before .before .before .before .before .before .before .before .before .before .before .before .args .packet) (c .before .before .before .before .before .before .before .before .before .before .before .before .before .before .before .waited-for .result) (c .before .before .before .before .before .before .before .before .before .before .before .before .before .before .before .waited-for .ensures) (c .before .before .before .before .before .before .before .before .before .before .before .before .payload .result .now) (c .before .before .before .before .before .before .before .before .before .before .before .before .payload .ensures) (c .before .before .before .before .before .before .before .before .before .before .rx-policy .result) (c .before .before .before .before .before .before .before .before .before .before .rx-policy .ensures) (c .before .before .before .before .before .before .before .before .before .before .before .opening .result) (c .before .before .before .before .before .before .before .before .before .before .before .opening .ensures) (c .before .before .before .before .before .before .before .before .before .accept-open-ready .result) (c .before .before .before .before .before .before .before .before .before .accept-open-ready .ensures) _ _ _ _ (c .before .before .before .before .before .before .before .before .before .before .before .before .before .before .before .before .before .before .before .before .before .before .pre .0 .room) (c .before .before .before .before .before .before .before .enum-told .given .1) (c .before .before .before .before .close-open .ensures .0) (c .before .before .before .before .close-open .ensures .1) (ap (λ (x : ℕ). record { answer = Refused ShortReadyPayload; used = x; written = c .before .before .before .before .close-open .result }) (c .before .before .before .before .before .before .before .before .before .before .before .before .before .frame-len .ensures))
 

@@ -10,20 +10,16 @@ use Rattle.reading.proofs.read.is_direct.Lts as lts
 use Rattle.calls.proofs.recv.is_own.Reads as is-own-reads
 use Rattle.protocol.proofs.command.Command.is_write.Reads as is-write-reads
 
--- src/read.rt:139:15
 is-write-requires : tie.Need-is-write-requires
 is-write-requires c κs = search needs
 
--- src/read.rt:139:8
 is-own-requires : tie.Need-is-own-requires
 is-own-requires c κs = search needs
 
--- src/read.rt:140:9
 returns : tie.Need-returns
 unfolding isDirect
 returns c = and-goes _ _ _ (sym (own-is _ _ _ (c .before .before .before .before .before .args .packet .arg1) (c .before .before .before .before .before .args .s .local .0) (c .before .before .before .is-write .ensures) (c .before .before .is-own .ensures)) ∙ c .before .if1 .taken) refl
 
--- src/read.rt:134:1
 returns-2 : tie.Need-returns-2
 unfolding isDirect
 returns-2 c = and-stops _ _ (sym (own-is _ _ _ (c .before .before .before .before .args .packet .arg1) (c .before .before .before .before .args .s .local .0) (c .before .before .is-write .ensures) (c .before .is-own .ensures)) ∙ c .if1 .left)

@@ -16,51 +16,39 @@ slot-at-requires c κs = search needs
 take-buffered-requires : tie.Need-take-buffered-requires
 take-buffered-requires c κs = (c .before .before .before .before .before .before .before .before .before .pre, c .before .before .before .slot-at .ensures)
 
--- src/read.rt:131:24
 enum-known-tried : tie.Need-enum-known-tried
 enum-known-tried c = search needs
 
--- src/read.rt:132:24
 enum-known-tried-2 : tie.Need-enum-known-tried-2
 enum-known-tried-2 c = search needs
 
--- src/read.rt:133:13
 store-slot-requires : tie.Need-store-slot-requires
 store-slot-requires c κs = (c .before .before .before .before .before .before .before .before .before .before .before .before .before .before .before .before .before .before .before .before .pre .place-fits, omega (arith, c .before .before .before .before .before .before .before .before .before .before .before .before .before .before .before .before .before .before .before .before .pre .state-fits, c .before .before .before .before .before .before .before .before .before .state .given))
 
--- src/read.rt:135:25
 unless-fault-requires : tie.Need-unless-fault-requires
 unless-fault-requires c κs = search needs
 
--- src/read.rt:115:1
 same-length : tie.Need-same-length
 same-length c = search needs
 
--- src/read.rt:115:1
 same-length-2 : tie.Need-same-length-2
 same-length-2 c = search needs
 
--- src/read.rt:115:1
 same-length-3 : tie.Need-same-length-3
 same-length-3 c = search needs
 
--- src/read.rt:115:1
 returns : tie.Need-returns
 returns c = λ store. replied _ (c .before .before .before .before .before .before .before .before .before .before .before .before .before .before .before .before .before .before .before .args .h) (c .before .before .before .before .before .before .before .before .before .before .before .before .before .before .before .before .before .before .before .args .ch) _ (c .before .before .before .before .before .before .before .before .before .before .before .before .before .before .before .before .before .before .before .args .used) (c .before .before .before .before .before .before .before .before .before .before .before .before .before .before .before .before .before .before .before .args .fault) _ (c .before .before .before .before .before .before .before .before .before .before .before .before .before .before .before .before .before .before .before .args .at) _ _ _ (c .before .before .before .before .before .before .before .before .before .take-buffered .result) _ _ _ (c .before .before .before .before .before .before .before .before .before .take-buffered .ensures store) _ (c .before .tried .given .1) .1
 
--- src/read.rt:115:1
 same-length-4 : tie.Need-same-length-4
 same-length-4 c = search needs
 
--- src/read.rt:115:1
 same-length-5 : tie.Need-same-length-5
 same-length-5 c = search needs
 
--- src/read.rt:115:1
 same-length-6 : tie.Need-same-length-6
 same-length-6 c = search needs
 
--- src/read.rt:115:1
 returns-2 : tie.Need-returns-2
 returns-2 c = λ store. again-waits (c .before .before .before .before .before .before .before .before .before .before .before .before .before .before .before .before .before .before .before .before .before .before .before .before .args .h) (c .before .before .before .before .before .before .before .before .before .before .before .before .before .before .before .before .before .before .before .before .before .before .before .before .args .ch) (c .before .before .before .before .before .before .before .before .before .before .before .before .before .before .before .before .before .before .before .before .before .before .before .before .args .used) (c .before .before .before .before .before .before .before .before .before .before .before .before .before .before .before .before .before .before .before .before .before .before .before .before .args .fault) (c .before .before .before .before .before .before .before .before .before .before .before .before .before .before .before .before .before .before .before .before .before .before .before .before .args .at) (c .before .before .before .before .before .before .before .before .before .before .before .before .before .before .before .before .before .before .before .before .before .before .before .before .args .state .now) (c .before .before .before .before .before .before .before .before .before .before .before .before .before .before .before .before .before .before .before .before .before .before .before .before .args .rx .now) store (c .before .before .before .before .before .before .before .before .before .before .before .before .before .before .before .before .before .before .before .before .before .before .before .before .args .out .now) (c .before .before .before .before .before .before .before .before .before .before .before .before .before .before .before .before .before .before .before .before .before .before .before .before .args .buf .now) _ _ _ (c .unless-fault .result) _ _ _ _ (empty _ (c .before .before .before .before .before .before .before .before .before .before .before .before .before .before .before .before .before .before .before .before .before .before .before .before .args .h) (c .before .before .before .before .before .before .before .before .before .before .before .before .before .before .before .before .before .before .before .before .before .before .before .before .args .ch) _ (c .before .before .before .before .before .before .before .before .before .before .before .before .before .before .before .before .before .before .before .before .before .before .before .before .args .used) (c .before .before .before .before .before .before .before .before .before .before .before .before .before .before .before .before .before .before .before .before .before .before .before .before .args .fault) _ (c .before .before .before .before .before .before .before .before .before .before .before .before .before .before .before .before .before .before .before .before .before .before .before .before .args .at) _ _ _ (c .before .before .before .before .before .before .before .before .before .before .before .before .before .before .take-buffered .result) _ _ _ (c .before .before .before .before .before .before .before .before .before .before .before .before .before .before .take-buffered .ensures store) _ _ (c .before .before .before .before .before .before .tried2 .given .1)) (c .before .before .before .store-slot .ensures) (c .unless-fault .ensures)
 

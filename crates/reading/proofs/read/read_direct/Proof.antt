@@ -10,39 +10,30 @@ use Rattle.calls.proofs.store.store_slot.Reads as store-slot-reads
 use Rattle.le.proofs.copy_at.Reads as copy-at-reads
 use Rattle.slot.proofs.ChannelSlot.deliver.Reads as deliver-reads
 
--- src/read.rt:174:46
 rx-policy-requires : tie.Need-rx-policy-requires
 rx-policy-requires c κs = search needs
 
--- src/read.rt:174:9
 deliver-requires : tie.Need-deliver-requires
 deliver-requires c κs = search needs
 
--- src/read.rt:177:5
 copy-at-requires : tie.Need-copy-at-requires
 copy-at-requires c κs = search needs
 
--- src/read.rt:178:9
 put-ack-requires : tie.Need-put-ack-requires
 put-ack-requires c κs = search needs
 
--- src/read.rt:179:5
 store-slot-requires : tie.Need-store-slot-requires
 store-slot-requires c κs = search needs
 
--- src/read.rt:159:1
 same-length : tie.Need-same-length
 same-length c = search needs
 
--- src/read.rt:159:1
 same-length-2 : tie.Need-same-length-2
 same-length-2 c = search needs
 
--- src/read.rt:159:1
 same-length-3 : tie.Need-same-length-3
 same-length-3 c = search needs
 
--- src/read.rt:159:1
 returns : tie.Need-returns
 returns c = λ rx store. direct-leaves (c .before .before .before .before .before .before .before .before .before .before .before .before .before .before .before .before .before .before .before .before .args .h) (c .before .before .before .before .before .before .before .before .before .before .before .before .before .before .before .before .before .before .before .before .args .ch) (c .before .before .before .before .before .before .before .before .before .before .before .before .before .before .before .before .before .before .before .before .args .s) (c .before .before .before .before .before .before .before .before .before .before .before .before .before .before .before .before .before .before .before .before .args .used) (c .before .before .before .before .before .before .before .before .before .before .before .before .before .before .before .before .before .before .before .before .args .at) (c .before .before .before .before .before .before .before .before .before .before .before .before .before .before .before .before .before .before .before .before .args .state .now) rx store (c .before .before .before .before .before .before .before .before .before .before .before .before .before .before .before .before .before .before .before .before .args .out .now) (c .before .before .before .before .before .before .before .before .before .before .before .before .before .before .before .before .before .before .before .before .args .buf .now) (c .before .before .before .before .before .before .before .before .before .before .before .before .before .before .before .before .before .before .before .before .args .payload .now) (c .before .before .before .before .before .before .before .before .before .before .before .before .before .before .rx-policy .result) (c .before .before .before .before .before .before .before .before .before .before .before .before .before .deliver .result) _ _ _ _ (c .before .before .before .before .before .before .before .before .before .before .before .before .before .before .rx-policy .ensures) (c .before .before .before .before .before .before .before .before .before .before .before .before .before .deliver .ensures) (c .before .before .before .before .before .before .before .before .before .before .before .before .before .before .before .before .before .before .before .before .pre .4) (c .before .before .before .before .before .before .before .before .before .before .before .before .before .before .before .before .before .before .before .before .pre .3) (c .before .before .before .before .before .before .before .before .before .before .copy-at .ensures) (c .before .before .before .before .before .before .put-ack .ensures) (c .before .before .store-slot .ensures)
 

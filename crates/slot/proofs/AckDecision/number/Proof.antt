@@ -2,41 +2,31 @@ use Rattle.slot.specs.Numbers.{decisionNumber}
 use borrow.Author.Needs.{needs}
 use Rattle.slot.proofs.AckDecision.number.Statement.{statement}
 use Rattle.slot.proofs.AckDecision.number.Tie as tie
-use Rattle.slot.proofs.AckDecision.number.Reads as reads
-use Rattle.slot.proofs.AckDecision.number.Lts as lts
 
--- src/lib.rt:160:36
 enum-told : tie.Need-enum-told
 enum-told c = search needs
 
--- src/lib.rt:161:34
 enum-told-2 : tie.Need-enum-told-2
 enum-told-2 c = search needs
 
--- src/lib.rt:162:38
 enum-told-3 : tie.Need-enum-told-3
 enum-told-3 c = search needs
 
--- src/lib.rt:163:35
 enum-told-4 : tie.Need-enum-told-4
 enum-told-4 c = search needs
 
--- src/lib.rt:156:5
 returns : tie.Need-returns
 unfolding decisionNumber
 returns c = rw (c .enum-told .given .1)
 
--- src/lib.rt:156:5
 returns-2 : tie.Need-returns-2
 unfolding decisionNumber
 returns-2 c = rw (c .enum-told2 .given .1)
 
--- src/lib.rt:156:5
 returns-3 : tie.Need-returns-3
 unfolding decisionNumber
 returns-3 c = rw (c .enum-told3 .given .1)
 
--- src/lib.rt:156:5
 returns-4 : tie.Need-returns-4
 unfolding decisionNumber
 returns-4 c = rw (c .enum-told4 .given .1)

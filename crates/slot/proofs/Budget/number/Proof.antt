@@ -2,23 +2,17 @@ use Rattle.slot.specs.Numbers.{budgetNumber}
 use borrow.Author.Needs.{needs}
 use Rattle.slot.proofs.Budget.number.Statement.{statement}
 use Rattle.slot.proofs.Budget.number.Tie as tie
-use Rattle.slot.proofs.Budget.number.Reads as reads
-use Rattle.slot.proofs.Budget.number.Lts as lts
 
--- src/lib.rt:208:33
 enum-told : tie.Need-enum-told
 enum-told c = search needs
 
--- src/lib.rt:209:32
 enum-told-2 : tie.Need-enum-told-2
 enum-told-2 c = search needs
 
--- src/lib.rt:204:5
 returns : tie.Need-returns
 unfolding budgetNumber
 returns c = rw (c .enum-told .given .1)
 
--- src/lib.rt:204:5
 returns-2 : tie.Need-returns-2
 unfolding budgetNumber
 returns-2 c = rw (c .enum-told2 .given .1)

@@ -2,28 +2,20 @@ use Rattle.slot.specs.Numbers.{errorNumber}
 use borrow.Author.Needs.{needs}
 use Rattle.slot.proofs.ChannelError.number.Statement.{statement}
 use Rattle.slot.proofs.ChannelError.number.Tie as tie
-use Rattle.slot.proofs.ChannelError.number.Reads as reads
-use Rattle.slot.proofs.ChannelError.number.Lts as lts
-use Rattle.slot.proofs.ChannelFault.number.Reads as number-reads
 
--- src/lib.rt:185:37
 enum-told : tie.Need-enum-told
 enum-told c = search needs
 
--- src/lib.rt:186:33
 enum-known-self : tie.Need-enum-known-self
 enum-known-self c = search needs
 
--- src/lib.rt:186:43
 number-requires : tie.Need-number-requires
 number-requires c κs = search needs
 
--- src/lib.rt:181:5
 returns : tie.Need-returns
 unfolding errorNumber
 returns c = rw (c .enum-told .given .1)
 
--- src/lib.rt:181:5
 returns-2 : tie.Need-returns-2
 unfolding errorNumber
 returns-2 c = rw (c .before .before .self .given .1) (c .number .ensures)

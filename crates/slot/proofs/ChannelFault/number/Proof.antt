@@ -2,32 +2,24 @@ use Rattle.slot.specs.Numbers.{faultNumber}
 use borrow.Author.Needs.{needs}
 use Rattle.slot.proofs.ChannelFault.number.Statement.{statement}
 use Rattle.slot.proofs.ChannelFault.number.Tie as tie
-use Rattle.slot.proofs.ChannelFault.number.Reads as reads
-use Rattle.slot.proofs.ChannelFault.number.Lts as lts
 
--- src/lib.rt:173:41
 enum-told : tie.Need-enum-told
 enum-told c = search needs
 
--- src/lib.rt:174:48
 enum-told-2 : tie.Need-enum-told-2
 enum-told-2 c = search needs
 
--- src/lib.rt:175:48
 enum-told-3 : tie.Need-enum-told-3
 enum-told-3 c = search needs
 
--- src/lib.rt:169:5
 returns : tie.Need-returns
 unfolding faultNumber
 returns c = rw (c .enum-told .given .1)
 
--- src/lib.rt:169:5
 returns-2 : tie.Need-returns-2
 unfolding faultNumber
 returns-2 c = rw (c .enum-told2 .given .1)
 
--- src/lib.rt:169:5
 returns-3 : tie.Need-returns-3
 unfolding faultNumber
 returns-3 c = rw (c .enum-told3 .given .1)

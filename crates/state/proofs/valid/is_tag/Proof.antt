@@ -1,11 +1,8 @@
 use native.Mathlib.Omega.{arith}
 use borrow.Author.Tests.{lt-leb, le-leb}
-use Prim.Native.Nat.{_/_, _%_}
 use Rattle.state.specs.State.{isTag}
 use Rattle.state.proofs.valid.is_tag.Statement.{statement}
 use Rattle.state.proofs.valid.is_tag.Tie as tie
-use Rattle.state.proofs.valid.is_tag.Reads as reads
-use Rattle.state.proofs.valid.is_tag.Lts as lts
 
 returns : tie.Need-returns
 unfolding isTag

@@ -5,20 +5,16 @@ use Rattle.table.proofs.Allocated.number.Tie as tie
 use Rattle.table.proofs.Allocated.number.Reads as reads
 use Rattle.table.proofs.Allocated.number.Lts as lts
 
--- src/lib.rt:62:38
 enum-told : tie.Need-enum-told
 enum-told c = search needs
 
--- src/lib.rt:63:34
 enum-told-2 : tie.Need-enum-told-2
 enum-told-2 c = search needs
 
--- src/lib.rt:58:5
 returns : tie.Need-returns
 unfolding allocatedNumber
 returns c = rw (c .enum-told .given .1)
 
--- src/lib.rt:58:5
 returns-2 : tie.Need-returns-2
 unfolding allocatedNumber
 returns-2 c = rw (c .enum-told2 .given .1)

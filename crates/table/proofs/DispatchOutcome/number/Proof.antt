@@ -6,87 +6,68 @@ use Rattle.table.proofs.DispatchOutcome.number.Reads as reads
 use Rattle.table.proofs.DispatchOutcome.number.Lts as lts
 use Rattle.slot.proofs.ChannelFault.number.Reads as number-reads
 
--- src/lib.rt:73:51
 enum-told : tie.Need-enum-told
 enum-told c = search needs
 
--- src/lib.rt:74:50
 enum-told-2 : tie.Need-enum-told-2
 enum-told-2 c = search needs
 
--- src/lib.rt:75:47
 enum-told-3 : tie.Need-enum-told-3
 enum-told-3 c = search needs
 
--- src/lib.rt:76:49
 enum-told-4 : tie.Need-enum-told-4
 enum-told-4 c = search needs
 
--- src/lib.rt:77:52
 enum-told-5 : tie.Need-enum-told-5
 enum-told-5 c = search needs
 
--- src/lib.rt:78:54
 enum-told-6 : tie.Need-enum-told-6
 enum-told-6 c = search needs
 
--- src/lib.rt:79:47
 enum-told-7 : tie.Need-enum-told-7
 enum-told-7 c = search needs
 
--- src/lib.rt:80:52
 enum-known-self : tie.Need-enum-known-self
 enum-known-self c = search needs
 
--- src/lib.rt:80:62
 number-requires : tie.Need-number-requires
 number-requires c κs = search needs
 
--- src/lib.rt:81:43
 enum-told-8 : tie.Need-enum-told-8
 enum-told-8 c = search needs
 
--- src/lib.rt:69:5
 returns : tie.Need-returns
 unfolding outcomeNumber
 returns c = rw (c .enum-told .given .1)
 
--- src/lib.rt:69:5
 returns-2 : tie.Need-returns-2
 unfolding outcomeNumber
 returns-2 c = rw (c .enum-told2 .given .1)
 
--- src/lib.rt:69:5
 returns-3 : tie.Need-returns-3
 unfolding outcomeNumber
 returns-3 c = rw (c .enum-told3 .given .1)
 
--- src/lib.rt:69:5
 returns-4 : tie.Need-returns-4
 unfolding outcomeNumber
 returns-4 c = rw (c .enum-told4 .given .1)
 
--- src/lib.rt:69:5
 returns-5 : tie.Need-returns-5
 unfolding outcomeNumber
 returns-5 c = rw (c .enum-told5 .given .1)
 
--- src/lib.rt:69:5
 returns-6 : tie.Need-returns-6
 unfolding outcomeNumber
 returns-6 c = rw (c .enum-told6 .given .1)
 
--- src/lib.rt:69:5
 returns-7 : tie.Need-returns-7
 unfolding outcomeNumber
 returns-7 c = rw (c .enum-told7 .given .1)
 
--- src/lib.rt:69:5
 returns-8 : tie.Need-returns-8
 unfolding outcomeNumber
 returns-8 c = rw (c .before .before .self .given .1) (c .number .ensures)
 
--- src/lib.rt:69:5
 returns-9 : tie.Need-returns-9
 unfolding outcomeNumber
 returns-9 c = rw (c .enum-told8 .given .1)

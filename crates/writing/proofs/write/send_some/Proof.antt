@@ -14,63 +14,48 @@ use Rattle.config.proofs.negotiated.Negotiated.rx_policy.Reads as rx-policy-rea
 use Rattle.slot.proofs.ChannelSlot.spend.Reads as spend-reads
 use Rattle.writing.proofs.write.send_len.Reads as send-len-reads
 
--- src/write.rt:67:9
 send-len-requires : tie.Need-send-len-requires
 send-len-requires c κs = search needs
 
--- src/write.rt:68:20
 add-if1 : tie.Need-add-if1
 add-if1 c = search needs
 
--- src/write.rt:69:9
 refused-requires : tie.Need-refused-requires
 refused-requires c κs = search needs
 
--- src/write.rt:69:9
 returns : tie.Need-returns
 returns c = λ rx store. send-short (c .before .before .before .before .before .before .before .args .state .now) (c .before .before .before .before .before .before .before .args .out .now) (c .before .before .before .before .before .before .before .args .bytes .now) (c .before .before .before .before .before .before .before .args .ch) (c .before .before .before .before .before .before .before .args .h) (c .before .before .before .before .before .before .before .pre) (c .before .before .before .before .before .before .before .args .used) (c .before .before .before .before .before .before .before .args .s) (c .before .before .before .before .before .before .before .args .most) (c .before .before .send-len .result) (c .before .before .send-len .ensures) rx store _ (omega (arith, c .before .if1 .taken)) (c .refused .ensures)
 
--- src/write.rt:71:36
 ids-in-requires : tie.Need-ids-in-requires
 ids-in-requires c κs = search needs
 
--- src/write.rt:71:47
 sub-put-write : tie.Need-sub-put-write
 sub-put-write c = search needs
 
--- src/write.rt:71:47
 part-put-write-start : tie.Need-part-put-write-start
 part-put-write-start c = search needs
 
--- src/write.rt:71:47
 part-put-write-end : tie.Need-part-put-write-end
 part-put-write-end c = search needs
 
--- src/write.rt:71:9
 put-write-requires : tie.Need-put-write-requires
 put-write-requires c κs = search needs
 
--- src/write.rt:72:45
 rx-policy-requires : tie.Need-rx-policy-requires
 rx-policy-requires c κs = search needs
 
--- src/write.rt:72:32
 spend-requires : tie.Need-spend-requires
 spend-requires c κs = search needs
 
--- src/write.rt:72:5
 store-slot-requires : tie.Need-store-slot-requires
 store-slot-requires c κs = (c .before .before .before .before .before .before .before .before .before .before .before .before .before .before .before .pre .place-fits, c .before .before .before .before .before .before .before .before .before .before .before .before .before .before .before .pre .state-fits)
 
--- src/write.rt:53:1
 same-length : tie.Need-same-length
 same-length c = search needs
 
--- src/write.rt:53:1
 same-length-2 : tie.Need-same-length-2
 same-length-2 c = search needs
 
--- src/write.rt:53:1
 returns-2 : tie.Need-returns-2
 returns-2 c = λ rx store. send-sent (c .before .before .before .before .before .before .before .before .before .before .before .before .before .before .before .before .before .before .args .state .now) (c .before .before .before .before .before .before .before .before .before .before .before .before .before .before .before .before .before .before .args .out .now) (c .before .before .before .before .before .before .before .before .before .before .before .before .before .before .before .before .before .before .args .bytes .now) (c .before .before .before .before .before .before .before .before .before .before .before .before .before .before .before .before .before .before .args .ch) (c .before .before .before .before .before .before .before .before .before .before .before .before .before .before .before .before .before .before .args .h) (c .before .before .before .before .before .before .before .before .before .before .before .before .before .before .before .before .before .before .pre) (c .before .before .before .before .before .before .before .before .before .before .before .before .before .before .before .before .before .before .args .used) (c .before .before .before .before .before .before .before .before .before .before .before .before .before .before .before .before .before .before .args .s) (c .before .before .before .before .before .before .before .before .before .before .before .before .before .before .before .before .before .before .args .most) (c .before .before .before .before .before .before .before .before .before .before .before .before .before .send-len .result) (c .before .before .before .before .before .before .before .before .before .before .before .before .before .send-len .ensures) rx store _ (c .before .before .before .before .before .before .before .before .before .before .ids-in .result) (c .before .before .before .before .rx-policy .result) (c .before .before .before .spend .result) (c .before .before .before .before .before .before .before .before .put-write .result) _ _ _ (omega (arith, c .before .before .before .before .before .before .before .before .before .before .before .before .if1 .left)) (part-first (c .before .before .before .before .before .before .before .before .before .before .before .before .before .send-len .result) (c .before .before .before .before .before .before .before .before .before .before .before .before .before .before .before .before .before .before .args .bytes .now)) (c .before .before .before .before .before .before .before .before .before .before .ids-in .ensures) (c .before .before .before .before .before .before .before .before .put-write .ensures) (c .before .before .before .before .rx-policy .ensures) (c .before .before .before .spend .ensures) (c .before .before .store-slot .ensures) refl
 

@@ -9,63 +9,48 @@ use Rattle.calls.proofs.recv.recv_pkt.Reads as recv-pkt-reads
 use Rattle.writing.proofs.write.write_packet.Reads as write-packet-reads
 use Rattle.state.proofs.put_header.Reads as put-header-reads
 
--- src/write.rt:221:13
 recv-pkt-requires : tie.Need-recv-pkt-requires
 recv-pkt-requires c κs = search needs
 
--- src/write.rt:223:28
 enum-known-found : tie.Need-enum-known-found
 enum-known-found c = search needs
 
--- src/write.rt:224:17
 put-header-requires : tie.Need-put-header-requires
 put-header-requires c κs = search needs
 
--- src/write.rt:231:30
 enum-known-found-2 : tie.Need-enum-known-found-2
 enum-known-found-2 c = search needs
 
--- src/write.rt:231:41
 write-packet-requires : tie.Need-write-packet-requires
 write-packet-requires c κs = (c .before .before .before .before .before .before .before .before .before .before .before .before .before .before .before .before .before .pre, wait-received (c .before .before .before .before .before .before .before .before .before .before .before .before .before .before .before .before .before .args .state .now) (c .before .before .before .before .before .before .before .before .before .before .before .before .before .before .before .before .before .args .rx .now) (c .before .before .before .before .before .before .before .before .before .before .before .before .before .before .before .before .before .args .store .now) (c .before .before .before .before .before .before .before .before .before .before .before .before .before .before .before .before .before .args .out .now) (c .before .before .before .before .before .before .before .before .before .before .before .before .before .before .before .before .before .args .received .now) (c .before .before .before .before .before .before .before .before .before .before .before .before .before .before .before .before .before .args .bytes .now) (c .before .before .before .before .before .before .before .before .before .before .before .before .before .before .before .before .before .args .ch) (c .before .before .before .before .before .before .before .before .before .before .before .before .before .before .before .before .before .args .h) (c .before .before .before .before .before .before .before .before .before .before .before .before .before .before .before .before .before .args .s) (c .before .before .before .before .before .before .before .before .before .before .before .before .before .before .before .before .before .pre .finds .header) (c .before .before .before .before .before .before .before .recv-pkt .result) (c .before .before .before .before .before .before .before .recv-pkt .ensures) _ (c .before .before .before .before .before .found2 .given .1))
 
--- src/write.rt:222:9
 same-length : tie.Need-same-length
 same-length c = search needs
 
--- src/write.rt:222:9
 returns : tie.Need-returns
 returns c = wait-stops (c .before .before .before .before .before .before .before .before .before .before .before .before .before .before .before .before .before .args .state .now) (c .before .before .before .before .before .before .before .before .before .before .before .before .before .before .before .before .before .args .rx .now) (c .before .before .before .before .before .before .before .before .before .before .before .before .before .before .before .before .before .args .store .now) (c .before .before .before .before .before .before .before .before .before .before .before .before .before .before .before .before .before .args .out .now) (c .before .before .before .before .before .before .before .before .before .before .before .before .before .before .before .before .before .args .received .now) (c .before .before .before .before .before .before .before .before .before .before .before .before .before .before .before .before .before .args .bytes .now) (c .before .before .before .before .before .before .before .before .before .before .before .before .before .before .before .before .before .args .ch) (c .before .before .before .before .before .before .before .before .before .before .before .before .before .before .before .before .before .args .h) (c .before .before .before .before .before .before .before .before .before .before .before .before .before .before .before .before .before .args .s) (c .before .before .before .before .before .before .before .before .before .before .before .before .before .before .before .before .before .pre .finds .header) (c .before .before .before .before .before .before .before .recv-pkt .result) (c .before .before .before .before .before .before .before .recv-pkt .ensures) _ _ _ _ (c .before .before .before .before .before .before .before .before .before .before .if1 .taken) (c .before .before .before .before .before .found .given .1) (c .before .before .put-header .ensures) refl
 
--- src/write.rt:222:9
 same-length-2 : tie.Need-same-length-2
 same-length-2 c = search needs
 
--- src/write.rt:222:9
 same-length-3 : tie.Need-same-length-3
 same-length-3 c = search needs
 
--- src/write.rt:222:9
 same-length-4 : tie.Need-same-length-4
 same-length-4 c = search needs
 
--- src/write.rt:222:9
 same-length-5 : tie.Need-same-length-5
 same-length-5 c = search needs
 
--- src/write.rt:222:9
 returns-2 : tie.Need-returns-2
 returns-2 c = wait-packet (c .before .before .before .before .before .before .before .before .before .before .before .before .before .before .before .before .before .before .before .before .before .before .before .before .before .before .args .state .now) (c .before .before .before .before .before .before .before .before .before .before .before .before .before .before .before .before .before .before .before .before .before .before .before .before .before .before .args .rx .now) (c .before .before .before .before .before .before .before .before .before .before .before .before .before .before .before .before .before .before .before .before .before .before .before .before .before .before .args .store .now) (c .before .before .before .before .before .before .before .before .before .before .before .before .before .before .before .before .before .before .before .before .before .before .before .before .before .before .args .out .now) (c .before .before .before .before .before .before .before .before .before .before .before .before .before .before .before .before .before .before .before .before .before .before .before .before .before .before .args .received .now) (c .before .before .before .before .before .before .before .before .before .before .before .before .before .before .before .before .before .before .before .before .before .before .before .before .before .before .args .bytes .now) (c .before .before .before .before .before .before .before .before .before .before .before .before .before .before .before .before .before .before .before .before .before .before .before .before .before .before .args .ch) (c .before .before .before .before .before .before .before .before .before .before .before .before .before .before .before .before .before .before .before .before .before .before .before .before .before .before .args .h) (c .before .before .before .before .before .before .before .before .before .before .before .before .before .before .before .before .before .before .before .before .before .before .before .before .before .before .args .s) (c .before .before .before .before .before .before .before .before .before .before .before .before .before .before .before .before .before .before .before .before .before .before .before .before .before .before .pre .finds .header) (c .before .before .before .before .before .before .before .before .before .before .before .before .before .before .before .before .recv-pkt .result) (c .before .before .before .before .before .before .before .before .before .before .before .before .before .before .before .before .recv-pkt .ensures) _ _ _ _ _ _ (c .before .before .before .before .before .before .before .before .before .before .before .before .before .before .before .before .before .before .before .if1 .taken) (c .before .before .before .before .before .before .before .before .before .before .before .before .before .before .found2 .given .1) (c .before .before .before .before .before .before .before .before .write-packet .ensures)
 
--- src/write.rt:245:5
 put-header-requires-2 : tie.Need-put-header-requires-2
 put-header-requires-2 c κs = search needs
 
--- src/write.rt:204:1
 same-length-6 : tie.Need-same-length-6
 same-length-6 c = search needs
 
--- src/write.rt:204:1
 returns-3 : tie.Need-returns-3
 returns-3 c = wait-gone (c .before .before .before .before .before .before .before .before .before .before .before .args .state .now) (c .before .before .before .before .before .before .before .before .before .before .before .args .rx .now) (c .before .before .before .before .before .before .before .before .before .before .before .args .store .now) (c .before .before .before .before .before .before .before .before .before .before .before .args .out .now) (c .before .before .before .before .before .before .before .before .before .before .before .args .received .now) (c .before .before .before .before .before .before .before .before .before .before .before .args .bytes .now) (c .before .before .before .before .before .before .before .before .before .before .before .args .ch) (c .before .before .before .before .before .before .before .before .before .before .before .args .h) (c .before .before .before .before .before .before .before .before .before .before .before .args .s) (c .before .before .before .before .before .before .before .before .before .before .before .pre .finds .header) _ _ (c .before .before .before .before .if1 .left) (c .before .before .put-header2 .ensures) refl
 

@@ -10,47 +10,36 @@ use Rattle.writing.proofs.write.send_again.Reads as send-again-reads
 use Rattle.slot.proofs.ChannelSlot.apply_ready.Reads as apply-ready-reads
 use Rattle.state.proofs.put_header.Reads as put-header-reads
 
--- src/write.rt:136:42
 rx-policy-requires : tie.Need-rx-policy-requires
 rx-policy-requires c κs = search needs
 
--- src/write.rt:136:9
 apply-ready-requires : tie.Need-apply-ready-requires
 apply-ready-requires c κs = search needs
 
--- src/write.rt:138:23
 enum-known-readied : tie.Need-enum-known-readied
 enum-known-readied c = search needs
 
--- src/write.rt:138:29
 send-again-requires : tie.Need-send-again-requires
 send-again-requires c κs = search needs
 
--- src/write.rt:140:24
 enum-told : tie.Need-enum-told
 enum-told c = search needs
 
--- src/write.rt:140:13
 put-header-requires : tie.Need-put-header-requires
 put-header-requires c κs = search needs
 
--- src/write.rt:122:1
 same-length : tie.Need-same-length
 same-length c = search needs
 
--- src/write.rt:122:1
 same-length-2 : tie.Need-same-length-2
 same-length-2 c = search needs
 
--- src/write.rt:122:1
 returns : tie.Need-returns
 returns c = λ rx store. ready-again (c .before .before .before .before .before .before .before .before .before .before .before .before .before .before .before .before .before .args .state .now) (c .before .before .before .before .before .before .before .before .before .before .before .before .before .before .before .before .before .args .out .now) (c .before .before .before .before .before .before .before .before .before .before .before .before .before .before .before .before .before .args .bytes .now) (c .before .before .before .before .before .before .before .before .before .before .before .before .before .before .before .before .before .args .ch) (c .before .before .before .before .before .before .before .before .before .before .before .before .before .before .before .before .before .args .h) (c .before .before .before .before .before .before .before .before .before .before .before .before .before .before .before .before .before .pre) (c .before .before .before .before .before .before .before .before .before .before .before .before .before .before .before .before .before .args .used) (c .before .before .before .before .before .before .before .before .before .before .before .before .before .before .before .before .before .args .s) (c .before .before .before .before .before .before .before .before .before .before .before .before .before .before .before .before .before .args .payload .now) (c .before .before .before .before .before .before .before .before .before .before .before .rx-policy .result) (c .before .before .before .before .before .before .before .before .before .before .apply-ready .result) (c .before .before .before .before .before .before .before .before .before .before .before .rx-policy .ensures) (c .before .before .before .before .before .before .before .before .before .before .apply-ready .ensures) rx store _ _ _ _ (c .before .before .before .before .before .before .before .before .readied .given .1) (c .before .before .before .before .send-again .ensures rx store)
 
--- src/write.rt:122:1
 same-length-3 : tie.Need-same-length-3
 same-length-3 c = search needs
 
--- src/write.rt:122:1
 returns-2 : tie.Need-returns-2
 returns-2 c = λ rx store. ready-short (c .before .before .before .before .before .before .before .before .before .before .before .before .before .args .state .now) (c .before .before .before .before .before .before .before .before .before .before .before .before .before .args .out .now) (c .before .before .before .before .before .before .before .before .before .before .before .before .before .args .bytes .now) (c .before .before .before .before .before .before .before .before .before .before .before .before .before .args .ch) (c .before .before .before .before .before .before .before .before .before .before .before .before .before .args .h) (c .before .before .before .before .before .before .before .before .before .before .before .before .before .pre) (c .before .before .before .before .before .before .before .before .before .before .before .before .before .args .used) (c .before .before .before .before .before .before .before .before .before .before .before .before .before .args .s) (c .before .before .before .before .before .before .before .before .before .before .before .before .before .args .payload .now) (c .before .before .before .before .before .before .before .rx-policy .result) (c .before .before .before .before .before .before .apply-ready .result) (c .before .before .before .before .before .before .before .rx-policy .ensures) (c .before .before .before .before .before .before .apply-ready .ensures) rx store _ _ (c .before .before .before .before .enum-told .given .1) (c .before .before .put-header .ensures) refl
 

@@ -12,67 +12,51 @@ use Rattle.calls.proofs.admit.refused.Reads as refused-reads
 use Rattle.state.proofs.put_header.Reads as put-header-reads
 use Rattle.writing.proofs.write.write_channel.Reads as write-channel-reads
 
--- src/write.rt:284:9
 put-header-requires : tie.Need-put-header-requires
 put-header-requires c κs = search needs
 
--- src/write.rt:285:9
 same-length : tie.Need-same-length
 same-length c = search needs
 
--- src/write.rt:285:9
 returns : tie.Need-returns
 returns c = step-none (c .before .before .before .before .before .before .before .before .before .before .before .args .state .now) (c .before .before .before .before .before .before .before .before .before .before .before .args .rx .now) (c .before .before .before .before .before .before .before .before .before .before .before .args .store .now) (c .before .before .before .before .before .before .before .before .before .before .before .args .out .now) (c .before .before .before .before .before .before .before .before .before .before .before .args .received .now) (c .before .before .before .before .before .before .before .before .before .before .before .args .bytes .now) (c .before .before .before .before .before .before .before .before .before .before .before .args .ch) (c .before .before .before .before .before .before .before .before .before .before .before .args .h) (c .before .before .before .before .before .before .before .before .before .before .before .pre .0) (c .before .before .before .before .before .before .before .before .before .before .before .pre .1) _ _ (omega (arith, c .before .before .before .before .if1 .taken)) (c .before .before .put-header .ensures) refl
 
--- src/write.rt:293:9
 get-requires : tie.Need-get-requires
 get-requires c κs = looks (c .before .before .before .before .before .before .before .before .before .before .args .state .now) (c .before .before .before .before .before .before .before .before .before .before .args .rx .now) (c .before .before .before .before .before .before .before .before .before .before .args .store .now) (c .before .before .before .before .before .before .before .before .before .before .args .h) (c .before .before .before .before .before .before .before .before .before .before .pre .1) _ (c .before .before .before .before .before .before .before .before .before .before .pre .0)
 
--- src/write.rt:295:21
 enum-known-found : tie.Need-enum-known-found
 enum-known-found c = search needs
 
--- src/write.rt:295:27
 write-channel-requires : tie.Need-write-channel-requires
 write-channel-requires c κs = step-finds (c .before .before .before .before .before .before .before .before .before .before .before .before .before .before .before .before .before .before .args .state .now) (c .before .before .before .before .before .before .before .before .before .before .before .before .before .before .before .before .before .before .args .rx .now) (c .before .before .before .before .before .before .before .before .before .before .before .before .before .before .before .before .before .before .args .store .now) (c .before .before .before .before .before .before .before .before .before .before .before .before .before .before .before .before .before .before .args .out .now) (c .before .before .before .before .before .before .before .before .before .before .before .before .before .before .before .before .before .before .args .received .now) (c .before .before .before .before .before .before .before .before .before .before .before .before .before .before .before .before .before .before .args .bytes .now) (c .before .before .before .before .before .before .before .before .before .before .before .before .before .before .before .before .before .before .args .ch) (c .before .before .before .before .before .before .before .before .before .before .before .before .before .before .before .before .before .before .args .h) (c .before .before .before .before .before .before .before .before .before .before .before .before .before .before .before .before .before .before .pre .0) (c .before .before .before .before .before .before .before .before .before .before .before .before .before .before .before .before .before .before .pre .1) (c .before .before .before .before .before .before .before .get .result) (c .before .before .before .before .before .before .before .get .ensures) _ (c .before .before .before .before .before .found .given .1)
 
--- src/write.rt:297:24
 enum-told : tie.Need-enum-told
 enum-told c = search needs
 
--- src/write.rt:297:13
 put-header-requires-2 : tie.Need-put-header-requires-2
 put-header-requires-2 c κs = search needs
 
--- src/write.rt:298:13
 refused-requires : tie.Need-refused-requires
 refused-requires c κs = search needs
 
--- src/write.rt:270:1
 same-length-2 : tie.Need-same-length-2
 same-length-2 c = search needs
 
--- src/write.rt:270:1
 same-length-3 : tie.Need-same-length-3
 same-length-3 c = search needs
 
--- src/write.rt:270:1
 same-length-4 : tie.Need-same-length-4
 same-length-4 c = search needs
 
--- src/write.rt:270:1
 same-length-5 : tie.Need-same-length-5
 same-length-5 c = search needs
 
--- src/write.rt:270:1
 returns-2 : tie.Need-returns-2
 returns-2 c = step-there (c .before .before .before .before .before .before .before .before .before .before .before .before .before .before .before .before .before .before .before .before .before .before .before .before .before .before .before .args .state .now) (c .before .before .before .before .before .before .before .before .before .before .before .before .before .before .before .before .before .before .before .before .before .before .before .before .before .before .before .args .rx .now) (c .before .before .before .before .before .before .before .before .before .before .before .before .before .before .before .before .before .before .before .before .before .before .before .before .before .before .before .args .store .now) (c .before .before .before .before .before .before .before .before .before .before .before .before .before .before .before .before .before .before .before .before .before .before .before .before .before .before .before .args .out .now) (c .before .before .before .before .before .before .before .before .before .before .before .before .before .before .before .before .before .before .before .before .before .before .before .before .before .before .before .args .received .now) (c .before .before .before .before .before .before .before .before .before .before .before .before .before .before .before .before .before .before .before .before .before .before .before .before .before .before .before .args .bytes .now) (c .before .before .before .before .before .before .before .before .before .before .before .before .before .before .before .before .before .before .before .before .before .before .before .before .before .before .before .args .ch) (c .before .before .before .before .before .before .before .before .before .before .before .before .before .before .before .before .before .before .before .before .before .before .before .before .before .before .before .args .h) (c .before .before .before .before .before .before .before .before .before .before .before .before .before .before .before .before .before .before .before .before .before .before .before .before .before .before .before .pre .0) (c .before .before .before .before .before .before .before .before .before .before .before .before .before .before .before .before .before .before .before .before .before .before .before .before .before .before .before .pre .1) (c .before .before .before .before .before .before .before .before .before .before .before .before .before .before .before .before .get .result) (c .before .before .before .before .before .before .before .before .before .before .before .before .before .before .before .before .get .ensures) (λ z. omega (arith, c .before .before .before .before .before .before .before .before .before .before .before .before .before .before .before .before .before .before .before .before .if1 .left)) _ _ _ _ _ _ (c .before .before .before .before .before .before .before .before .before .before .before .before .before .before .found .given .1) (c .before .before .before .before .before .before .before .before .write-channel .ensures)
 
--- src/write.rt:270:1
 same-length-6 : tie.Need-same-length-6
 same-length-6 c = search needs
 
--- src/write.rt:270:1
 returns-3 : tie.Need-returns-3
 returns-3 c = step-gone (c .before .before .before .before .before .before .before .before .before .before .before .before .before .before .before .before .before .before .args .state .now) (c .before .before .before .before .before .before .before .before .before .before .before .before .before .before .before .before .before .before .args .rx .now) (c .before .before .before .before .before .before .before .before .before .before .before .before .before .before .before .before .before .before .args .store .now) (c .before .before .before .before .before .before .before .before .before .before .before .before .before .before .before .before .before .before .args .out .now) (c .before .before .before .before .before .before .before .before .before .before .before .before .before .before .before .before .before .before .args .received .now) (c .before .before .before .before .before .before .before .before .before .before .before .before .before .before .before .before .before .before .args .bytes .now) (c .before .before .before .before .before .before .before .before .before .before .before .before .before .before .before .before .before .before .args .ch) (c .before .before .before .before .before .before .before .before .before .before .before .before .before .before .before .before .before .before .args .h) (c .before .before .before .before .before .before .before .before .before .before .before .before .before .before .before .before .before .before .pre .0) (c .before .before .before .before .before .before .before .before .before .before .before .before .before .before .before .before .before .before .pre .1) (c .before .before .before .before .before .before .before .get .result) (c .before .before .before .before .before .before .before .get .ensures) (λ z. omega (arith, c .before .before .before .before .before .before .before .before .before .before .before .if1 .left)) _ _ (c .before .before .before .before .before .enum-told .given .1) (c .before .before .before .put-header2 .ensures) (c .refused .ensures)
 
