@@ -17,7 +17,8 @@ ghost use Rattle.le.specs.Le.{put};
 ghost use Rattle.sync_write.specs.Write.{Writes};
 ghost use Rattle.exchange.specs.Exchange.{foundOf};
 ghost use Rattle.sync.specs.declared.Read.the-variants.{Whole};
-ghost use Rattle.adb_sync.specs.Export.{valuesOf, saidOf, wordsBytes, wordsIn, valuesIn, numbersIn, saidBytes, statFrom, fieldsFrom, writeFound, countOf, readsIn, ReadDoes, writesIn, WriteDoes};
+ghost use Rattle.adb_sync.specs.Export.{valuesOf, saidOf, wordsBytes, wordsIn, valuesIn, numbersIn, saidBytes, readsIn, ReadDoes};
+ghost use Rattle.adb_sync.specs.Export.{statFrom, fieldsFrom, writeFound, countOf, writesIn, WriteDoes};
 
 // A message's numbers in the order of its bytes, 0 where it has none.
 pub struct Values {
@@ -212,7 +213,9 @@ pub extern "C" fn adb_sync_write(
     out: &mut [u8],
     answer: &mut [u8],
 ) -> u32
-    ensures { λ r. ⌜ WriteDoes (writesIn exchange id (record { a = a; b = b; c = c; d = d }) (now (text .entry)) (now (out .entry)) (now (answer .entry))) r (now (out .exit)) (now (answer .exit)) ⌝ }
+    ensures { λ r. ⌜ WriteDoes
+        (writesIn exchange id (record { a = a; b = b; c = c; d = d }) (now (text .entry)) (now (out .entry)) (now (answer .entry)))
+        r (now (out .exit)) (now (answer .exit)) ⌝ }
 {
     if answer.len() < 8 {
         return 8;
