@@ -70,19 +70,19 @@ seam: header example $(OUT)/damage $(OUT)/damage_sync $(OUT)/demo $(OUT)/files
 	$(OUT)/demo 1 1
 	$(OUT)/files 1 200003
 
-$(OUT)/demo: demo/demo.c demo/common.h include/adb.h $(LIB)
+$(OUT)/demo: demo/demo.c demo/common.h demo/numbers.h include/adb.h $(LIB)
 	@mkdir -p $(OUT)
 	$(CC) -std=c99 $(WARNINGS) $(CFLAGS) -Iinclude demo/demo.c $(LIB) -o $@
 
-$(OUT)/files: demo/files.c demo/common.h include/adb.h include/adb_sync.h $(LIB) $(SYNC_LIB)
+$(OUT)/files: demo/files.c demo/common.h demo/numbers.h include/adb.h include/adb_sync.h $(LIB) $(SYNC_LIB)
 	@mkdir -p $(OUT)
 	$(CC) -std=c99 $(WARNINGS) $(CFLAGS) -Iinclude demo/files.c $(LIB) $(SYNC_LIB) -o $@
 
-$(OUT)/damage: tests/damage.c include/adb.h $(LIB)
+$(OUT)/damage: tests/damage.c demo/numbers.h include/adb.h $(LIB)
 	@mkdir -p $(OUT)
 	$(CC) -std=c99 $(WARNINGS) $(CFLAGS) -Iinclude tests/damage.c $(LIB) -o $@
 
-$(OUT)/damage_sync: tests/damage_sync.c include/adb_sync.h $(SYNC_LIB)
+$(OUT)/damage_sync: tests/damage_sync.c demo/numbers.h include/adb_sync.h $(SYNC_LIB)
 	@mkdir -p $(OUT)
 	$(CC) -std=c99 $(WARNINGS) $(CFLAGS) -Iinclude tests/damage_sync.c $(SYNC_LIB) -o $@
 

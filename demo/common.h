@@ -2,6 +2,8 @@
 #ifndef COMMON_H
 #define COMMON_H
 
+#include "numbers.h"
+
 #include <adb.h>
 
 #include <inttypes.h>
@@ -19,24 +21,9 @@ static inline void die(const char *what, uint64_t a, uint64_t b)
 
 /* ---- numbers */
 
-static uint64_t rng;
-
-static inline uint64_t mix(uint64_t z)
-{
-    z = (z ^ (z >> 30)) * 0xbf58476d1ce4e5b9u;
-    z = (z ^ (z >> 27)) * 0x94d049bb133111ebu;
-    return z ^ (z >> 31);
-}
-
-static inline uint64_t below(uint64_t n) { return mix(rng += 0x9e3779b97f4a7c15u) % n; }
 static inline uint64_t between(uint64_t a, uint64_t b) { return a + below(b - a + 1); }
 static inline int chance(unsigned percent) { return below(100) < percent; }
 static inline uint64_t least(uint64_t a, uint64_t b) { return a < b ? a : b; }
-
-static inline void put32(uint8_t *p, uint32_t v)
-{
-    for (int i = 0; i < 4; i++) p[i] = (uint8_t)(v >> 8 * i);
-}
 
 static inline uint32_t sum(const uint8_t *p, size_t n)
 {

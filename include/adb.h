@@ -64,7 +64,7 @@
  * hands them over. adb_open and adb_write are called in the same way until they answer other than ADB_WAITING; but the first
  * adb_open takes no packet, so that it is called again before more is received where received bytes are left. A write sends
  * at most one WRTE, whose length is the answer's first value, and is called again with the rest. A program that only wants to
- * take packets calls adb_dispatch. While an open waits for its OKAY, only adb_open goes on with it: any other call that is
+ * take packets calls adb_dispatch. While an open is pending, only adb_open goes on with it: any other call that is
  * not refused by 8, 9 or 13 drops it.
  */
 #ifndef ADB_H
@@ -84,7 +84,7 @@
 
 #define ADB_DONE 0      /* the call reached its end */
 #define ADB_WAITING 100 /* the frame is incomplete (0 used), or one packet was handled and the call's end has not come */
-#define ADB_NONE 101    /* adb_take: nothing is buffered; adb_take_front: no open waits */
+#define ADB_NONE 101    /* adb_take: nothing is buffered; adb_take_front: no open is queued */
 
 /* Refusals. Nothing is used, written or changed unless said. A read may have written its channel's OKAY first. */
 #define ADB_REFUSED_INVALID_COMMAND 1      /* the header's command is none of the eight; value 0 is the word */
@@ -92,7 +92,7 @@
 #define ADB_REFUSED_PAYLOAD_TOO_LARGE 3    /* length over max_payload; or a destination over 1 MiB, its number spent */
 #define ADB_REFUSED_INVALID_CHECKSUM 4     /* the payload's sum is another; frame used */
 #define ADB_REFUSED_SHORT_READY_PAYLOAD 5  /* delayed: an OKAY under 4 bytes; frame used, an open's own is answered CLSE */
-#define ADB_REFUSED_UNEXPECTED_COMMAND 6   /* a WRTE for the open that waits; frame used, CLSE written, nothing opened */
+#define ADB_REFUSED_UNEXPECTED_COMMAND 6   /* a WRTE for the pending open; frame used, CLSE written, nothing opened */
 #define ADB_REFUSED_BAD_CONFIG 7           /* adb_make: a limit is broken */
 #define ADB_REFUSED_STORE_SHORT 8          /* a store, the state or the answer is under its length */
 #define ADB_REFUSED_OUT_SHORT 9            /* out is under ADB_OUT_MIN, or too short for the OPEN or WRTE due */
@@ -214,16 +214,16 @@ static inline size_t adb_answer_destination_len(const uint8_t *answer)
 
 #define ADB_STATE_CHANNELS 0            /* 8 */
 #define ADB_STATE_MAX_RX_PER_CHANNEL 8  /* 8 */
-#define ADB_STATE_WAITING_SLOT 16       /* 8: the waiting open's place */
-#define ADB_STATE_QUEUED 24             /* 8: how many opens of the device's wait */
+#define ADB_STATE_PENDING_SLOT 16       /* 8: the pending open's place */
+#define ADB_STATE_QUEUED 24             /* 8: how many opens of the device's are queued */
 #define ADB_STATE_MAX_PAYLOAD 32        /* 4: as configured */
 #define ADB_STATE_INITIAL_ACK_BYTES 36  /* 4 */
 #define ADB_STATE_DEVICE_MAX_PAYLOAD 40 /* 4: as negotiated */
 #define ADB_STATE_VERSION 44            /* 4: as negotiated */
 #define ADB_STATE_NEXT_LOCAL 48         /* 4 */
-#define ADB_STATE_WAITING_LOCAL 52      /* 4: the waiting open's local number */
+#define ADB_STATE_PENDING_LOCAL 52      /* 4: the pending open's local number */
 #define ADB_STATE_DELAYED 56            /* 1: 1 in delayed mode */
-#define ADB_STATE_WAITING 57            /* 1: 1 while an open of ours waits for its OKAY */
+#define ADB_STATE_PENDING 57            /* 1: 1 while an open of ours is pending */
 
 /* Slot i, 0 to 63, begins at ADB_STATE_SLOT(i); its fields count from there. */
 #define ADB_STATE_SLOTS 58
@@ -243,14 +243,14 @@ static inline size_t adb_answer_destination_len(const uint8_t *answer)
 #define ADB_TAG_STATE_SHIFT 3
 #define ADB_TAG_FAULT_SHIFT 5
 
-/* Waiting open i of the device's, 0 to 63, begins at ADB_STATE_OPEN(i). */
-#define ADB_STATE_OPENS 3194
-#define ADB_STATE_OPEN_LEN 24
-#define ADB_STATE_OPEN(i) (ADB_STATE_OPENS + (size_t)(i) * ADB_STATE_OPEN_LEN)
-#define ADB_STATE_OPEN_REMOTE 0 /* 4 */
-#define ADB_STATE_OPEN_CREDIT 4 /* 4 */
-#define ADB_STATE_OPEN_SHARE 8  /* 8: which max_payload bytes of the open store */
-#define ADB_STATE_OPEN_SIZE 16  /* 8: the destination's length */
+/* Queued open i of the device's, 0 to 63, begins at ADB_STATE_QUEUED_OPEN(i). */
+#define ADB_STATE_QUEUE 3194
+#define ADB_STATE_QUEUED_LEN 24
+#define ADB_STATE_QUEUED_OPEN(i) (ADB_STATE_QUEUE + (size_t)(i) * ADB_STATE_QUEUED_LEN)
+#define ADB_STATE_QUEUED_REMOTE 0 /* 4 */
+#define ADB_STATE_QUEUED_CREDIT 4 /* 4 */
+#define ADB_STATE_QUEUED_SHARE 8  /* 8: which max_payload bytes of the open store */
+#define ADB_STATE_QUEUED_SIZE 16  /* 8: the destination's length */
 
 #ifdef __cplusplus
 extern "C" {
@@ -263,7 +263,7 @@ uint32_t adb_make(uint8_t *state, size_t state_len, size_t channels, uint32_t ma
                   uint32_t initial_ack_bytes, uint32_t version, uint32_t device_max_payload, uint8_t host_delayed_ack,
                   uint8_t device_delayed_ack);
 
-/* Opens a channel: the first call writes the OPEN, takes no packet and waits; later ones take a packet each, and do not look
+/* Opens a channel: the first call writes the OPEN, takes no packet and leaves it pending; later ones take a packet each, and do not look
  * at the destination. ADB_DONE: slot and local number. A refusal ends it, unless it is 8, 9 or 13. */
 uint32_t adb_open(uint8_t *state, size_t state_len, uint8_t *rx, size_t rx_len, uint8_t *opens, size_t opens_len,
                   const uint8_t *destination, size_t destination_len, const uint8_t *received, size_t received_len,
@@ -301,9 +301,9 @@ uint32_t adb_write(uint8_t *state, size_t state_len, uint8_t *rx, size_t rx_len,
 uint32_t adb_close(uint8_t *state, size_t state_len, const uint8_t *rx, size_t rx_len, const uint8_t *opens, size_t opens_len,
                    size_t slot, uint32_t local, uint8_t *out, size_t out_len, uint8_t *answer, size_t answer_len);
 
-/* Takes the device's OPEN that has waited longest. ADB_DONE: remote number, credit, and where in `opens` its destination is,
+/* Takes the device's OPEN that was queued first. ADB_DONE: remote number, credit, and where in `opens` its destination is,
  * which stays there until a later call receives another OPEN. The program answers the device itself: a refusal is a CLSE frame
- * with arg0 0 and arg1 the remote number. ADB_NONE: none waits. */
+ * with arg0 0 and arg1 the remote number. ADB_NONE: none is queued. */
 uint32_t adb_take_front(uint8_t *state, size_t state_len, const uint8_t *rx, size_t rx_len, const uint8_t *opens,
                         size_t opens_len, uint8_t *answer, size_t answer_len);
 

@@ -10,6 +10,8 @@
  *   short store; else 9 for a short outgoing buffer; each with nothing changed but the answer, which is all 0.
  * After any other answer only what the call may change has changed, and the state is whole.
  */
+#include "../demo/numbers.h"
+
 #include <adb.h>
 
 #include <inttypes.h>
@@ -25,16 +27,6 @@
 #define INITIAL_ACK 100
 #define OUT 88
 #define NONE UINT32_MAX
-
-static uint64_t rng;
-
-static uint64_t next(void)
-{
-    uint64_t z = rng += 0x9e3779b97f4a7c15u;
-    z = (z ^ (z >> 30)) * 0xbf58476d1ce4e5b9u;
-    z = (z ^ (z >> 27)) * 0x94d049bb133111ebu;
-    return z ^ (z >> 31);
-}
 
 /* ---- lent buffers: what each held before the call is kept beside it */
 
@@ -94,22 +86,22 @@ static int slot_is_whole(const uint8_t *s, size_t i)
 static int is_whole(const uint8_t *s)
 {
     const uint64_t channels = adb_le64(s + ADB_STATE_CHANNELS), queued = adb_le64(s + ADB_STATE_QUEUED);
-    const uint64_t place = adb_le64(s + ADB_STATE_WAITING_SLOT);
+    const uint64_t place = adb_le64(s + ADB_STATE_PENDING_SLOT);
     const uint32_t payload = adb_le32(s + ADB_STATE_MAX_PAYLOAD);
     if (channels < 1 || channels > ADB_MAX_CHANNELS || payload < 1 || payload > ADB_MAX_PAYLOAD) return 0;
     if (adb_le64(s + ADB_STATE_MAX_RX_PER_CHANNEL) > ADB_MAX_RX_PER_CHANNEL) return 0;
     if (adb_le32(s + ADB_STATE_INITIAL_ACK_BYTES) > ADB_MAX_INITIAL_ACK_BYTES) return 0;
     if (adb_le32(s + ADB_STATE_DEVICE_MAX_PAYLOAD) > ADB_MAX_PAYLOAD || adb_le32(s + ADB_STATE_VERSION) > 0x01000001) return 0;
     if (adb_le32(s + ADB_STATE_NEXT_LOCAL) == 0 || queued > channels) return 0;
-    if (s[ADB_STATE_DELAYED] > 1 || s[ADB_STATE_WAITING] > 1) return 0;
+    if (s[ADB_STATE_DELAYED] > 1 || s[ADB_STATE_PENDING] > 1) return 0;
     for (size_t i = 0; i < ADB_MAX_CHANNELS; i++)
         if (!slot_is_whole(s, i)) return 0;
-    if (s[ADB_STATE_WAITING] &&
+    if (s[ADB_STATE_PENDING] &&
         (place >= channels || s[ADB_STATE_SLOT(place) + ADB_STATE_SLOT_TAG] & ADB_TAG_FILLED))
         return 0;
     for (size_t i = 0; i < queued; i++) {
-        const uint8_t *p = s + ADB_STATE_OPEN(i);
-        if (adb_le64(p + ADB_STATE_OPEN_SHARE) >= channels || adb_le64(p + ADB_STATE_OPEN_SIZE) > payload) return 0;
+        const uint8_t *p = s + ADB_STATE_QUEUED_OPEN(i);
+        if (adb_le64(p + ADB_STATE_QUEUED_SHARE) >= channels || adb_le64(p + ADB_STATE_QUEUED_SIZE) > payload) return 0;
     }
     return 1;
 }
@@ -237,7 +229,7 @@ static uint32_t checked(const struct call *c, int late)
     one_share(OPENS, opens_need(before[STATE]), adb_le32(before[STATE] + ADB_STATE_MAX_PAYLOAD));
     if (!same(STATE, ADB_STATE_LEN)) fault("bytes past the state", said, 0);
     /* What adb_make settled stays. */
-    if (memcmp(at(STATE), before[STATE], ADB_STATE_WAITING_SLOT) ||
+    if (memcmp(at(STATE), before[STATE], ADB_STATE_PENDING_SLOT) ||
         memcmp(at(STATE) + ADB_STATE_MAX_PAYLOAD, before[STATE] + ADB_STATE_MAX_PAYLOAD,
                ADB_STATE_NEXT_LOCAL - ADB_STATE_MAX_PAYLOAD) ||
         at(STATE)[ADB_STATE_DELAYED] != before[STATE][ADB_STATE_DELAYED])
@@ -250,11 +242,6 @@ static uint32_t checked(const struct call *c, int late)
 
 static uint8_t base_state[ADB_STATE_LEN], base_rx[CHANNELS * 2 * MAX_RX], base_opens[CHANNELS * PAYLOAD];
 static int delayed;
-
-static void put32(uint8_t *p, uint32_t v)
-{
-    for (int i = 0; i < 4; i++) p[i] = (uint8_t)(v >> 8 * i);
-}
 
 static size_t frame(uint8_t *f, const char *name, uint32_t arg0, uint32_t arg1, const uint8_t *payload, size_t n)
 {
@@ -402,8 +389,8 @@ static void random_states(void)
                 break;
             case 3: { /* one random slot or open */
                 const size_t i = next() % ADB_MAX_CHANNELS, is_slot = next() % 2;
-                const size_t from = is_slot ? ADB_STATE_SLOT(i % 8) : ADB_STATE_OPEN(i % 4);
-                const size_t n = is_slot ? ADB_STATE_SLOT_LEN : ADB_STATE_OPEN_LEN;
+                const size_t from = is_slot ? ADB_STATE_SLOT(i % 8) : ADB_STATE_QUEUED_OPEN(i % 4);
+                const size_t n = is_slot ? ADB_STATE_SLOT_LEN : ADB_STATE_QUEUED_LEN;
                 memcpy(bytes, base_state, from);
                 memcpy(bytes + from + n, base_state + from + n, sizeof bytes - from - n);
                 break;
@@ -457,7 +444,7 @@ static void boundaries(void)
     } fields[] = {
         { ADB_STATE_CHANNELS, 8, { 0, 1, 3, 4, 5, 6, 7, 64, 65, 256, 1u << 31, UINT64_MAX } },
         { ADB_STATE_MAX_RX_PER_CHANNEL, 8, { 0, 1, 63, 64, 65, 119, 199, 200, 201, 16777216, 16777217, UINT64_MAX } },
-        { ADB_STATE_WAITING_SLOT, 8, { 0, 1, 2, 3, 4, 5, 6, 7, 63, 64, 65, UINT64_MAX } },
+        { ADB_STATE_PENDING_SLOT, 8, { 0, 1, 2, 3, 4, 5, 6, 7, 63, 64, 65, UINT64_MAX } },
         { ADB_STATE_QUEUED, 8, { 0, 1, 2, 3, 4, 5, 6, 7, 63, 64, 65, UINT64_MAX } },
         { ADB_STATE_MAX_PAYLOAD, 4, { 0, 1, 9, 10, 11, 12, 63, 64, 65, 1048576, 1048577, UINT32_MAX } },
         { ADB_STATE_INITIAL_ACK_BYTES, 4, { 0, 1, 63, 64, 65, 136, 137, 138, 2147483646, 2147483647, 2147483648u, UINT32_MAX } },
@@ -465,12 +452,12 @@ static void boundaries(void)
         { ADB_STATE_VERSION, 4, { 0, 1, 0x00ffffff, 0x01000000, 0x01000001, 0x01000002, 1u << 25, 1u << 31, 3, 4, 5, UINT32_MAX } },
         { ADB_STATE_NEXT_LOCAL, 4, { 0, 1, 2, 3, 4, 5, 6, 7, 1u << 31, UINT32_MAX - 1, UINT32_MAX, 8 } },
         { ADB_STATE_DELAYED, 1, { 0, 1, 2, 3, 4, 5, 6, 7, 127, 128, 254, 255 } },
-        { ADB_STATE_WAITING, 1, { 0, 1, 2, 3, 4, 5, 6, 7, 127, 128, 254, 255 } },
-        { ADB_STATE_OPEN(0) + ADB_STATE_OPEN_SHARE, 8, { 0, 1, 2, 3, 4, 5, 6, 7, 63, 64, 65, UINT64_MAX } },
-        { ADB_STATE_OPEN(1) + ADB_STATE_OPEN_SHARE, 8, { 0, 1, 2, 3, 4, 5, 6, 7, 63, 64, 65, UINT64_MAX } },
-        { ADB_STATE_OPEN(2) + ADB_STATE_OPEN_SHARE, 8, { 0, 1, 2, 3, 4, 5, 6, 7, 63, 64, 65, UINT64_MAX } },
-        { ADB_STATE_OPEN(1) + ADB_STATE_OPEN_SIZE, 8, { 0, 1, 10, 62, 63, 64, 65, 66, 128, 1048577, 1u << 31, UINT64_MAX } },
-        { ADB_STATE_OPEN(2) + ADB_STATE_OPEN_SIZE, 8, { 0, 1, 10, 62, 63, 64, 65, 66, 128, 1048577, 1u << 31, UINT64_MAX } },
+        { ADB_STATE_PENDING, 1, { 0, 1, 2, 3, 4, 5, 6, 7, 127, 128, 254, 255 } },
+        { ADB_STATE_QUEUED_OPEN(0) + ADB_STATE_QUEUED_SHARE, 8, { 0, 1, 2, 3, 4, 5, 6, 7, 63, 64, 65, UINT64_MAX } },
+        { ADB_STATE_QUEUED_OPEN(1) + ADB_STATE_QUEUED_SHARE, 8, { 0, 1, 2, 3, 4, 5, 6, 7, 63, 64, 65, UINT64_MAX } },
+        { ADB_STATE_QUEUED_OPEN(2) + ADB_STATE_QUEUED_SHARE, 8, { 0, 1, 2, 3, 4, 5, 6, 7, 63, 64, 65, UINT64_MAX } },
+        { ADB_STATE_QUEUED_OPEN(1) + ADB_STATE_QUEUED_SIZE, 8, { 0, 1, 10, 62, 63, 64, 65, 66, 128, 1048577, 1u << 31, UINT64_MAX } },
+        { ADB_STATE_QUEUED_OPEN(2) + ADB_STATE_QUEUED_SIZE, 8, { 0, 1, 10, 62, 63, 64, 65, 66, 128, 1048577, 1u << 31, UINT64_MAX } },
     };
     static const uint64_t lengths[] = { 0, 1, MAX_RX - 1, MAX_RX, MAX_RX + 1, 2 * MAX_RX - 1, 2 * MAX_RX, 2 * MAX_RX + 1,
                                         UINT64_MAX - 2 * MAX_RX, UINT64_MAX };
@@ -582,7 +569,7 @@ static void short_frames(void)
     c.kind = OPEN;
     for (size_t n = ADB_OUT_MIN - ADB_HEADER_LEN + 1; n <= PAYLOAD; n++)
         for (int enough = 0; enough < 2; enough++) {
-            const int waits = base_state[ADB_STATE_WAITING];
+            const int waits = base_state[ADB_STATE_PENDING];
             lend_base(&c);
             lend(DESTINATION, destination, n);
             lend(OUTGOING, NULL, ADB_HEADER_LEN + n - !enough);

@@ -4,6 +4,8 @@
  *
  *   damage_sync [SEED [CALLS]]
  */
+#include "../demo/numbers.h"
+
 #include <adb_sync.h>
 
 #include <inttypes.h>
@@ -14,16 +16,6 @@
 #define GUARD 16
 #define MARK 0xA5
 #define ROOM (ADB_SYNC_HEAD_MAX + ADB_SYNC_DATA_MAX + 64)
-
-static uint64_t rng;
-
-static uint64_t below(uint64_t n)
-{
-    uint64_t z = rng += 0x9e3779b97f4a7c15u;
-    z = (z ^ (z >> 30)) * 0xbf58476d1ce4e5b9u;
-    z = (z ^ (z >> 27)) * 0x94d049bb133111ebu;
-    return (z ^ (z >> 31)) % n;
-}
 
 static void die(const char *what, uint64_t a, uint64_t b)
 {

@@ -1,5 +1,5 @@
 #!/usr/bin/env python3
-"""Writes the calls that crates/protocol_vectors replays, one a line; docs/VECTORS.md says how they are answered.
+"""Writes the calls that crates/replay_protocol replays, one a line; docs/VECTORS.md says how they are answered.
 
     decode LIMIT BYTES        missing BYTES        has_feature TEXT NAME        BYTES in hexadecimal, - for none
 """

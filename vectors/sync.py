@@ -1,5 +1,5 @@
 #!/usr/bin/env python3
-"""Writes the calls that crates/sync_vectors replays, one a line, or with --answers the lines that it is to write.
+"""Writes the calls that crates/replay_sync replays, one a line, or with --answers the lines that it is to write.
 
     read EXCHANGE BYTES
     write EXCHANGE ID LAYOUT A B C D TEXT ROOM        zeros EXCHANGE ID LAYOUT A B C D LENGTH ROOM

@@ -141,10 +141,10 @@ static void print_queue(void)
     const uint64_t queued = size_at(ADB_STATE_QUEUED), payload = word_at(ADB_STATE_MAX_PAYLOAD);
     if (!queued) putchar('-');
     for (size_t i = 0; i < queued && i < ADB_MAX_CHANNELS; i++) {
-        const size_t at = ADB_STATE_OPEN(i);
-        const uint64_t share = size_at(at + ADB_STATE_OPEN_SHARE), n = size_at(at + ADB_STATE_OPEN_SIZE);
-        printf("%s%" PRIu32 ":%" PRIu32 ":", i ? ";" : "", word_at(at + ADB_STATE_OPEN_REMOTE),
-               word_at(at + ADB_STATE_OPEN_CREDIT));
+        const size_t at = ADB_STATE_QUEUED_OPEN(i);
+        const uint64_t share = size_at(at + ADB_STATE_QUEUED_SHARE), n = size_at(at + ADB_STATE_QUEUED_SIZE);
+        printf("%s%" PRIu32 ":%" PRIu32 ":", i ? ";" : "", word_at(at + ADB_STATE_QUEUED_REMOTE),
+               word_at(at + ADB_STATE_QUEUED_CREDIT));
         if (share >= size_at(ADB_STATE_CHANNELS) || n > payload) fault("destination outside its share");
         else hex(opens.at + share * payload, n);
     }
@@ -160,8 +160,8 @@ static void print_state(void)
     print_slots();
     printf(" queue=");
     print_queue();
-    if (state.at[ADB_STATE_WAITING])
-        printf(" wait=%" PRIu64 ":%" PRIu32 "\n", size_at(ADB_STATE_WAITING_SLOT), word_at(ADB_STATE_WAITING_LOCAL));
+    if (state.at[ADB_STATE_PENDING])
+        printf(" wait=%" PRIu64 ":%" PRIu32 "\n", size_at(ADB_STATE_PENDING_SLOT), word_at(ADB_STATE_PENDING_LOCAL));
     else printf(" wait=-\n");
 }
 
@@ -261,14 +261,14 @@ int main(void)
             printf("in_use n=%zu used=0 out=- got=-", in_use());
         } else if (!strcmp(call, "set_next_local")) {
             const uint32_t n = (uint32_t)NUM;
-            state.at[ADB_STATE_WAITING] = 0;
+            state.at[ADB_STATE_PENDING] = 0;
             for (int i = 0; i < 4; i++) state.at[ADB_STATE_NEXT_LOCAL + i] = (uint8_t)(n >> 8 * i);
             printf("set used=0 out=- got=-");
         } else if (!strcmp(call, "set_budget")) {
             const size_t slot = NUM;
             const uint32_t local = (uint32_t)NUM;
             const uint64_t n = (uint64_t)strtoll(word(&p), 0, 0);
-            state.at[ADB_STATE_WAITING] = 0;
+            state.at[ADB_STATE_PENDING] = 0;
             uint8_t *s = slot < ADB_MAX_CHANNELS ? state.at + ADB_STATE_SLOT(slot) : NULL;
             const int there = s && s[ADB_STATE_SLOT_TAG] & ADB_TAG_FILLED && adb_le32(s + ADB_STATE_SLOT_LOCAL) == local;
             if (there)

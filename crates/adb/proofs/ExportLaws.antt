@@ -13,18 +13,20 @@ use Rattle.le.proofs.Laws.{length-bytesOf, write-read}
 use Rattle.le.proofs.Parts.{put-put}
 use Rattle.config.specs.declared.ConnectionConfig.{ConnectionConfig}
 use Rattle.slot.proofs.Laws.{cond-true, cond-false}
-use Rattle.state.specs.Rows.{flat}
-use Rattle.state.proofs.RowLaws.{Every, rows-flat}
-use Rattle.state.specs.Valid.{isWhole}
+use Rattle.le.specs.Rows.{flat}
+use Rattle.le.proofs.RowLaws.{Every, rows-flat}
+use Rattle.state_whole.specs.Whole.{isWhole}
 use Rattle.table.specs.declared.ChannelId.{ChannelId}
 use Rattle.connection.specs.declared.Answer.{Answer}
-use Rattle.calls.specs.declared.Reply.{Reply}
-use Rattle.connection.specs.Answer.{numberOf, valuesOf}
-use Rattle.connection.specs.Calls.{Outcome, writtenBy, openOf, dispatchOf, settleOf, takeOf, readOf, writeOf, closeOf, frontCall}
-use Rattle.calls.specs.Promise.{lentOf, agreedIn, Leaves, makeIn, Makes}
+use Rattle.call.specs.declared.Reply.{Reply}
+use Rattle.connection.specs.Answer.{answerNumber, answerValues}
+use Rattle.connection.specs.Calls.{Outcome, writtenBy, openOutcome, dispatchOutcome, settleOutcome, takeOutcome, readOutcome, writeOutcome, closeOutcome, takeFrontOutcome}
+use Rattle.call.specs.Promise.{lentOf, agreedIn, Leaves}
+use Rattle.call_make.specs.Make.{makeIn, Makes}
 use Rattle.history.specs.Run.{bytesIn, Call, openCall, dispatchCall, settleCall, takeCall, readCall, writeCall, closeCall, frontTaken, World, outcome, after}
 use Rattle.adb.specs.declared.Values.{Values}
 use Rattle.adb.specs.Export.{worldOf, valuesIn, numbersOf, answerBytes, saidIn, isShort, Exported, called, exported, Does, isYes, MakesState}
+use Rattle.state.specs.State.{stateLen}
 
 -- ---- bytes
 
@@ -69,7 +71,7 @@ values-length v =
     simp length-append (omega arith)
 
 pub answer-put : (d : List ℕ) (r : Reply) (v : Values) (d₁ d₂ d₃ : List ℕ) → 48 ≤ length d → d₁ ≡ put d 0 (bytesOf 8 (r .used)) → d₂ ≡ put d₁ 8 (bytesOf 8 (r .written))
-    → valuesIn v ≡ valuesOf (r .answer) → d₃ ≡ put d₂ 16 (flat (bytesOf 8) (valuesIn v)) → d₃ ≡ put d 0 (answerBytes (r .used) (r .written) (r .answer))
+    → valuesIn v ≡ answerValues (r .answer) → d₃ ≡ put d₂ 16 (flat (bytesOf 8) (valuesIn v)) → d₃ ≡ put d 0 (answerBytes (r .used) (r .written) (r .answer))
 unfolding answerBytes flat
 answer-put d r v d₁ d₂ d₃ k e₁ e₂ f e₃ =
     let a = bytesOf 8 (r .used) in
@@ -91,7 +93,7 @@ values-fit : (v : Values) → Words v → Every (λ (x : ℕ). x < 2 ^ 64) (valu
 values-fit v h = (h .0, (h .1, (h .2, (h .3, tt))))
 
 -- the answer's bytes say the six numbers
-pub answer-said : (d d₃ : List ℕ) (r : Reply) (v : Values) → 48 ≤ length d → r .used < 2 ^ 64 → r .written < 2 ^ 64 → Words v → valuesIn v ≡ valuesOf (r .answer)
+pub answer-said : (d d₃ : List ℕ) (r : Reply) (v : Values) → 48 ≤ length d → r .used < 2 ^ 64 → r .written < 2 ^ 64 → Words v → valuesIn v ≡ answerValues (r .answer)
     → d₃ ≡ put d 0 (answerBytes (r .used) (r .written) (r .answer)) → saidIn d₃ ≡ numbersOf (r .used) (r .written) (r .answer)
 unfolding answerBytes saidIn put
 answer-said d d₃ r v k u w h f e =
@@ -102,22 +104,22 @@ answer-said d d₃ r v k u w h f e =
 
 -- ---- too few bytes
 
-pub short-state : (s a : ℕ) → s < 4730 → true ≡ isShort s a
+pub short-state : (s a : ℕ) → s < stateLen → true ≡ isShort s a
 unfolding isShort
-short-state s a h = sym (ap (λ (t : Bool). t || ltb a 48) (lt-ltb s 4730 h))
+short-state s a h = sym (ap (λ (t : Bool). t || ltb a 48) (lt-ltb s stateLen h))
 
-pub short-answer : (s a : ℕ) → 4730 ≤ s → ltb a 48 ≡ isShort s a
+pub short-answer : (s a : ℕ) → stateLen ≤ s → ltb a 48 ≡ isShort s a
 unfolding isShort
-short-answer s a h = sym (ap (λ (t : Bool). t || ltb a 48) (le-ltb s 4730 h))
+short-answer s a h = sym (ap (λ (t : Bool). t || ltb a 48) (le-ltb s stateLen h))
 
-pub long-answer : (s a : ℕ) → isShort s a ≡ false → (4730 ≤ s) × (48 ≤ a)
+pub long-answer : (s a : ℕ) → isShort s a ≡ false → (stateLen ≤ s) × (48 ≤ a)
 unfolding isShort
-long-answer s a e = long-by (ltb s 4730) (ltb a 48) refl refl e
+long-answer s a e = long-by (ltb s stateLen) (ltb a 48) refl refl e
   where
-    long-by : (t u : Bool) → ltb s 4730 ≡ t → ltb a 48 ≡ u → (t || u) ≡ false → (4730 ≤ s) × (48 ≤ a)
+    long-by : (t u : Bool) → ltb s stateLen ≡ t → ltb a 48 ≡ u → (t || u) ≡ false → (stateLen ≤ s) × (48 ≤ a)
     long-by true u f g h = absurd (true≢false h)
     long-by false true f g h = absurd (true≢false h)
-    long-by false false f g h = (ltb-false s 4730 f, ltb-false a 48 g)
+    long-by false false f g h = (ltb-false s stateLen f, ltb-false a 48 g)
 
 module _ (w : World) (c : Call) (out buf answer : List ℕ) where
   pub does-short : isShort (length (w .state)) (length answer) ≡ true → Does (exported w c out buf answer) 8 (w .state) (w .rx) (w .store) out buf answer
@@ -131,11 +133,11 @@ module _ (w : World) (c : Call) (out buf answer : List ℕ) where
   exported-is t = cond-false (isShort (length (w .state)) (length answer)) _ _ t
 
   does-called : (r : Reply) (number : ℕ) (state' rx' store' out' buf' answer' : List ℕ) → Leaves (agreedIn (w .state)) (outcome w c) 0 (w .state) out buf r state' rx' store' out' buf'
-      → number ≡ numberOf (r .answer) → answer' ≡ put answer 0 (answerBytes (r .used) (r .written) (r .answer)) → saidIn answer' ≡ numbersOf (r .used) (r .written) (r .answer) → Does (called w c out buf answer) number state' rx' store' out' buf' answer'
+      → number ≡ answerNumber (r .answer) → answer' ≡ put answer 0 (answerBytes (r .used) (r .written) (r .answer)) → saidIn answer' ≡ numbersOf (r .used) (r .written) (r .answer) → Does (called w c out buf answer) number state' rx' store' out' buf' answer'
   unfolding called after
   does-called r number state' rx' store' out' buf' answer' g f h q =
       record {
-        number-is = f ∙ ap numberOf (g .answer-is);
+        number-is = f ∙ ap answerNumber (g .answer-is);
         state-is = g .state-is;
         rx-is = g .rx-is;
         store-is = g .store-is;
@@ -150,7 +152,7 @@ module _ (w : World) (c : Call) (out buf answer : List ℕ) where
 
   -- what the call leaves is what its definition does
   pub does-call : (o : Outcome) (r : Reply) (number : ℕ) (state' rx' store' out' buf' answer' : List ℕ) → isShort (length (w .state)) (length answer) ≡ false → o ≡ outcome w c
-      → Leaves (agreedIn (w .state)) o 0 (w .state) out buf r state' rx' store' out' buf' → number ≡ numberOf (r .answer)
+      → Leaves (agreedIn (w .state)) o 0 (w .state) out buf r state' rx' store' out' buf' → number ≡ answerNumber (r .answer)
       → answer' ≡ put answer 0 (answerBytes (r .used) (r .written) (r .answer)) → saidIn answer' ≡ numbersOf (r .used) (r .written) (r .answer) → Does (exported w c out buf answer) number state' rx' store' out' buf' answer'
   does-call o r number state' rx' store' out' buf' answer' t e g f h q =
       subst (λ (x : Exported). Does x number state' rx' store' out' buf' answer') (sym (exported-is t))
@@ -163,48 +165,48 @@ module _ (state rx store : List ℕ) where
   w = worldOf state rx store
 
   pub open-is : (out destination received : List ℕ) → Bytes destination → Bytes received
-      → openOf (isWhole state) (lentOf state rx store) (length out) destination received ≡ outcome w (openCall out destination received)
+      → openOutcome (isWhole state) (lentOf state rx store) (length out) destination received ≡ outcome w (openCall out destination received)
   unfolding outcome
   open-is out destination received d y =
-      ap (λ (x : List ℕ). openOf (isWhole state) (lentOf state rx store) (length out) x received) (sym (bytes-same destination d))
-      ∙ ap (openOf (isWhole state) (lentOf state rx store) (length out) (bytesIn destination)) (sym (bytes-same received y))
+      ap (λ (x : List ℕ). openOutcome (isWhole state) (lentOf state rx store) (length out) x received) (sym (bytes-same destination d))
+      ∙ ap (openOutcome (isWhole state) (lentOf state rx store) (length out) (bytesIn destination)) (sym (bytes-same received y))
 
-  pub dispatch-is : (out received : List ℕ) → Bytes received → dispatchOf (isWhole state) (lentOf state rx store) (length out) received ≡ outcome w (dispatchCall out received)
+  pub dispatch-is : (out received : List ℕ) → Bytes received → dispatchOutcome (isWhole state) (lentOf state rx store) (length out) received ≡ outcome w (dispatchCall out received)
   unfolding outcome
-  dispatch-is out received y = ap (dispatchOf (isWhole state) (lentOf state rx store) (length out)) (sym (bytes-same received y))
+  dispatch-is out received y = ap (dispatchOutcome (isWhole state) (lentOf state rx store) (length out)) (sym (bytes-same received y))
 
-  pub settle-is : (out : List ℕ) (ch : ChannelId) (want : ℕ) → settleOf (isWhole state) (lentOf state rx store) (length out) ch want ≡ outcome w (settleCall out ch want)
+  pub settle-is : (out : List ℕ) (ch : ChannelId) (want : ℕ) → settleOutcome (isWhole state) (lentOf state rx store) (length out) ch want ≡ outcome w (settleCall out ch want)
   unfolding outcome
   settle-is out ch want = refl
 
-  pub take-is : (ch : ChannelId) (buf : List ℕ) → takeOf (isWhole state) (lentOf state rx store) ch (length buf) ≡ outcome w (takeCall ch buf)
+  pub take-is : (ch : ChannelId) (buf : List ℕ) → takeOutcome (isWhole state) (lentOf state rx store) ch (length buf) ≡ outcome w (takeCall ch buf)
   unfolding outcome
   take-is ch buf = refl
 
   pub read-is : (out : List ℕ) (ch : ChannelId) (buf received : List ℕ) → Bytes received
-      → readOf (isWhole state) (lentOf state rx store) (length out) ch (length buf) received ≡ outcome w (readCall out ch buf received)
+      → readOutcome (isWhole state) (lentOf state rx store) (length out) ch (length buf) received ≡ outcome w (readCall out ch buf received)
   unfolding outcome
-  read-is out ch buf received y = ap (readOf (isWhole state) (lentOf state rx store) (length out) ch (length buf)) (sym (bytes-same received y))
+  read-is out ch buf received y = ap (readOutcome (isWhole state) (lentOf state rx store) (length out) ch (length buf)) (sym (bytes-same received y))
 
   pub write-is : (out : List ℕ) (ch : ChannelId) (given received : List ℕ) → Bytes given → Bytes received
-      → writeOf (isWhole state) (lentOf state rx store) (length out) ch given received ≡ outcome w (writeCall out ch given received)
+      → writeOutcome (isWhole state) (lentOf state rx store) (length out) ch given received ≡ outcome w (writeCall out ch given received)
   unfolding outcome
   write-is out ch given received d y =
-      ap (λ (x : List ℕ). writeOf (isWhole state) (lentOf state rx store) (length out) ch x received) (sym (bytes-same given d))
-      ∙ ap (writeOf (isWhole state) (lentOf state rx store) (length out) ch (bytesIn given)) (sym (bytes-same received y))
+      ap (λ (x : List ℕ). writeOutcome (isWhole state) (lentOf state rx store) (length out) ch x received) (sym (bytes-same given d))
+      ∙ ap (writeOutcome (isWhole state) (lentOf state rx store) (length out) ch (bytesIn given)) (sym (bytes-same received y))
 
-  pub close-is : (out : List ℕ) (ch : ChannelId) → closeOf (isWhole state) (lentOf state rx store) (length out) ch ≡ outcome w (closeCall out ch)
+  pub close-is : (out : List ℕ) (ch : ChannelId) → closeOutcome (isWhole state) (lentOf state rx store) (length out) ch ≡ outcome w (closeCall out ch)
   unfolding outcome
   close-is out ch = refl
 
-  pub front-is : frontCall (isWhole state) (lentOf state rx store) ≡ outcome w frontTaken
+  pub front-is : takeFrontOutcome (isWhole state) (lentOf state rx store) ≡ outcome w frontTaken
   unfolding outcome
   front-is = refl
 
 -- ---- make
 
 pub makes-is : (c : ConnectionConfig) (a b h d : ℕ) (host device : Bool) (state state' : List ℕ) (said : Answer) (r : ℕ) → host ≡ isYes h → device ≡ isYes d
-    → Makes (makeIn c a b host device state) said state' → r ≡ numberOf said → MakesState (makeIn c a b (isYes h) (isYes d) state) r state'
+    → Makes (makeIn c a b host device state) said state' → r ≡ answerNumber said → MakesState (makeIn c a b (isYes h) (isYes d) state) r state'
 makes-is c a b h d host device state state' said r e f g k =
     let g₁ = subst (λ (x : Bool). Makes (makeIn c a b (isYes h) x state) said state') f (subst (λ (x : Bool). Makes (makeIn c a b x device state) said state') e g) in
-    record { number-is = k ∙ ap numberOf (g₁ .answer-is); state-is = g₁ .state-is }
+    record { number-is = k ∙ ap answerNumber (g₁ .answer-is); state-is = g₁ .state-is }

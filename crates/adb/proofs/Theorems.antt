@@ -12,11 +12,11 @@ use Rattle.config.specs.declared.negotiated.Negotiated.{Negotiated}
 use Rattle.config.specs.declared.negotiated.RxPolicy.{RxPolicy}
 use Rattle.config.specs.Config.{withinLimits}
 use Rattle.slot.proofs.Laws.{cond-true, cond-false}
-use Rattle.connection.specs.Answer.{refusalNumber, numberOf}
+use Rattle.connection.specs.Answer.{refusalNumber, answerNumber}
 use Rattle.connection.specs.Calls.{Made, makeOf}
-use Rattle.calls.specs.Promise.{makeIn}
+use Rattle.call_make.specs.Make.{makeIn}
 use Rattle.history.specs.Book.{Ledger, clean, bookAt, entry, ledgerOf}
-use Rattle.history.specs.Demand3.{slotOf, runOf, Distinct, Apart, Place, Told, AllTold, Claims}
+use Rattle.history.specs.Demand3.{placeSlot, runOf, Distinct, Apart, Place, Told, AllTold, Claims}
 use Rattle.history.specs.NoLeak.{ReadOnly, EvenAt}
 use Rattle.history.specs.Never13.{Unbroken}
 use Rattle.history.specs.Numbers.{opensIn, givenBy, givenIn}
@@ -31,6 +31,7 @@ use Rattle.history.proofs.Theorem.{demand-3, no-leak}
 use Rattle.history.proofs.Told.{entry-eight, told-eight}
 use Rattle.adb.specs.Export.{worldOf, saidIn, isShort, Exported, called, exported, Does, isYes}
 use Rattle.adb.specs.Linked.{Step, leftIn, heldIn, eventIn, Ran, Runs, leaves, events, ApartIn, None13, ReadsAt, Making, lendsBy, policyBy, LinkedDemand3, LinkedFree, LinkedNever13, LinkedQueue, LinkedNoLeak}
+use Rattle.state.specs.State.{stateLen}
 
 -- ---- one call: refused by 8 for a short answer, or the definition's
 
@@ -147,19 +148,19 @@ not-7 : (k : ℕ) → k ≡ 0 → k ≡ 7 → ⊥
 not-7 k e f = omega arith
 
 module _ (m : Making) where
-  makes-long : ltb (length (m .state)) 4730 ≡ false
-  unfolding makeIn numberOf refusalNumber
+  makes-long : ltb (length (m .state)) stateLen ≡ false
+  unfolding makeIn answerNumber refusalNumber
   makes-long =
-      by-test (ltb (length (m .state)) 4730)
-      (λ t. absurd (not-8 (m .number) (m .done) (m .makes .number-is ∙ ap (λ (x : Made). numberOf (x .answer)) (cond-true (ltb (length (m .state)) 4730) _ _ t))))
+      by-test (ltb (length (m .state)) stateLen)
+      (λ t. absurd (not-8 (m .number) (m .done) (m .makes .number-is ∙ ap (λ (x : Made). answerNumber (x .answer)) (cond-true (ltb (length (m .state)) stateLen) _ _ t))))
       (λ t. t)
 
   makes-within : withinLimits (m .config) ≡ true
-  unfolding makeIn makeOf numberOf refusalNumber
+  unfolding makeIn makeOf answerNumber refusalNumber
   makes-within =
       by-test (withinLimits (m .config)) (λ t. t)
       (λ t. absurd (not-7 (m .number) (m .done)
-      (m .makes .number-is ∙ ap (λ (x : Made). numberOf (x .answer)) (cond-false (ltb (length (m .state)) 4730) _ _ makes-long ∙ cond-false (withinLimits (m .config)) _ _ t))))
+      (m .makes .number-is ∙ ap (λ (x : Made). answerNumber (x .answer)) (cond-false (ltb (length (m .state)) stateLen) _ _ makes-long ∙ cond-false (withinLimits (m .config)) _ _ t))))
 
   -- a start of the definitions' lists
   abbrev start : Start
@@ -174,12 +175,12 @@ module _ (m : Making) where
         rx = m .rx;
         store = m .store;
         within = makes-within;
-        long = ltb-false (length (m .state)) 4730 makes-long;
+        long = ltb-false (length (m .state)) stateLen makes-long;
       }
 
   lends : lendsBy m ≡ begins start
   unfolding makeIn made
-  lends = ap (λ (x : List ℕ). worldOf x (m .rx) (m .store)) (m .makes .state-is ∙ ap (λ (x : Made). x .state) (cond-false (ltb (length (m .state)) 4730) _ _ makes-long))
+  lends = ap (λ (x : List ℕ). worldOf x (m .rx) (m .store)) (m .makes .state-is ∙ ap (λ (x : Made). x .state) (cond-false (ltb (length (m .state)) stateLen) _ _ makes-long))
 
   linked : (xs : List Step) → Runs (lendsBy m) xs → Same (policyBy m) (begins start) xs
   linked xs r = subst (λ (v : World). Same (policyBy m) v xs) lends (same (policyBy m) (lendsBy m) xs r)
@@ -198,7 +199,7 @@ claims m xs r apart =
     let e = left-at m xs r in
     let at : Claims p (leaves (lendsBy m) xs) (eventsOf (begins (start m)) (s .calls)) = subst (λ (v : World). Claims p v (eventsOf (begins (start m)) (s .calls))) (sym e) g in
     record {
-      places = λ i. subst (λ (y : Ledger). Place p (slotOf (leaves (lendsBy m) xs) i) (runOf (leaves (lendsBy m) xs .rx) (p .«rx_cap») i (slotOf (leaves (lendsBy m) xs) i)) (bookAt y i)) (sym (s .ledger clean)) (at .places i);
+      places = λ i. subst (λ (y : Ledger). Place p (placeSlot (leaves (lendsBy m) xs) i) (runOf (leaves (lendsBy m) xs .rx) (p .«rx_cap») i (placeSlot (leaves (lendsBy m) xs) i)) (bookAt y i)) (sym (s .ledger clean)) (at .places i);
       calls = s .told clean (g .calls);
     }
 
@@ -227,7 +228,7 @@ pub linked-never-13 : LinkedNever13
 linked-never-13 m xs r =
     let s = start m in (
       subst (Unbroken _ (m .state) (m .rx) (m .store)) (sym (left-at m xs r)) (never-13 s (linked m xs r .calls)),
-      none-13 _ (drop 4730 (m .state)) (length (m .rx)) (length (m .store)) (lendsBy m) (subst (Holds _ (drop 4730 (m .state)) (length (m .rx)) (length (m .store))) (sym (lends m)) (starts s)) xs r,
+      none-13 _ (drop stateLen (m .state)) (length (m .rx)) (length (m .store)) (lendsBy m) (subst (Holds _ (drop stateLen (m .state)) (length (m .rx)) (length (m .store))) (sym (lends m)) (starts s)) xs r,
     )
 
 pub linked-queue : LinkedQueue

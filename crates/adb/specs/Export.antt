@@ -7,13 +7,14 @@ use mathlib.Core.List.{List, [], _∷_}
 use lib.Dec.{ltb}
 use lib.ListN.{length}
 use Rattle.le.specs.Le.{numOf, bytesOf, put}
-use Rattle.state.specs.Rows.{flat, rows}
+use Rattle.le.specs.Rows.{flat, rows}
 use Rattle.connection.specs.declared.Answer.{Answer}
-use Rattle.connection.specs.Answer.{numberOf, valuesOf}
+use Rattle.connection.specs.Answer.{answerNumber, answerValues}
 use Rattle.connection.specs.Calls.{writtenBy, Made}
 use Rattle.connection.specs.Frames.{framesBytes}
 use Rattle.adb.specs.declared.Values.{Values}
 use Rattle.history.specs.Run.{Call, World, lent, outcome, after}
+use Rattle.state.specs.State.{stateLen}
 
 -- lent bytes that last from call to call
 abbrev pub worldOf : List ℕ → List ℕ → List ℕ → World
@@ -25,7 +26,7 @@ valuesIn v = v .a ∷ v .b ∷ v .c ∷ v .d ∷ []
 
 -- an answer's six numbers: used, written, then the answer's four values
 abbrev pub numbersOf : ℕ → ℕ → Answer → List ℕ
-numbersOf used written a = used ∷ written ∷ valuesOf a
+numbersOf used written a = used ∷ written ∷ answerValues a
 
 -- its 48 bytes
 unfoldable pub answerBytes : ℕ → ℕ → Answer → List ℕ
@@ -48,14 +49,14 @@ pub record Exported : Type 0 where
 
 -- too few bytes for a state or for an answer
 unfoldable pub isShort : ℕ → ℕ → Bool
-isShort state answer = ltb state 4730 || ltb answer 48
+isShort state answer = ltb state stateLen || ltb answer 48
 
 -- what a call leaves that is not refused for that: the frames stand at the start of the outgoing buffer, the bytes handed over
 -- at the start of the reader's
 unfoldable pub called : World → Call → List ℕ → List ℕ → List ℕ → Exported
 called w c out buf answer =
     record {
-      number = numberOf (outcome w c .answer);
+      number = answerNumber (outcome w c .answer);
       state = after w c .state;
       rx = after w c .rx;
       store = after w c .store;
@@ -88,5 +89,5 @@ isYes flag = ltb 0 flag
 
 -- its number, and the state's bytes: 8 for too few, then 7, else a fresh connection's
 pub record MakesState (m : Made) (r : ℕ) (state : List ℕ) : Type 0 where
-  pub number-is : r ≡ numberOf (m .answer)
+  pub number-is : r ≡ answerNumber (m .answer)
   pub state-is : state ≡ m .state

@@ -1,2 +1,3 @@
 pub mod Export
 pub mod Linked
+pub mod Promise

@@ -11,7 +11,7 @@ use Rattle.config.specs.declared.negotiated.Negotiated.{Negotiated}
 use Rattle.config.specs.declared.negotiated.RxPolicy.{RxPolicy}
 use Rattle.config.specs.Config.{storesFit}
 use Rattle.config.specs.Negotiated.{negotiatedOf, policyOf}
-use Rattle.calls.specs.Promise.{makeIn}
+use Rattle.call_make.specs.Make.{makeIn}
 use Rattle.history.specs.Book.{clean, bookAt, ledgerOf}
 use Rattle.history.specs.Demand3.{Distinct, Claims}
 use Rattle.history.specs.Never13.{Unbroken}
@@ -134,7 +134,7 @@ abbrev pub LinkedNever13 : Type 0
 LinkedNever13 =
     (m : Making) (xs : List Step) → Runs (lendsBy m) xs → Unbroken (agreedBy m) (m .state) (m .rx) (m .store) (leaves (lendsBy m) xs) × None13 xs
 
--- what waits is the Rust's queue
+-- what is queued is the Rust's queue
 abbrev pub LinkedQueue : Type 0
 LinkedQueue =
     (m : Making) → storesFit (m .config) (length (m .rx)) (length (m .store)) ≡ true

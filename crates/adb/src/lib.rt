@@ -1,31 +1,31 @@
 // The C interface (include/adb.h). Every buffer comes as a pointer and its length. A state or an answer that is too short is
 // refused by 8 ahead of all else, and nothing is touched.
-use calls::Reply;
-use calls::close::close;
-use calls::dispatch::dispatch;
-use calls::dispatch::take_front;
-use calls::make::make;
+use call::Reply;
+use call_close::close;
+use call_dispatch::dispatch;
+use call_make::make;
+use call_open::open;
+use call_read::read;
+use call_settle::settle;
+use call_take::take;
+use call_take_front::take_front;
+use call_write::write;
 use config::ConnectionConfig;
 use connection::Answer;
 use connection::Refusal;
-use opening::open::open;
-use reading::read::read;
 use slot::PendingAck;
 use slot::ids::LocalId;
+use state::STATE_LEN;
 use table::ChannelId;
-use transfer::settle;
-use transfer::take;
-use writing::write::write;
 ghost use mathlib.Core.Path.{_≡_};
-ghost use mathlib.Core.List.{[]};
 ghost use Prim.Native.Nat.{_≤_};
 ghost use lib.ListN.{length};
 ghost use Rattle.le.specs.Le.{bytesOf, put};
-ghost use Rattle.state.specs.Rows.{flat};
-ghost use Rattle.connection.specs.Answer.{numberOf, valuesOf, ackLength, refusalWord};
-ghost use Rattle.calls.specs.Promise.{makeIn};
-ghost use Rattle.history.specs.Run.{openCall, dispatchCall, settleCall, takeCall, readCall, writeCall, closeCall, frontTaken};
-ghost use Rattle.adb.specs.Export.{worldOf, valuesIn, numbersOf, answerBytes, saidIn, isShort, exported, Does, isYes, MakesState};
+ghost use Rattle.le.specs.Rows.{flat};
+ghost use Rattle.connection.specs.Answer.{answerNumber, answerValues, ackLength, refusalWord};
+ghost use Rattle.adb.specs.Export.{valuesIn, numbersOf, answerBytes, saidIn, isShort, isYes};
+ghost use Rattle.adb.specs.Promise.{AdbCloseDoes, AdbDispatchDoes, AdbMakeDoes, AdbOpenDoes, AdbReadDoes, AdbSettleDoes, AdbTakeDoes};
+ghost use Rattle.adb.specs.Promise.{AdbTakeFrontDoes, AdbWriteDoes};
 
 // An answer's four values.
 pub struct Values {
@@ -76,7 +76,7 @@ fn refusal_word(refusal: Refusal) -> u64
 }
 
 fn values_of(answer: Answer) -> Values
-    ensures { λ r. ⌜ valuesIn r ≡ valuesOf answer ⌝ }
+    ensures { λ r. ⌜ valuesIn r ≡ answerValues answer ⌝ }
 {
     match answer {
         Answer::Done => one(0),
@@ -117,7 +117,9 @@ fn put_values(answer: &mut [u8], v: Values)
 // The answer's 48 bytes, and the call's number.
 fn answered(answer: &mut [u8], reply: Reply) -> u32
     requires { ⌜ 48 ≤ length (now answer) ⌝ }
-    ensures { λ r. ⌜ (r ≡ numberOf (reply .answer)) × (now (answer .exit) ≡ put (now (answer .entry)) 0 (answerBytes (reply .used) (reply .written) (reply .answer))) × (saidIn (now (answer .exit)) ≡ numbersOf (reply .used) (reply .written) (reply .answer)) ⌝ }
+    ensures { λ r. ⌜ (r ≡ answerNumber (reply .answer)) ×
+        (now (answer .exit) ≡ put (now (answer .entry)) 0 (answerBytes (reply .used) (reply .written) (reply .answer))) ×
+        (saidIn (now (answer .exit)) ≡ numbersOf (reply .used) (reply .written) (reply .answer)) ⌝ }
 {
     let said = reply.answer;
     le::put_usize(answer, 0, reply.used);
@@ -129,13 +131,13 @@ fn answered(answer: &mut [u8], reply: Reply) -> u32
 fn is_short(state: usize, answer: usize) -> bool
     ensures { λ r. ⌜ r ≡ isShort state answer ⌝ }
 {
-    if state < 4730 {
+    if state < STATE_LEN {
         return true;
     }
     answer < 48
 }
 
-// Opens a channel, or goes on with the open that waits.
+// Opens a channel, or goes on with the pending open.
 #[no_mangle]
 pub extern "C" fn adb_open(
     state: &mut [u8],
@@ -146,7 +148,9 @@ pub extern "C" fn adb_open(
     out: &mut [u8],
     answer: &mut [u8],
 ) -> u32
-    ensures { λ r. ⌜ Does (exported (worldOf (now (state .entry)) (now (rx .entry)) (now (opens .entry))) (openCall (now (out .entry)) (now (destination .entry)) (now (received .entry))) (now (out .entry)) [] (now (answer .entry))) r (now (state .exit)) (now (rx .exit)) (now (opens .exit)) (now (out .exit)) [] (now (answer .exit)) ⌝ }
+    ensures { λ r. ⌜ AdbOpenDoes (now (state .entry)) (now (rx .entry)) (now (opens .entry)) (now (destination .entry))
+        (now (received .entry)) (now (out .entry)) (now (answer .entry)) r (now (state .exit)) (now (rx .exit))
+        (now (opens .exit)) (now (out .exit)) (now (answer .exit)) ⌝ }
 {
     if is_short(state.len(), answer.len()) {
         return 8;
@@ -165,7 +169,9 @@ pub extern "C" fn adb_dispatch(
     out: &mut [u8],
     answer: &mut [u8],
 ) -> u32
-    ensures { λ r. ⌜ Does (exported (worldOf (now (state .entry)) (now (rx .entry)) (now (opens .entry))) (dispatchCall (now (out .entry)) (now (received .entry))) (now (out .entry)) [] (now (answer .entry))) r (now (state .exit)) (now (rx .exit)) (now (opens .exit)) (now (out .exit)) [] (now (answer .exit)) ⌝ }
+    ensures { λ r. ⌜ AdbDispatchDoes (now (state .entry)) (now (rx .entry)) (now (opens .entry)) (now (received .entry))
+        (now (out .entry)) (now (answer .entry)) r (now (state .exit)) (now (rx .exit)) (now (opens .exit)) (now (out .exit))
+        (now (answer .exit)) ⌝ }
 {
     if is_short(state.len(), answer.len()) {
         return 8;
@@ -186,7 +192,8 @@ pub extern "C" fn adb_settle(
     out: &mut [u8],
     answer: &mut [u8],
 ) -> u32
-    ensures { λ r. ⌜ Does (exported (worldOf (now (state .entry)) (now (rx .entry)) (now (opens .entry))) (settleCall (now (out .entry)) (record { slot = slot; local = record { 0 = local } }) want) (now (out .entry)) [] (now (answer .entry))) r (now (state .exit)) (now (rx .entry)) (now (opens .entry)) (now (out .exit)) [] (now (answer .exit)) ⌝ }
+    ensures { λ r. ⌜ AdbSettleDoes (now (state .entry)) (now (rx .entry)) (now (opens .entry)) slot local want
+        (now (out .entry)) (now (answer .entry)) r (now (state .exit)) (now (out .exit)) (now (answer .exit)) ⌝ }
 {
     if is_short(state.len(), answer.len()) {
         return 8;
@@ -210,7 +217,8 @@ pub extern "C" fn adb_take(
     buf: &mut [u8],
     answer: &mut [u8],
 ) -> u32
-    ensures { λ r. ⌜ Does (exported (worldOf (now (state .entry)) (now (rx .entry)) (now (opens .entry))) (takeCall (record { slot = slot; local = record { 0 = local } }) (now (buf .entry))) [] (now (buf .entry)) (now (answer .entry))) r (now (state .exit)) (now (rx .entry)) (now (opens .entry)) [] (now (buf .exit)) (now (answer .exit)) ⌝ }
+    ensures { λ r. ⌜ AdbTakeDoes (now (state .entry)) (now (rx .entry)) (now (opens .entry)) slot local (now (buf .entry))
+        (now (answer .entry)) r (now (state .exit)) (now (buf .exit)) (now (answer .exit)) ⌝ }
 {
     if is_short(state.len(), answer.len()) {
         return 8;
@@ -236,7 +244,9 @@ pub extern "C" fn adb_read(
     buf: &mut [u8],
     answer: &mut [u8],
 ) -> u32
-    ensures { λ r. ⌜ Does (exported (worldOf (now (state .entry)) (now (rx .entry)) (now (opens .entry))) (readCall (now (out .entry)) (record { slot = slot; local = record { 0 = local } }) (now (buf .entry)) (now (received .entry))) (now (out .entry)) (now (buf .entry)) (now (answer .entry))) r (now (state .exit)) (now (rx .exit)) (now (opens .exit)) (now (out .exit)) (now (buf .exit)) (now (answer .exit)) ⌝ }
+    ensures { λ r. ⌜ AdbReadDoes (now (state .entry)) (now (rx .entry)) (now (opens .entry)) slot local (now (received .entry))
+        (now (out .entry)) (now (buf .entry)) (now (answer .entry)) r (now (state .exit)) (now (rx .exit)) (now (opens .exit))
+        (now (out .exit)) (now (buf .exit)) (now (answer .exit)) ⌝ }
 {
     if is_short(state.len(), answer.len()) {
         return 8;
@@ -262,7 +272,9 @@ pub extern "C" fn adb_write(
     out: &mut [u8],
     answer: &mut [u8],
 ) -> u32
-    ensures { λ r. ⌜ Does (exported (worldOf (now (state .entry)) (now (rx .entry)) (now (opens .entry))) (writeCall (now (out .entry)) (record { slot = slot; local = record { 0 = local } }) (now (bytes .entry)) (now (received .entry))) (now (out .entry)) [] (now (answer .entry))) r (now (state .exit)) (now (rx .exit)) (now (opens .exit)) (now (out .exit)) [] (now (answer .exit)) ⌝ }
+    ensures { λ r. ⌜ AdbWriteDoes (now (state .entry)) (now (rx .entry)) (now (opens .entry)) slot local (now (bytes .entry))
+        (now (received .entry)) (now (out .entry)) (now (answer .entry)) r (now (state .exit)) (now (rx .exit))
+        (now (opens .exit)) (now (out .exit)) (now (answer .exit)) ⌝ }
 {
     if is_short(state.len(), answer.len()) {
         return 8;
@@ -286,7 +298,8 @@ pub extern "C" fn adb_close(
     out: &mut [u8],
     answer: &mut [u8],
 ) -> u32
-    ensures { λ r. ⌜ Does (exported (worldOf (now (state .entry)) (now (rx .entry)) (now (opens .entry))) (closeCall (now (out .entry)) (record { slot = slot; local = record { 0 = local } })) (now (out .entry)) [] (now (answer .entry))) r (now (state .exit)) (now (rx .entry)) (now (opens .entry)) (now (out .exit)) [] (now (answer .exit)) ⌝ }
+    ensures { λ r. ⌜ AdbCloseDoes (now (state .entry)) (now (rx .entry)) (now (opens .entry)) slot local (now (out .entry))
+        (now (answer .entry)) r (now (state .exit)) (now (out .exit)) (now (answer .exit)) ⌝ }
 {
     if is_short(state.len(), answer.len()) {
         return 8;
@@ -299,7 +312,7 @@ pub extern "C" fn adb_close(
     answered(answer, reply)
 }
 
-// The device's open that waited longest.
+// The device's open that was queued first.
 #[no_mangle]
 pub extern "C" fn adb_take_front(
     state: &mut [u8],
@@ -307,7 +320,8 @@ pub extern "C" fn adb_take_front(
     opens: &[u8],
     answer: &mut [u8],
 ) -> u32
-    ensures { λ r. ⌜ Does (exported (worldOf (now (state .entry)) (now (rx .entry)) (now (opens .entry))) frontTaken [] [] (now (answer .entry))) r (now (state .exit)) (now (rx .entry)) (now (opens .entry)) [] [] (now (answer .exit)) ⌝ }
+    ensures { λ r. ⌜ AdbTakeFrontDoes (now (state .entry)) (now (rx .entry)) (now (opens .entry)) (now (answer .entry)) r
+        (now (state .exit)) (now (answer .exit)) ⌝ }
 {
     if is_short(state.len(), answer.len()) {
         return 8;
@@ -336,7 +350,8 @@ pub extern "C" fn adb_make(
     host_delayed_ack: u8,
     device_delayed_ack: u8,
 ) -> u32
-    ensures { λ r. ⌜ MakesState (makeIn (record { channels = channels; «max_payload» = «max_payload»; «max_rx_per_channel» = «max_rx_per_channel»; «initial_ack_bytes» = «initial_ack_bytes» }) version «device_max_payload» (isYes «host_delayed_ack») (isYes «device_delayed_ack») (now (state .entry))) r (now (state .exit)) ⌝ }
+    ensures { λ r. ⌜ AdbMakeDoes (now (state .entry)) channels «max_payload» «max_rx_per_channel» «initial_ack_bytes» version
+        «device_max_payload» «host_delayed_ack» «device_delayed_ack» r (now (state .exit)) ⌝ }
 {
     let config = ConnectionConfig {
         channels,

@@ -6,7 +6,8 @@ use native.Mathlib.Omega.{arith}
 use lib.ListN.{length, drop, length-append}
 use lib.Seq.{take-at, drop-at}
 use borrow.Author.Tests.{lt-ltb, le-ltb}
-use Rattle.le.specs.Le.{bytesOf, put}
+use Rattle.le.specs.Le.{numOf, bytesOf, put}
+use Rattle.le.specs.Rows.{flat, rows}
 use Rattle.le.proofs.Laws.{length-bytesOf, write-read}
 use Rattle.le.proofs.Parts.{put-put}
 use Rattle.exchange.specs.declared.SyncId.{SyncId}
@@ -18,16 +19,16 @@ use Rattle.sync.specs.declared.Read.{Read}
 use Rattle.sync_write.specs.declared.Written.{Written}
 use Rattle.sync_write.specs.declared.Written.the-variants.{InvalidId}
 use Rattle.exchange.specs.Exchange.{foundOf, exchangeOf}
-use Rattle.sync.specs.Message.{readOf, numberOf}
-use Rattle.sync_write.specs.Write.{writeOf, Writes, writtenNumber}
+use Rattle.sync.specs.Message.{readMessage, readNumber}
+use Rattle.sync_write.specs.Write.{writeMessage, Writes, writtenNumber}
 use Rattle.adb_sync.specs.declared.Values.{Values}
 use Rattle.adb_sync.specs.declared.Said.{Said}
-use Rattle.adb_sync.specs.Export.{saidOf, wordsBytes, wordsIn, valuesIn, numbersIn, saidBytes, readsIn, ReadDoes, fieldsFrom, writeFound, countOf, counted, writesIn, WriteDoes}
+use Rattle.adb_sync.specs.Export.{saidOf, valuesIn, numbersIn, saidBytes, readsIn, ReadDoes, fieldsFrom, writeFound, countOf, counted, writesIn, WriteDoes}
 
 -- ---- the answer's bytes
 
-words-length : (x y z w : ℕ) → length (wordsBytes (x ∷ y ∷ z ∷ w ∷ [])) ≡ 32
-unfolding wordsBytes
+words-length : (x y z w : ℕ) → length (flat (bytesOf 8) (x ∷ y ∷ z ∷ w ∷ [])) ≡ 32
+unfolding flat
 words-length x y z w =
     let lx = length-bytesOf 8 x in
     let ly = length-bytesOf 8 y in
@@ -37,8 +38,8 @@ words-length x y z w =
 
 -- four numbers, put one behind the other
 pub words-put : (d : List ℕ) (at x y z w : ℕ) (d₁ d₂ d₃ d₄ : List ℕ) → at + 32 ≤ length d → d₁ ≡ put d at (bytesOf 8 x) → d₂ ≡ put d₁ (at + 8) (bytesOf 8 y)
-    → d₃ ≡ put d₂ (at + 16) (bytesOf 8 z) → d₄ ≡ put d₃ (at + 24) (bytesOf 8 w) → d₄ ≡ put d at (wordsBytes (x ∷ y ∷ z ∷ w ∷ []))
-unfolding wordsBytes
+    → d₃ ≡ put d₂ (at + 16) (bytesOf 8 z) → d₄ ≡ put d₃ (at + 24) (bytesOf 8 w) → d₄ ≡ put d at (flat (bytesOf 8) (x ∷ y ∷ z ∷ w ∷ []))
+unfolding flat
 words-put d at x y z w d₁ d₂ d₃ d₄ k e₁ e₂ e₃ e₄ =
     let a = bytesOf 8 x in
     let b = bytesOf 8 y in
@@ -56,17 +57,17 @@ words-put d at x y z w d₁ d₂ d₃ d₄ k e₁ e₂ e₃ e₄ =
     let q : a ++ b ++ c ++ e ≡ a ++ (b ++ (c ++ (e ++ []))) = simp (append-assoc, append-nil) in
     f₄ ∙ ap (put d at) q
 
-words-join : (x y z w : ℕ) (l : List ℕ) → wordsBytes (x ∷ y ∷ z ∷ w ∷ []) ++ wordsBytes l ≡ wordsBytes (x ∷ y ∷ z ∷ w ∷ l)
-unfolding wordsBytes
+words-join : (x y z w : ℕ) (l : List ℕ) → flat (bytesOf 8) (x ∷ y ∷ z ∷ w ∷ []) ++ flat (bytesOf 8) l ≡ flat (bytesOf 8) (x ∷ y ∷ z ∷ w ∷ l)
+unfolding flat
 words-join x y z w l = simp (append-assoc, append-nil)
 
 -- the values behind the first four numbers are the answer
-pub said-put : (d d₄ d₅ : List ℕ) (s : Said) → 64 ≤ length d → d₄ ≡ put d 0 (wordsBytes (s .used ∷ s .at ∷ s .length ∷ s .word ∷ []))
-    → d₅ ≡ put d₄ 32 (wordsBytes (valuesIn (s .values))) → d₅ ≡ put d 0 (saidBytes s)
+pub said-put : (d d₄ d₅ : List ℕ) (s : Said) → 64 ≤ length d → d₄ ≡ put d 0 (flat (bytesOf 8) (s .used ∷ s .at ∷ s .length ∷ s .word ∷ []))
+    → d₅ ≡ put d₄ 32 (flat (bytesOf 8) (valuesIn (s .values))) → d₅ ≡ put d 0 (saidBytes s)
 unfolding saidBytes
 said-put d d₄ d₅ s k e₄ e₅ =
-    let a = wordsBytes (s .used ∷ s .at ∷ s .length ∷ s .word ∷ []) in
-    let b = wordsBytes (valuesIn (s .values)) in
+    let a = flat (bytesOf 8) (s .used ∷ s .at ∷ s .length ∷ s .word ∷ []) in
+    let b = flat (bytesOf 8) (valuesIn (s .values)) in
     let la = words-length (s .used) (s .at) (s .length) (s .word) in
     let lb = words-length (s .values .a) (s .values .b) (s .values .c) (s .values .d) in
     e₅ ∙ ap (λ (l : List ℕ). put l 32 b) e₄ ∙ put-put d 0 a 32 b (omega arith) (omega arith)
@@ -80,28 +81,28 @@ Small [] = Unit {0}
 Small (x ∷ l) = (x < 2 ^ 64) × Small l
 
 -- numbers, read from their bytes
-words-back : (l rest : List ℕ) → Small l → wordsIn (length l) (wordsBytes l ++ rest) ≡ l
-unfolding wordsIn wordsBytes
+words-back : (l rest : List ℕ) → Small l → rows 8 numOf (length l) (flat (bytesOf 8) l ++ rest) ≡ l
+unfolding rows flat
 words-back [] rest h = refl
 words-back (x ∷ l) rest h =
     let b = length-bytesOf 8 x in
-    let r = wordsBytes l ++ rest in
-    rw (append-assoc (bytesOf 8 x) (wordsBytes l) rest, take-at (bytesOf 8 x) r 8 b, drop-at (bytesOf 8 x) r 8 b, write-read 8 x (h .0), words-back l rest (h .1))
+    let r = flat (bytesOf 8) l ++ rest in
+    rw (append-assoc (bytesOf 8 x) (flat (bytesOf 8) l) rest, take-at (bytesOf 8 x) r 8 b, drop-at (bytesOf 8 x) r 8 b, write-read 8 x (h .0), words-back l rest (h .1))
 
-put-back : (d l : List ℕ) → Small l → wordsIn (length l) (put d 0 (wordsBytes l)) ≡ l
+put-back : (d l : List ℕ) → Small l → rows 8 numOf (length l) (put d 0 (flat (bytesOf 8) l)) ≡ l
 unfolding put
-put-back d l h = words-back l (drop (0 + length (wordsBytes l)) d) h
+put-back d l h = words-back l (drop (0 + length (flat (bytesOf 8) l)) d) h
 
 pub said-back : (d d₅ : List ℕ) (s : Said) → s .used < 2 ^ 64 → s .at < 2 ^ 64 → s .length < 2 ^ 64 → s .word < 2 ^ 32 → s .values .a < 2 ^ 32 → s .values .b < 2 ^ 32
-    → s .values .c < 2 ^ 32 → s .values .d < 2 ^ 32 → d₅ ≡ put d 0 (saidBytes s) → wordsIn 8 d₅ ≡ numbersIn s
+    → s .values .c < 2 ^ 32 → s .values .d < 2 ^ 32 → d₅ ≡ put d 0 (saidBytes s) → rows 8 numOf 8 d₅ ≡ numbersIn s
 unfolding saidBytes
 said-back d d₅ s u p n w a b c e is =
-    ap (wordsIn 8) is ∙ put-back d (numbersIn s) (u, (p, (n, (omega arith, (omega arith, (omega arith, (omega arith, (omega arith, tt))))))))
+    ap (rows 8 numOf 8) is ∙ put-back d (numbersIn s) (u, (p, (n, (omega arith, (omega arith, (omega arith, (omega arith, (omega arith, tt))))))))
 
-pub count-back : (d d₁ : List ℕ) (n : ℕ) → n < 2 ^ 64 → d₁ ≡ put d 0 (bytesOf 8 n) → wordsIn 1 d₁ ≡ n ∷ []
-unfolding wordsBytes
+pub count-back : (d d₁ : List ℕ) (n : ℕ) → n < 2 ^ 64 → d₁ ≡ put d 0 (bytesOf 8 n) → rows 8 numOf 1 d₁ ≡ n ∷ []
+unfolding flat
 count-back d d₁ n h is =
-    ap (wordsIn 1) (is ∙ ap (put d 0) (sym (append-nil (bytesOf 8 n)))) ∙ put-back d (n ∷ []) (h, tt)
+    ap (rows 8 numOf 1) (is ∙ ap (put d 0) (sym (append-nil (bytesOf 8 n)))) ∙ put-back d (n ∷ []) (h, tt)
 
 -- ---- reading
 
@@ -109,8 +110,8 @@ pub read-short : (x : ℕ) (received answer : List ℕ) → length answer < 64 �
 unfolding readsIn
 read-short x received answer h = rw (lt-ltb (length answer) 64 h) (record { number-is = refl; answer-is = refl; said-is = refl })
 
-pub read-done : (x : ℕ) (received answer answer' : List ℕ) (e : Exchange) (r : Read) (s : Said) (n : ℕ) → 64 ≤ length answer → e ≡ exchangeOf x → r ≡ readOf e received
-    → s ≡ saidOf r → (answer' ≡ put answer 0 (saidBytes s)) × (wordsIn 8 answer' ≡ numbersIn s) → n ≡ numberOf r → ReadDoes (readsIn x received answer) n answer'
+pub read-done : (x : ℕ) (received answer answer' : List ℕ) (e : Exchange) (r : Read) (s : Said) (n : ℕ) → 64 ≤ length answer → e ≡ exchangeOf x → r ≡ readMessage e received
+    → s ≡ saidOf r → (answer' ≡ put answer 0 (saidBytes s)) × (rows 8 numOf 8 answer' ≡ numbersIn s) → n ≡ readNumber r → ReadDoes (readsIn x received answer) n answer'
 unfolding readsIn
 read-done x received answer answer' e r s n h ee er es ea en =
     rw (le-ltb (length answer) 64 h, ← ee, ← er, ← es) (record { number-is = en; answer-is = ea .0; said-is = ea .1 })
@@ -118,7 +119,7 @@ read-done x received answer answer' e r s n h ee er es ea en =
 -- ---- writing
 
 pub known-write : (x : Exchange) (v : Values) (text d : List ℕ) (word : ℕ) (id : SyncId) (k : Layout) (f : Fields) (r : Written) (out : List ℕ) → Known id k ≡ foundOf x word
-    → f ≡ fieldsFrom k v → Writes (writeOf x (record { id = id; fields = f }) text d) r out → Writes (writeFound x v text d (foundOf x word)) r out
+    → f ≡ fieldsFrom k v → Writes (writeMessage x (record { id = id; fields = f }) text d) r out → Writes (writeFound x v text d (foundOf x word)) r out
 unfolding writeFound
 known-write x v text d word id k f r out e g w = rw (← e, ← g) w
 

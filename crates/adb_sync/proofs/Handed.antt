@@ -17,7 +17,7 @@ use Rattle.sync.specs.declared.Read.{Read}
 use Rattle.sync.specs.declared.Read.the-variants.{Waiting, InvalidId, DataTooLarge, Whole}
 use Rattle.sync_write.specs.declared.Written.the-variants.{Bytes as Written·Bytes}
 use Rattle.exchange.specs.Exchange.{wordOf, foundOf, exchangeOf}
-use Rattle.sync.specs.Message.{statOf, fieldsOf, readOf, numberOf}
+use Rattle.sync.specs.Message.{statOf, fieldsOf, readMessage, readNumber}
 use Rattle.sync_write.specs.Write.{numbersOf, writtenNumber}
 use Rattle.exchange.proofs.ExchangeLaws.{found-word}
 use Rattle.sync.proofs.ReadLaws.{says}
@@ -37,7 +37,7 @@ fields-again End s = refl
 made-again : (k : Layout) (s : List ℕ) (f : Fields) → f ≡ fieldsOf k s → fieldsFrom k (valuesOf f) ≡ f
 made-again k s f e = rw e (fields-again k s)
 
-message-back : (x : Exchange) (s : List ℕ) (m : Message) (at n used : ℕ) (out : List ℕ) → Bytes s → readOf x s ≡ Whole m at n used → used ≤ length out
+message-back : (x : Exchange) (s : List ℕ) (m : Message) (at n used : ℕ) (out : List ℕ) → Bytes s → readMessage x s ≡ Whole m at n used → used ≤ length out
     → writeFound x (valuesOf (m .fields)) (part s at n) out (foundOf x (wordOf (m .id))) ≡ record { result = Written·Bytes used; out = put out 0 (take used s) }
 unfolding writeFound
 message-back x s m at n used out h e room =
@@ -48,15 +48,15 @@ message-back x s m at n used out h e room =
     let f : fieldsFrom k (valuesOf (m .fields)) ≡ m .fields = made-again k s (m .fields) (y .known .fields-are) in
     rw (found, f) (read-write x s m at n used out h e room)
 
-handed : (x : ℕ) (s out answer : List ℕ) (r : Read) → Bytes s → readOf (exchangeOf x) s ≡ r → numberOf r ≡ 0 → saidOf r .used ≤ length out → 8 ≤ length answer
+handed : (x : ℕ) (s out answer : List ℕ) (r : Read) → Bytes s → readMessage (exchangeOf x) s ≡ r → readNumber r ≡ 0 → saidOf r .used ≤ length out → 8 ≤ length answer
     → writesSaid x (saidOf r) s out answer ≡ usedWritten (saidOf r) s out answer
-unfolding numberOf saidOf writesIn counted writtenNumber countOf
+unfolding readNumber saidOf writesIn counted writtenNumber countOf
 handed x s out answer Waiting h e z room fit = absurd (omega arith)
 handed x s out answer InvalidId h e z room fit = absurd (omega arith)
 handed x s out answer DataTooLarge h e z room fit = absurd (omega arith)
 handed x s out answer (Whole m at n used) h e z room fit =
     rw (le-ltb (length answer) 8 fit, message-back (exchangeOf x) s m at n used out h e room)
 
-pub handed-back : (x : ℕ) (s out answer : List ℕ) → Bytes s → numberOf (readOf (exchangeOf x) s) ≡ 0 → saidOf (readOf (exchangeOf x) s) .used ≤ length out → 8 ≤ length answer
-    → writesSaid x (saidOf (readOf (exchangeOf x) s)) s out answer ≡ usedWritten (saidOf (readOf (exchangeOf x) s)) s out answer
-handed-back x s out answer h z room fit = handed x s out answer (readOf (exchangeOf x) s) h refl z room fit
+pub handed-back : (x : ℕ) (s out answer : List ℕ) → Bytes s → readNumber (readMessage (exchangeOf x) s) ≡ 0 → saidOf (readMessage (exchangeOf x) s) .used ≤ length out → 8 ≤ length answer
+    → writesSaid x (saidOf (readMessage (exchangeOf x) s)) s out answer ≡ usedWritten (saidOf (readMessage (exchangeOf x) s)) s out answer
+handed-back x s out answer h z room fit = handed x s out answer (readMessage (exchangeOf x) s) h refl z room fit

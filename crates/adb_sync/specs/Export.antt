@@ -1,11 +1,12 @@
 -- What the exported functions of the sync messages leave (docs/ARCHITECTURE.md, "Sync messages"). Assumes nothing.
-use Prim.Native.Nat.{ℕ, zero, suc}
+use Prim.Native.Nat.{ℕ}
 use mathlib.Core.Path.{_≡_}
 use mathlib.Core.Bool.{cond}
-use mathlib.Core.List.{List, [], _∷_, _++_}
+use mathlib.Core.List.{List, [], _∷_}
 use lib.Dec.{ltb}
-use lib.ListN.{length, take, drop, getD}
+use lib.ListN.{length, getD}
 use Rattle.le.specs.Le.{numOf, bytesOf, put}
+use Rattle.le.specs.Rows.{flat, rows}
 use Rattle.exchange.specs.declared.Layout.{Layout}
 use Rattle.exchange.specs.declared.Layout.the-variants.{Text, Number, Stat, Entry, End}
 use Rattle.exchange.specs.declared.Found.{Found}
@@ -19,8 +20,8 @@ use Rattle.sync.specs.declared.Read.the-variants.{Waiting, InvalidId, DataTooLa
 use Rattle.sync_write.specs.declared.Written.{Written}
 use Rattle.sync_write.specs.declared.Written.the-variants.{Bytes, OutShort, InvalidId as NotWritten, DataTooLarge as TooLarge}
 use Rattle.exchange.specs.Exchange.{wordOf, foundOf, exchangeOf}
-use Rattle.sync.specs.Message.{readOf, numberOf}
-use Rattle.sync_write.specs.Write.{numbersOf, Outcome, writeOf, writtenNumber}
+use Rattle.sync.specs.Message.{readMessage, readNumber}
+use Rattle.sync_write.specs.Write.{numbersOf, Composed, writeMessage, writtenNumber}
 use Rattle.adb_sync.specs.declared.Values.{Values}
 use Rattle.adb_sync.specs.declared.Said.{Said}
 
@@ -41,16 +42,6 @@ saidOf InvalidId = nothingSaid
 saidOf DataTooLarge = nothingSaid
 saidOf (Whole m at n used) = record { used = used; at = at; length = n; word = wordOf (m .id); values = valuesOf (m .fields) }
 
--- numbers of 64 bits, one behind the other
-unfoldable pub wordsBytes : List ℕ → List ℕ
-wordsBytes [] = []
-wordsBytes (x ∷ l) = bytesOf 8 x ++ wordsBytes l
-
--- the n numbers that bytes begin with
-unfoldable pub wordsIn : ℕ → List ℕ → List ℕ
-wordsIn zero l = []
-wordsIn (suc n) l = numOf (take 8 l) ∷ wordsIn n (drop 8 l)
-
 -- four values in a row
 abbrev pub valuesIn : Values → List ℕ
 valuesIn v = v .a ∷ v .b ∷ v .c ∷ v .d ∷ []
@@ -61,7 +52,7 @@ numbersIn s = s .used ∷ s .at ∷ s .length ∷ s .word ∷ valuesIn (s .value
 
 -- its 64 bytes
 unfoldable pub saidBytes : Said → List ℕ
-saidBytes s = wordsBytes (numbersIn s)
+saidBytes s = flat (bytesOf 8) (numbersIn s)
 
 -- a read's number, the answer's bytes after it, and the eight numbers that they say
 pub record ReadOutcome : Type 0 where
@@ -72,18 +63,18 @@ pub record ReadOutcome : Type 0 where
 -- 8 for an answer under 64 bytes, which is not touched; else what the reader finds
 unfoldable pub readsIn : ℕ → List ℕ → List ℕ → ReadOutcome
 readsIn exchange received answer =
-    cond (ltb (length answer) 64) (record { number = 8; answer = answer; said = wordsIn 8 answer })
+    cond (ltb (length answer) 64) (record { number = 8; answer = answer; said = rows 8 numOf 8 answer })
     (record {
-      number = numberOf (readOf (exchangeOf exchange) received);
-      answer = put answer 0 (saidBytes (saidOf (readOf (exchangeOf exchange) received)));
-      said = numbersIn (saidOf (readOf (exchangeOf exchange) received));
+      number = readNumber (readMessage (exchangeOf exchange) received);
+      answer = put answer 0 (saidBytes (saidOf (readMessage (exchangeOf exchange) received)));
+      said = numbersIn (saidOf (readMessage (exchangeOf exchange) received));
     })
 
 -- what a read promises: the number, every byte of the answer, and that these say the definition's numbers (each is below 2^64)
 pub record ReadDoes (o : ReadOutcome) (r : ℕ) (answer : List ℕ) : Type 0 where
   pub number-is : r ≡ o .number
   pub answer-is : answer ≡ o .answer
-  pub said-is : wordsIn 8 answer ≡ o .said
+  pub said-is : rows 8 numOf 8 answer ≡ o .said
 
 -- ---- writing
 
@@ -100,8 +91,8 @@ fieldsFrom Entry v = EntryFields (statFrom v)
 fieldsFrom End v = EndFields (statFrom v) (v .d)
 
 -- a message under an id that was found, or 14
-unfoldable pub writeFound : Exchange → Values → List ℕ → List ℕ → Found → Outcome
-writeFound x v text out (Known id k) = writeOf x (record { id = id; fields = fieldsFrom k v }) text out
+unfoldable pub writeFound : Exchange → Values → List ℕ → List ℕ → Found → Composed
+writeFound x v text out (Known id k) = writeMessage x (record { id = id; fields = fieldsFrom k v }) text out
 writeFound x v text out Unknown = record { result = NotWritten; out = out }
 
 -- bytes written: those of a message with its text, none otherwise
@@ -119,7 +110,7 @@ pub record WriteOutcome : Type 0 where
   pub said : List ℕ
 
 -- what writing gave, with its count in the answer
-unfoldable pub counted : Outcome → List ℕ → WriteOutcome
+unfoldable pub counted : Composed → List ℕ → WriteOutcome
 counted o answer =
     record {
       number = writtenNumber (o .result);
@@ -131,7 +122,7 @@ counted o answer =
 -- 8 for an answer under 8 bytes, and nothing is touched; else what the writer does
 unfoldable pub writesIn : ℕ → ℕ → Values → List ℕ → List ℕ → List ℕ → WriteOutcome
 writesIn exchange word v text out answer =
-    cond (ltb (length answer) 8) (record { number = 8; out = out; answer = answer; said = wordsIn 1 answer })
+    cond (ltb (length answer) 8) (record { number = 8; out = out; answer = answer; said = rows 8 numOf 1 answer })
     (counted (writeFound (exchangeOf exchange) v text out (foundOf (exchangeOf exchange) word)) answer)
 
 -- what a write promises: the number, every byte of out and of the answer, and that this says the definition's count
@@ -139,4 +130,4 @@ pub record WriteDoes (o : WriteOutcome) (r : ℕ) (out answer : List ℕ) : Type
   pub number-is : r ≡ o .number
   pub out-is : out ≡ o .out
   pub answer-is : answer ≡ o .answer
-  pub said-is : wordsIn 1 answer ≡ o .said
+  pub said-is : rows 8 numOf 1 answer ≡ o .said

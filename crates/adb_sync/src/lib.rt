@@ -13,12 +13,13 @@ use sync_write::write;
 ghost use mathlib.Core.Path.{_≡_};
 ghost use Prim.Native.Nat.{_≤_};
 ghost use lib.ListN.{length};
-ghost use Rattle.le.specs.Le.{put};
+ghost use Rattle.le.specs.Le.{numOf, bytesOf, put};
+ghost use Rattle.le.specs.Rows.{flat, rows};
 ghost use Rattle.sync_write.specs.Write.{Writes};
 ghost use Rattle.exchange.specs.Exchange.{foundOf};
 ghost use Rattle.sync.specs.declared.Read.the-variants.{Whole};
-ghost use Rattle.adb_sync.specs.Export.{valuesOf, saidOf, wordsBytes, wordsIn, valuesIn, numbersIn, saidBytes, readsIn, ReadDoes};
-ghost use Rattle.adb_sync.specs.Export.{statFrom, fieldsFrom, writeFound, countOf, writesIn, WriteDoes};
+ghost use Rattle.adb_sync.specs.Export.{valuesOf, saidOf, valuesIn, numbersIn, saidBytes, readsIn, ReadDoes, statFrom, fieldsFrom};
+ghost use Rattle.adb_sync.specs.Export.{writeFound, countOf, writesIn, WriteDoes};
 
 // A message's numbers in the order of its bytes, 0 where it has none.
 pub struct Values {
@@ -119,7 +120,7 @@ fn said_of(read: Read) -> Said
 
 fn put_values(answer: &mut [u8], v: Values)
     requires { ⌜ 64 ≤ length (now answer) ⌝ }
-    ensures { λ _. ⌜ now (answer .exit) ≡ put (now (answer .entry)) 32 (wordsBytes (valuesIn v)) ⌝ }
+    ensures { λ _. ⌜ now (answer .exit) ≡ put (now (answer .entry)) 32 (flat (bytesOf 8) (valuesIn v)) ⌝ }
 {
     le::put_u64(answer, 32, v.a as u64);
     le::put_u64(answer, 40, v.b as u64);
@@ -130,7 +131,7 @@ fn put_values(answer: &mut [u8], v: Values)
 // The answer's 64 bytes.
 fn put_said(answer: &mut [u8], said: Said)
     requires { ⌜ 64 ≤ length (now answer) ⌝ }
-    ensures { λ _. ⌜ (now (answer .exit) ≡ put (now (answer .entry)) 0 (saidBytes said)) × (wordsIn 8 (now (answer .exit)) ≡ numbersIn said) ⌝ }
+    ensures { λ _. ⌜ (now (answer .exit) ≡ put (now (answer .entry)) 0 (saidBytes said)) × (rows 8 numOf 8 (now (answer .exit)) ≡ numbersIn said) ⌝ }
 {
     le::put_usize(answer, 0, said.used);
     le::put_usize(answer, 8, said.at);

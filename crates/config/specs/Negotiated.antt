@@ -25,5 +25,5 @@ unfoldable pub policyOf : Negotiated → RxPolicy
 policyOf n = record { delayed = n .«delayed_ack»; «rx_cap» = capOf (n .config); watermark = watermarkOf (n .config) }
 
 -- an OPEN not in delayed mode carries 0
-unfoldable pub creditOf : Negotiated → ℕ
-creditOf n = cond (n .«delayed_ack») (openingCredit (n .config)) 0
+unfoldable pub offeredCredit : Negotiated → ℕ
+offeredCredit n = cond (n .«delayed_ack») (openingCredit (n .config)) 0

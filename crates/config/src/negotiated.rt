@@ -1,13 +1,12 @@
 // What the two ends agreed on.
 use crate::ConnectionConfig;
-use protocol::checksum::Checksum;
+use checksum::Checksum;
 use protocol::constant::ADB_VERSION;
 use protocol::packet::Packet;
-use protocol::packet::least;
 ghost use mathlib.Core.Path.{_≡_};
-ghost use Rattle.protocol.specs.Checksum.{policyFor};
+ghost use Rattle.checksum.specs.Checksum.{policyFor};
 ghost use Rattle.config.specs.Config.{Within};
-ghost use Rattle.config.specs.Negotiated.{both, negotiatedOf, policyOf, creditOf};
+ghost use Rattle.config.specs.Negotiated.{both, negotiatedOf, policyOf, offeredCredit};
 
 // How received bytes are acknowledged and bounded, for every channel alike.
 pub struct RxPolicy {
@@ -46,8 +45,8 @@ impl Negotiated {
         ensures { λ r. ⌜ r ≡ negotiatedOf «host_delayed_ack» «device_delayed_ack» arg0 arg1 config ⌝ }
     {
         Negotiated {
-            max_payload: least(arg1, Packet::MAX_PAYLOAD),
-            protocol_version: least(arg0, ADB_VERSION),
+            max_payload: saturate::least_u32(arg1, Packet::MAX_PAYLOAD),
+            protocol_version: saturate::least_u32(arg0, ADB_VERSION),
             config,
             delayed_ack: all_of(host_delayed_ack, device_delayed_ack),
         }
@@ -74,7 +73,7 @@ impl Negotiated {
     // What an OPEN carries in arg1: the credit, or 0 where acknowledgements are not delayed.
     pub fn advertised_credit(self) -> u32
         requires { ⌜ Within (self .config) ⌝ }
-        ensures { λ r. ⌜ r ≡ creditOf self ⌝ }
+        ensures { λ r. ⌜ r ≡ offeredCredit self ⌝ }
     {
         if self.delayed_ack {
             let config = self.config;

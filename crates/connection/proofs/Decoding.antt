@@ -32,7 +32,7 @@ use Rattle.connection.specs.declared.Answer.{Answer}
 use Rattle.connection.specs.declared.Answer.the-variants.{Refused}
 use Rattle.connection.specs.declared.Received.{Received}
 use Rattle.connection.specs.declared.Received.the-variants.{Packet as PacketIs, Stop}
-use Rattle.connection.specs.Answer.{refusalNumber, numberOf}
+use Rattle.connection.specs.Answer.{refusalNumber, answerNumber}
 use Rattle.connection.specs.Calls.{Lent, bodyOf, faultRefusal, errorRefusal, unlessFault, receivedBy, receivedOf}
 use Rattle.connection.specs.Act.{PacketFits}
 
@@ -40,16 +40,16 @@ use Rattle.connection.specs.Act.{PacketFits}
 
 -- neither refusal 13 nor 8
 abbrev pub Admitted : Answer → Type 0
-Admitted a = (numberOf a ≡ 13 → ⊥) × (numberOf a ≡ 8 → ⊥)
+Admitted a = (answerNumber a ≡ 13 → ⊥) × (answerNumber a ≡ 8 → ⊥)
 
 pub fault-fine : (f : ChannelFault) → Admitted (Refused (faultRefusal f))
-unfolding faultRefusal numberOf refusalNumber
+unfolding faultRefusal answerNumber refusalNumber
 fault-fine RxOverflow = (λ e. omega arith, λ e. omega arith)
 fault-fine CreditShort = (λ e. omega arith, λ e. omega arith)
 fault-fine WriteEarly = (λ e. omega arith, λ e. omega arith)
 
 pub error-fine : (x : ChannelError) → Admitted (Refused (errorRefusal x))
-unfolding errorRefusal numberOf refusalNumber
+unfolding errorRefusal answerNumber refusalNumber
 error-fine ErrorClosed = (λ e. omega arith, λ e. omega arith)
 error-fine (Fault f) = fault-fine f
 
@@ -111,7 +111,7 @@ module _ (n : Negotiated) (received : List ℕ) where
     decoded-fits = pick DecodedFits (ltb (length received) 24) (λ t. tt) (λ t. named-fits (commandOf (messageOf received .command)))
 
     received-by : (d : Decoded) → DecodedFits d → ReceivedFits (receivedBy d)
-    unfolding receivedBy numberOf refusalNumber
+    unfolding receivedBy answerNumber refusalNumber
     received-by FrameWaiting g = (λ e. omega arith, λ e. omega arith)
     received-by (WordInvalid word) g = (λ e. omega arith, λ e. omega arith)
     received-by MagicInvalid g = (λ e. omega arith, λ e. omega arith)

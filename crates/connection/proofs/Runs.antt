@@ -8,31 +8,31 @@ use lib.ListN.{length, take, set, getD, replicate}
 use Rattle.config.specs.declared.negotiated.Negotiated.{Negotiated}
 use Rattle.state.specs.Change.{changedAll}
 use Rattle.table.specs.declared.ChannelId.{ChannelId}
-use Rattle.connection.specs.Calls.{Lent, Outcome}
+use Rattle.connection.specs.Calls.{Lent, Outcome, ends, checked, checkedOut, isThere, slotFor, ackFrames, faultRefusal, errorRefusal, unlessFault, receivedBy, receivedOf, fresh, dispatchBy, dispatchStep, settledAs, settleStep, takenBy, takeStep, reread, readSettled, readActed, isDirect, readDirect, readBy, readTaken, readFirst, readStep, sendLen, sendSome, sendBy, sendAgain, writeReadied, writeActed, writeAct, writeBy, writeFirst, writeOn, writeStep, closeStep, takeFrontBy, takeFrontStep, openOn, stillPending, openReadied, openActed, openBy, openStep, openOutcome, dispatchOutcome, settleOutcome, takeOutcome, readOutcome, writeOutcome, closeOutcome, takeFrontOutcome}
 use Rattle.le.specs.Le.{numOf, bytesOf, signed, part, put}
 use Rattle.saturate.specs.Saturate.{clamp, satSum, positivePart}
-use Rattle.rx_store.specs.RxStore.{slid, fitsBehind, appendedHead, appended, takenHead}
+use Rattle.rx_store.specs.RxStore.{slid, fitsBehind, appendedHead, appended, takenHead, shareOf, bufferedIn, frontOf}
 use Rattle.config.specs.Config.{withinLimits, capOf, ceilingOf, watermarkOf, openingCredit, rxStoreLen, openStoreLen, storesFit}
-use Rattle.config.specs.Negotiated.{both, negotiatedOf, policyOf, creditOf as creditOf-config}
-use Rattle.protocol.specs.Checksum.{total, sumOf, policyFor, checkFor}
+use Rattle.config.specs.Negotiated.{both, negotiatedOf, policyOf, offeredCredit as creditOf-config}
+use Rattle.checksum.specs.Checksum.{total, sumOf, policyFor, checkFor}
 use Rattle.protocol.specs.Command.{lettersOf, wordOf, magicOf, commands, amongOf, commandOf, isReady, isClose, isWrite, isThe}
-use Rattle.protocol.specs.Message.{messageOf, headerBytes as headerBytes-protocol}
-use Rattle.protocol.specs.Packet.{payloadOf, checkPasses, packetOf, knownOf, namedOf, decodeOf, messageFor, frameBytes as frameBytes-protocol}
+use Rattle.protocol.specs.Message.{messageOf, headerBytes}
+use Rattle.protocol.specs.Packet.{payloadOf, checkPasses, packetOf, knownOf, namedOf, decodeOf, messageFor, packetBytes as frameBytes-protocol}
 use Rattle.slot.specs.Ids.{namedBy, closedBy}
-use Rattle.slot.specs.Slot.{creditOf, openingSlot, emptySlot, isOpening, isClosed, isFailed, errorOf, openedBy, openedOf, readyBy, readyOf, heldOf, acksNow, bufferedWith, wroteOf, someLen, deliveredOf, ackLenOf, hasData, settledBy, settledSome, settledOf, takeLen, tookOf, takenOf, someBudget, budgetOf, spentOf, closedSlot, slotOk}
+use Rattle.credit.specs.Credit.{creditOf}
+use Rattle.slot.specs.Slot.{openingSlot, emptySlot, isOpening, isClosed, isFailed, errorOf, openedBy, openedOf, readyBy, readyOf, heldOf, acksNow, bufferedWith, wroteOf, someLen, deliveredOf, ackLenOf, hasData, settledBy, settledSome, settledOf, takeLen, tookOf, takenOf, someBudget, budgetOf, spentOf, closedSlot, slotOk}
 use Rattle.wire.specs.Wire.{creditBytes, okayBytes, closeBytes}
-use Rattle.state.specs.Rows.{flat}
-use Rattle.state.specs.Valid.{filledOk, slotFine, slotsFine, openFine, opensFine, waitingFine, headerFine, filledAt, whole}
-use Rattle.table.specs.Table.{first, wantedBy, placeOf, nextLocal, allocated}
-use Rattle.table.specs.Dispatch.{slotIn, remotePlace, closedAt, closeOf as closeOf-table, readiedOf, granted, readyAt, strayOf, grantOf, shareOf, bufferedIn, wroteBy, wroteAt, writeOf as writeOf-table, routeOf, dispatchOf as dispatchOf-table}
-use Rattle.incoming.specs.Incoming.{waitsAs, waits, named, freeFrom, freeShare, staysBy, kept, withdrawal, popped, nextShare, pushed}
+use Rattle.le.specs.Rows.{flat}
+use Rattle.state_whole.specs.Whole.{filledOk, slotFine, slotsFine, queuedFine, queueFine, pendingFine, headerFine, filledAt, whole}
+use Rattle.table.specs.Table.{first, wantedBy, placeOf, nextLocal, allocated, slotIn}
+use Rattle.table_dispatch.specs.Dispatch.{remotePlace, closedAt, closeOf, readiedOf, granted, readyAt, strayOf, grantOf, wroteBy, wroteAt, writeOf, routeOf, dispatchOf}
+use Rattle.incoming.specs.Incoming.{queuedAs, queuedOpens, named, freeFrom, freeShare, staysBy, kept, withdrawal, popped, nextShare, pushed}
 use Rattle.connection.specs.Frames.{frameBytes, framesBytes}
 use Rattle.connection.specs.Act.{pushedBy, actedBy, tableOf, actOn}
-use Rattle.connection.specs.Answer.{refusalNumber, numberOf, ackLength, refusalWord, valuesOf}
-use Rattle.connection.specs.Calls.{ends, checked, checkedOut, isThere, slotFor, ackFrames, faultRefusal, errorRefusal, unlessFault, receivedBy, receivedOf, fresh, dispatchBy, dispatchStep, settledAs, settleStep, frontOf, takenBy, takeStep, reread, readSettled, readActed, isDirect, readDirect, readBy, readTaken, readFirst, readStep, sendLen, sendSome, sendBy, sendAgain, writeReadied, writeActed, writeAct, writeBy, writeFirst, writeOn, writeStep, closeStep, frontBy, frontStep, openOn, stillWaits, openReadied, openActed, openBy, openStep, openOf, dispatchOf, settleOf, takeOf, readOf, writeOf, closeOf, frontCall}
+use Rattle.connection.specs.Answer.{refusalNumber, answerNumber, ackLength, refusalWord, answerValues}
 
 pub data Call : Type 0 where
-  opens : List ℕ → List ℕ → Call
+  queue : List ℕ → List ℕ → Call
   dispatches : List ℕ → Call
   settles : ℕ → ℕ → ℕ → Call
   takes : ℕ → ℕ → ℕ → Call
@@ -46,14 +46,14 @@ channel i n = record { slot = i; local = record { 0 = n } }
 
 -- with an outgoing buffer of 56 bytes
 abbrev called : Lent → Call → Outcome
-called l (opens destination received) = openOf (whole (l .state)) l 56 destination received
-called l (dispatches received) = dispatchOf (whole (l .state)) l 56 received
-called l (settles i n want) = settleOf (whole (l .state)) l 56 (channel i n) want
-called l (takes i n room) = takeOf (whole (l .state)) l (channel i n) room
-called l (reads i n room received) = readOf (whole (l .state)) l 56 (channel i n) room received
-called l (writes i n bytes received) = writeOf (whole (l .state)) l 56 (channel i n) bytes received
-called l (closes i n) = closeOf (whole (l .state)) l 56 (channel i n)
-called l takesFront = frontCall (whole (l .state)) l
+called l (queue destination received) = openOutcome (whole (l .state)) l 56 destination received
+called l (dispatches received) = dispatchOutcome (whole (l .state)) l 56 received
+called l (settles i n want) = settleOutcome (whole (l .state)) l 56 (channel i n) want
+called l (takes i n room) = takeOutcome (whole (l .state)) l (channel i n) room
+called l (reads i n room received) = readOutcome (whole (l .state)) l 56 (channel i n) room received
+called l (writes i n bytes received) = writeOutcome (whole (l .state)) l 56 (channel i n) bytes received
+called l (closes i n) = closeOutcome (whole (l .state)) l 56 (channel i n)
+called l takesFront = takeFrontOutcome (whole (l .state)) l
 
 -- a call, and what it is said to give: number, bytes used, the answer's first two values; bytes written; bytes handed over
 pub record Step : Type 0 where
@@ -70,8 +70,8 @@ quiet call number used = step call number used 0 0 [] []
 -- what it gives; a front's destination, read at its place in the open store, counts as handed over
 abbrev told : Negotiated → Outcome → List (List ℕ)
 told n o =
-    (numberOf (o .answer) ∷ o .used ∷ take 2 (valuesOf (o .answer))) ∷ framesBytes n (o .frames)
-    ∷ (o .handed ++ part (o .store) (getD (valuesOf (o .answer)) 2 0) (getD (valuesOf (o .answer)) 3 0)) ∷ []
+    (answerNumber (o .answer) ∷ o .used ∷ take 2 (answerValues (o .answer))) ∷ framesBytes n (o .frames)
+    ∷ (o .handed ++ part (o .store) (getD (answerValues (o .answer)) 2 0) (getD (answerValues (o .answer)) 3 0)) ∷ []
 
 -- each call on what the last one left
 abbrev given : Lent → List Step → List (List (List ℕ))
@@ -106,9 +106,9 @@ delayed = negotiatedOf true true 0x0100_0001 4 (record { channels = 2; «max_pay
 
 abbrev delayedSteps : List Step
 delayedSteps =
-    step (opens (97 ∷ []) []) 100 0 0 0 (OPEN 1 1 (97 ∷ [])) []
-    ∷ quiet (opens [] (OPEN 9 6 (98 ∷ 99 ∷ []))) 100 26
-    ∷ step (opens [] (OKAY 7 1 (5 ∷ 0 ∷ 0 ∷ 0 ∷ []))) 0 28 0 1 [] []
+    step (queue (97 ∷ []) []) 100 0 0 0 (OPEN 1 1 (97 ∷ [])) []
+    ∷ quiet (queue [] (OPEN 9 6 (98 ∷ 99 ∷ []))) 100 26
+    ∷ step (queue [] (OKAY 7 1 (5 ∷ 0 ∷ 0 ∷ 0 ∷ []))) 0 28 0 1 [] []
     ∷ quiet (dispatches (WRTE 7 1 (1 ∷ 2 ∷ 3 ∷ 4 ∷ 5 ∷ 6 ∷ []))) 0 30
     ∷ step (settles 0 1 4) 0 0 4 0 (OKAY 1 7 (4 ∷ 0 ∷ 0 ∷ 0 ∷ [])) []
     ∷ quiet (dispatches (WRTE 7 1 (1 ∷ 2 ∷ 3 ∷ 4 ∷ 5 ∷ 6 ∷ 7 ∷ []))) 11 31
@@ -121,10 +121,10 @@ delayedSteps =
     ∷ quiet (writes 0 1 (6 ∷ 7 ∷ 8 ∷ []) (OKAY 7 1 (255 ∷ 255 ∷ 255 ∷ []))) 5 27
     ∷ step (writes 0 1 (6 ∷ 7 ∷ 8 ∷ []) (OKAY 7 1 (5 ∷ 0 ∷ 0 ∷ 0 ∷ []))) 0 28 3 0 (WRTE 1 7 (6 ∷ 7 ∷ 8 ∷ [])) []
     ∷ step takesFront 0 0 9 6 [] (98 ∷ 99 ∷ [])
-    ∷ step (opens (98 ∷ []) []) 100 0 0 0 (OPEN 2 1 (98 ∷ [])) []
-    ∷ step (opens [] (WRTE 8 2 (1 ∷ []))) 6 25 0 0 (CLSE 2 8 []) []
-    ∷ step (opens (98 ∷ []) []) 100 0 0 0 (OPEN 3 1 (98 ∷ [])) []
-    ∷ step (opens [] (OKAY 8 3 (5 ∷ 0 ∷ 0 ∷ 0 ∷ []))) 0 28 1 3 [] []
+    ∷ step (queue (98 ∷ []) []) 100 0 0 0 (OPEN 2 1 (98 ∷ [])) []
+    ∷ step (queue [] (WRTE 8 2 (1 ∷ []))) 6 25 0 0 (CLSE 2 8 []) []
+    ∷ step (queue (98 ∷ []) []) 100 0 0 0 (OPEN 3 1 (98 ∷ [])) []
+    ∷ step (queue [] (OKAY 8 3 (5 ∷ 0 ∷ 0 ∷ 0 ∷ []))) 0 28 1 3 [] []
     ∷ quiet (dispatches (WRTE 8 3 (21 ∷ 22 ∷ []))) 0 26
     ∷ step (reads 1 3 9 []) 0 0 2 0 (OKAY 3 8 (2 ∷ 0 ∷ 0 ∷ 0 ∷ [])) (21 ∷ 22 ∷ [])
     ∷ []
@@ -135,11 +135,11 @@ classic = negotiatedOf false true 0x0100_0001 64 (record { channels = 1; «max_p
 
 abbrev classicSteps : List Step
 classicSteps =
-    step (opens (97 ∷ []) []) 100 0 0 0 (OPEN 1 0 (97 ∷ [])) []
+    step (queue (97 ∷ []) []) 100 0 0 0 (OPEN 1 0 (97 ∷ [])) []
     ∷ step (dispatches (OKAY 7 1 [])) 0 24 0 0 (CLSE 1 7 []) []
-    ∷ step (opens (97 ∷ []) []) 100 0 0 0 (OPEN 2 0 (97 ∷ [])) []
-    ∷ step (opens [] (OKAY 7 2 [])) 0 24 0 2 [] []
-    ∷ quiet (opens (97 ∷ []) []) 12 0
+    ∷ step (queue (97 ∷ []) []) 100 0 0 0 (OPEN 2 0 (97 ∷ [])) []
+    ∷ step (queue [] (OKAY 7 2 [])) 0 24 0 2 [] []
+    ∷ quiet (queue (97 ∷ []) []) 12 0
     ∷ quiet (dispatches (take 23 (OKAY 7 2 []))) 100 0
     ∷ step (dispatches (set (OKAY 7 2 []) 3 90)) 1 0 1514228559 0 [] []
     ∷ quiet (dispatches (set (OKAY 7 2 []) 23 167)) 2 0
@@ -162,5 +162,5 @@ classicSteps =
     ∷ []
 
 pub agrees : given (start delayed) delayedSteps ++ given (start classic) classicSteps ≡ map (λ (s : Step). s .said) (delayedSteps ++ classicSteps)
-unfolding numOf bytesOf signed part put clamp satSum positivePart slid fitsBehind appendedHead appended takenHead withinLimits capOf ceilingOf watermarkOf openingCredit rxStoreLen openStoreLen storesFit both negotiatedOf policyOf creditOf-config total sumOf policyFor checkFor lettersOf wordOf magicOf commands amongOf commandOf messageOf headerBytes-protocol payloadOf checkPasses packetOf knownOf namedOf decodeOf messageFor frameBytes-protocol isClose namedBy closedBy creditOf openingSlot emptySlot isOpening isClosed isFailed errorOf openedBy openedOf readyBy readyOf heldOf acksNow bufferedWith wroteOf someLen deliveredOf ackLenOf hasData settledBy settledSome settledOf takeLen tookOf takenOf someBudget budgetOf spentOf closedSlot slotOk creditBytes okayBytes closeBytes flat filledOk slotFine slotsFine openFine opensFine waitingFine headerFine filledAt whole first wantedBy placeOf nextLocal allocated slotIn remotePlace closedAt closeOf-table readiedOf granted readyAt strayOf grantOf shareOf bufferedIn wroteBy wroteAt writeOf-table routeOf dispatchOf-table waitsAs waits named freeFrom freeShare staysBy kept withdrawal popped nextShare pushed frameBytes framesBytes pushedBy actedBy tableOf actOn refusalNumber numberOf ackLength refusalWord valuesOf ends checked checkedOut isThere slotFor ackFrames faultRefusal errorRefusal unlessFault receivedBy receivedOf isWrite isReady fresh dispatchBy dispatchStep settledAs settleStep frontOf takenBy takeStep reread readSettled readActed isDirect readDirect readBy readTaken readFirst readStep sendLen sendSome sendBy sendAgain writeReadied writeActed writeAct writeBy writeFirst writeOn writeStep closeStep frontBy frontStep openOn stillWaits openReadied openActed openBy openStep openOf dispatchOf settleOf takeOf readOf writeOf closeOf frontCall isThe
+unfolding numOf bytesOf signed part put clamp satSum positivePart slid fitsBehind appendedHead appended takenHead withinLimits capOf ceilingOf watermarkOf openingCredit rxStoreLen openStoreLen storesFit both negotiatedOf policyOf creditOf-config total sumOf policyFor checkFor lettersOf wordOf magicOf commands amongOf commandOf messageOf headerBytes payloadOf checkPasses packetOf knownOf namedOf decodeOf messageFor frameBytes-protocol isClose namedBy closedBy creditOf openingSlot emptySlot isOpening isClosed isFailed errorOf openedBy openedOf readyBy readyOf heldOf acksNow bufferedWith wroteOf someLen deliveredOf ackLenOf hasData settledBy settledSome settledOf takeLen tookOf takenOf someBudget budgetOf spentOf closedSlot slotOk creditBytes okayBytes closeBytes flat filledOk slotFine slotsFine queuedFine queueFine pendingFine headerFine filledAt whole first wantedBy placeOf nextLocal allocated slotIn remotePlace closedAt closeOf readiedOf granted readyAt strayOf grantOf shareOf bufferedIn wroteBy wroteAt writeOf routeOf dispatchOf queuedAs queuedOpens named freeFrom freeShare staysBy kept withdrawal popped nextShare pushed frameBytes framesBytes pushedBy actedBy tableOf actOn refusalNumber answerNumber ackLength refusalWord answerValues ends checked checkedOut isThere slotFor ackFrames faultRefusal errorRefusal unlessFault receivedBy receivedOf isWrite isReady fresh dispatchBy dispatchStep settledAs settleStep frontOf takenBy takeStep reread readSettled readActed isDirect readDirect readBy readTaken readFirst readStep sendLen sendSome sendBy sendAgain writeReadied writeActed writeAct writeBy writeFirst writeOn writeStep closeStep takeFrontBy takeFrontStep openOn stillPending openReadied openActed openBy openStep openOutcome dispatchOutcome settleOutcome takeOutcome readOutcome writeOutcome closeOutcome takeFrontOutcome isThe
 agrees = refl

@@ -15,9 +15,9 @@ use Rattle.config.specs.declared.negotiated.RxPolicy.{RxPolicy}
 use Rattle.config.specs.Negotiated.{policyOf}
 use Rattle.incoming.specs.Incoming.{PushOutcome, pushed, withdrawal}
 use Rattle.protocol.specs.declared.command.Command.{Command}
-use Rattle.protocol.specs.declared.command.Command.the-variants.{Sync, Connect, Open, Ready, Close, Write, Auth, StartTls}
+use Rattle.protocol.specs.declared.command.Command.the-variants.{Open, Ready, Close, Write}
 use Rattle.protocol.specs.declared.packet.Packet.{Packet}
-use Rattle.protocol.specs.Checksum.{policyFor}
+use Rattle.checksum.specs.Checksum.{policyFor}
 use Rattle.protocol.specs.Packet.{maxPayload}
 use Rattle.slot.specs.declared.ids.ChannelIds.{ChannelIds}
 use Rattle.slot.specs.declared.ids.LocalId.{LocalId}
@@ -25,8 +25,8 @@ use Rattle.slot.specs.declared.ids.RemoteId.{RemoteId}
 use Rattle.slot.specs.declared.ChannelError.{ChannelError}
 use Rattle.slot.specs.declared.ChannelFault.the-variants.{RxOverflow, ShortReadyPayload, UnexpectedCommand}
 use Rattle.slot.specs.declared.ChannelSlot.{ChannelSlot}
-use Rattle.slot.specs.declared.Credit.{Credit}
-use Rattle.slot.specs.declared.Credit.the-variants.{Of, Short as CreditShort}
+use Rattle.credit.specs.declared.Credit.{Credit}
+use Rattle.credit.specs.declared.Credit.the-variants.{Of, Short as CreditShort}
 use Rattle.slot.specs.declared.PendingAck.{PendingAck}
 use Rattle.slot.specs.declared.PendingAck.the-variants.{Len, Nothing as NoAck}
 use Rattle.slot.specs.declared.Readied.{Readied}
@@ -35,19 +35,21 @@ use Rattle.slot.specs.declared.Settled.{Settled as SettledSlot}
 use Rattle.slot.specs.declared.Taken.{Taken}
 use Rattle.slot.specs.declared.Taken.the-variants.{Data, Nothing as NothingTaken, Closed as ClosedTaken}
 use Rattle.slot.specs.declared.Wrote.{Wrote}
-use Rattle.slot.specs.Slot.{withNumbers, acked, isAck, isOpening, isFailed, isClosed, openedBy, openedOf, readyBy, readyOf, creditOf as creditIn, heldOf, acksNow, bufferedWith, wroteOf, someLen, deliveredOf, ackLenOf, settledBy, settledSome, settledOf, hasData, takenOf, closedSlot, SlotOk}
+use Rattle.slot.specs.Slot.{withNumbers, acked, isAck, isOpening, isFailed, isClosed, openedBy, openedOf, readyBy, readyOf, heldOf, acksNow, bufferedWith, wroteOf, someLen, deliveredOf, ackLenOf, settledBy, settledSome, settledOf, hasData, takenOf, closedSlot, SlotOk}
+use Rattle.credit.specs.Credit.{creditOf as creditIn}
 use Rattle.slot.proofs.Kept.{pick, Readied-sound, opened-sound, ready-sound, buffered-sound, closed-sound}
 use Rattle.slot.proofs.Laws.{cond-true, take-room}
 use Rattle.state.specs.declared.Header.{Header}
-use Rattle.state.specs.declared.PendingOpen.{PendingOpen}
+use Rattle.state.specs.declared.QueuedOpen.{QueuedOpen}
 use Rattle.state.specs.Change.{Step, Change}
-use Rattle.state.specs.Rows.{flat}
-use Rattle.state.proofs.RowLaws.{Every, every-append}
-use Rattle.table.specs.declared.DispatchOutcome.{DispatchOutcome}
-use Rattle.table.specs.declared.DispatchOutcome.the-variants.{AckWrite, CreditGranted, SlotClosed, DataBuffered, IncomingOpen, CancelPendingOpen, StrayReady, ChannelFault, Unmatched}
+use Rattle.le.specs.Rows.{flat}
+use Rattle.le.proofs.RowLaws.{Every, every-append}
+use Rattle.table_dispatch.specs.declared.DispatchOutcome.{DispatchOutcome}
+use Rattle.table_dispatch.specs.declared.DispatchOutcome.the-variants.{AckWrite, CreditGranted, SlotClosed, DataBuffered, IncomingOpen, CancelQueuedOpen, StrayReady, ChannelFault, Unmatched}
 use Rattle.table.specs.declared.Want.the-variants.{Local}
-use Rattle.table.specs.Table.{placeOf}
-use Rattle.table.specs.Dispatch.{left, stored, slotIn, faulted, remotePlace, closedAt, closeOf, readiedOf, granted, readyAt, strayOf, grantOf, Dispatched, wroteBy, wroteAt, writeOf, routeOf, dispatchOf}
+use Rattle.table.specs.Table.{placeOf, slotIn}
+use Rattle.table_dispatch.specs.Dispatch.{left, stored, faulted, remotePlace, closedAt, closeOf, readiedOf, granted, readyAt, strayOf, grantOf, Dispatched, wroteBy, wroteAt, writeOf, routeOf, dispatchOf}
+use Rattle.table_dispatch.proofs.RouteLaws.{by-route}
 use Rattle.wire.specs.Wire.{creditBytes}
 use Rattle.wire.proofs.Laws.{okay-length, close-length, credit-length}
 use Rattle.connection.specs.Act.{Acted, pushedBy, actedBy, tableOf, actOn}
@@ -160,7 +162,7 @@ OutFits p (CreditGranted i) = Unit {0}
 OutFits p (SlotClosed i) = Unit {0}
 OutFits p (DataBuffered i) = Unit {0}
 OutFits p (IncomingOpen remote credit) = remote .0 < 2 ^ 32
-OutFits p (CancelPendingOpen remote) = Unit {0}
+OutFits p (CancelQueuedOpen remote) = Unit {0}
 OutFits p (StrayReady ids) = IdsFit ids
 OutFits p (ChannelFault i ids opening f) = Unit {0}
 OutFits p Unmatched = Unit {0}
@@ -172,7 +174,7 @@ mayWrite (CreditGranted i) = false
 mayWrite (SlotClosed i) = false
 mayWrite (DataBuffered i) = false
 mayWrite (IncomingOpen remote credit) = true
-mayWrite (CancelPendingOpen remote) = false
+mayWrite (CancelQueuedOpen remote) = false
 mayWrite (StrayReady ids) = true
 mayWrite (ChannelFault i ids opening f) = false
 mayWrite Unmatched = false
@@ -304,20 +306,15 @@ module _ (Q : Type 0) (p : RxPolicy) (n : ℕ) (ss : List ChannelSlot) (i : ℕ)
   goes-close : (remote : RemoteId) (local : LocalId) → Goes (closeOf n ss remote local)
   unfolding closeOf
   goes-close remote local =
-      pick Goes (eqb (local .0) 0) (λ t. goes-closed (remotePlace n ss remote) (CancelPendingOpen remote) tt)
+      pick Goes (eqb (local .0) 0) (λ t. goes-closed (remotePlace n ss remote) (CancelQueuedOpen remote) tt)
       (λ t. goes-closed (placeOf (Local local) n ss) Unmatched tt)
 
   -- any packet
   goes-route : (c : Command) (a b : ℕ) (payload rx : List ℕ) → a < 2 ^ 32 → b < 2 ^ 32 → Goes (routeOf p n ss c a b payload rx .step)
-  unfolding routeOf
-  goes-route Connect a b payload rx h g = goes-left Unmatched tt
-  goes-route Auth a b payload rx h g = goes-left Unmatched tt
-  goes-route StartTls a b payload rx h g = goes-left Unmatched tt
-  goes-route Open a b payload rx h g = goes-left (IncomingOpen (record { 0 = a }) b) h
-  goes-route Close a b payload rx h g = goes-close (record { 0 = a }) (record { 0 = b })
-  goes-route Write a b payload rx h g = goes-write (record { 0 = a }) (record { 0 = b }) payload rx
-  goes-route Ready a b payload rx h g = goes-ready (record { 0 = a }) (record { 0 = b }) payload h g
-  goes-route Sync a b payload rx h g = goes-left Unmatched tt
+  goes-route c a b payload rx h g =
+      by-route p n ss a b payload rx (λ c d. Goes (d .step)) (λ c e. goes-left Unmatched tt) (goes-left (IncomingOpen (record { 0 = a }) b) h)
+      (goes-close (record { 0 = a }) (record { 0 = b })) (goes-write (record { 0 = a }) (record { 0 = b }) payload rx)
+      (goes-ready (record { 0 = a }) (record { 0 = b }) payload h g) c
 
 -- ---- the same of `act_on`
 
@@ -341,7 +338,7 @@ own-more Q p s w ss i xs ys e o = subst (λ (x : List ChannelSlot). Own Q p s w 
 own-quiet : (Q : Type 0) (p : RxPolicy) (s t : ChannelSlot) (w : Bool) → Own Q p s w t → Own Q p s false t
 own-quiet Q p s t w o = record { ids = o .ids; sound = o .sound; rests = quiet refl }
 
-module _ (Q : Type 0) (h : Header) (ss : List ChannelSlot) (i : ℕ) (opens : List PendingOpen) (payload store : List ℕ) (d : Dispatched) where
+module _ (Q : Type 0) (h : Header) (ss : List ChannelSlot) (i : ℕ) (queue : List QueuedOpen) (payload store : List ℕ) (d : Dispatched) where
   abbrev pol : RxPolicy
   pol = policyOf (h .negotiated)
 
@@ -353,35 +350,35 @@ module _ (Q : Type 0) (h : Header) (ss : List ChannelSlot) (i : ℕ) (opens : Li
 
   -- an OPEN that is put behind the others, or refused
   acts-pushed : (remote : RemoteId) (credit : ℕ) → remote .0 < 2 ^ 32 → rested true
-      → Acts Q h ss i (pushedBy h store d remote (pushed h opens remote credit payload store) (pushed h opens remote credit payload store .result))
+      → Acts Q h ss i (pushedBy h store d remote (pushed h queue remote credit payload store) (pushed h queue remote credit payload store .result))
   unfolding pushed pushedBy
   acts-pushed remote credit g o =
       pick (λ (x : PushOutcome). Acts Q h ss i (pushedBy h store d remote x (x .result))) (leb (h .negotiated .config .channels) (h .queued))
       (λ t. record { agreed = refl; writes = few-close (h .negotiated) _ (record { local = omega arith; remote = g }); own = o })
       (λ t. record { agreed = refl; writes = few-none (h .negotiated) 1; own = own-more Q pol (slotIn ss i) false ss i (d .step .changes) _ refl (calm o) })
 
-  acts-by : (o : DispatchOutcome) → OutFits pol o → rested (mayWrite o) → Acts Q h ss i (actedBy h opens payload store d o)
+  acts-by : (o : DispatchOutcome) → OutFits pol o → rested (mayWrite o) → Acts Q h ss i (actedBy h queue payload store d o)
   unfolding actedBy withdrawal policyOf
   acts-by (AckWrite j ids len) f w = record { agreed = refl; writes = few-okay (h .negotiated) ids len (f .0) (f .1); own = w }
   acts-by (CreditGranted j) f w = record { agreed = refl; writes = few-none (h .negotiated) 1; own = w }
   acts-by (SlotClosed j) f w = record { agreed = refl; writes = few-none (h .negotiated) 1; own = w }
   acts-by (DataBuffered j) f w = record { agreed = refl; writes = few-none (h .negotiated) 1; own = w }
   acts-by (IncomingOpen remote credit) f w = acts-pushed remote credit f w
-  acts-by (CancelPendingOpen remote) f w =
+  acts-by (CancelQueuedOpen remote) f w =
       record { agreed = refl; writes = few-none (h .negotiated) 1; own = own-more Q pol (slotIn ss i) false ss i (d .step .changes) _ refl w }
   acts-by (StrayReady ids) f w = record { agreed = refl; writes = few-close (h .negotiated) ids f; own = w }
   acts-by (ChannelFault j ids opening g) f w = record { agreed = refl; writes = few-none (h .negotiated) 1; own = w }
   acts-by Unmatched f w = record { agreed = refl; writes = few-none (h .negotiated) 1; own = w }
 
-pub acts : (Q : Type 0) (h : Header) (ss : List ChannelSlot) (opens : List PendingOpen) (rx store : List ℕ) (k : Packet) (payload : List ℕ) (i : ℕ)
+pub acts : (Q : Type 0) (h : Header) (ss : List ChannelSlot) (queue : List QueuedOpen) (rx store : List ℕ) (k : Packet) (payload : List ℕ) (i : ℕ)
     → ((j : ℕ) → IdsFit (idsIn (slotIn ss j))) → i < length ss → (Q → SlotOk (slotIn ss i) (policyOf (h .negotiated) .«rx_cap»)) → k .arg0 < 2 ^ 32 → k .arg1 < 2 ^ 32
-    → Acts Q h ss i (actOn h ss opens rx store k payload)
+    → Acts Q h ss i (actOn h ss queue rx store k payload)
 unfolding actOn tableOf dispatchOf
-acts Q h ss opens rx store k payload i fit inside ok g0 g1 =
+acts Q h ss queue rx store k payload i fit inside ok g0 g1 =
     let p = policyOf (h .negotiated) in
     let n = h .negotiated .config .channels in
     let g = goes-route Q p n ss i fit inside ok (k .command) (k .arg0) (k .arg1) payload rx g0 g1 in
-    acts-by Q h ss i opens payload store (tableOf h ss rx k payload) (tableOf h ss rx k payload .step .result) (g .result) (g .own)
+    acts-by Q h ss i queue payload store (tableOf h ss rx k payload) (tableOf h ss rx k payload .step .result) (g .result) (g .own)
 
 -- ---- settling
 

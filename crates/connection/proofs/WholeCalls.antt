@@ -33,91 +33,89 @@ use Rattle.slot.proofs.Kept.{pick}
 use Rattle.state.specs.declared.Header.{Header}
 use Rattle.state.specs.Change.{Change, slotTo, changedAll}
 use Rattle.state.specs.State.{Connection, withSlot}
-use Rattle.state.proofs.RowLaws.{never}
+use Rattle.le.proofs.RowLaws.{never}
 use Rattle.table.specs.declared.Allocated.{Allocated}
 use Rattle.table.specs.declared.Allocated.the-variants.{Channel, NoFree}
 use Rattle.table.specs.declared.ChannelId.{ChannelId}
 use Rattle.table.specs.declared.Want.the-variants.{Empty}
-use Rattle.table.specs.Table.{wantedBy, placeOf, nextLocal, numbered, allocated}
-use Rattle.table.specs.Dispatch.{slotIn}
+use Rattle.table.specs.Table.{wantedBy, placeOf, nextLocal, numbered, allocated, slotIn}
 use Rattle.connection.specs.declared.Answer.{Answer}
 use Rattle.connection.specs.declared.Answer.the-variants.{Done, Waiting, Nothing, Opened, Settled, Read, Written, Front as FrontIs, Refused}
 use Rattle.connection.specs.declared.Received.{Received}
 use Rattle.connection.specs.declared.Received.the-variants.{Packet as PacketIs, Stop}
 use Rattle.connection.specs.declared.Refusal.the-variants.{PayloadTooLarge, ShortReadyPayload, UnexpectedCommand, OutShort, ChannelClosed, NoFreeChannels}
-use Rattle.connection.specs.Answer.{refusalNumber, numberOf}
-use Rattle.connection.specs.Act.{Acted, actOn}
-use Rattle.connection.specs.Calls.{Lent, Work, begun, then, thenActed, ends, dropped, waitingFor, policy, idsIn, isThere, slotFor, ackFrames, faultRefusal, errorRefusal, unlessFault, receivedOf, bodyOf, frameLen, dispatchBy, dispatchStep, settledAs, settleStep, takenBy, takeStep, reread, readSettled, readActed, isDirect, readDirect, readBy, readTaken, readFirst, readStep, sendLen, sendSome, sendBy, sendAgain, writeReadied, writeActed, writeAct, writeBy, writeFirst, writeOn, writeStep, closeStep, frontBy, frontStep, openOn, stillWaits, openReadied, openActed, openBy, openStep}
+use Rattle.connection.specs.Answer.{refusalNumber, answerNumber}
+use Rattle.connection.specs.Act.{Acted, actOn, PacketFits}
+use Rattle.connection.specs.Calls.{Lent, Work, begun, then, thenActed, ends, dropped, pendingFor, policy, idsIn, isThere, slotFor, ackFrames, faultRefusal, errorRefusal, unlessFault, receivedOf, bodyOf, frameLen, dispatchBy, dispatchStep, settledAs, settleStep, takenBy, takeStep, reread, readSettled, readActed, isDirect, readDirect, readBy, readTaken, readFirst, readStep, sendLen, sendSome, sendBy, sendAgain, writeReadied, writeActed, writeAct, writeBy, writeFirst, writeOn, writeStep, closeStep, takeFrontBy, takeFrontStep, openOn, stillPending, openReadied, openActed, openBy, openStep}
 use Rattle.connection.specs.Frames.{Frame, framesBytes}
-use Rattle.state.proofs.WholeLaws.{Live, Whole, live-whole, empty-whole}
-use Rattle.state.proofs.LiveLaws.{ReadiedLive, ready-live, opened-live, TakenLive, taken-live, settled-live, delivered-live, spent-live, closed-live}
-use Rattle.table.proofs.KeepLaws.{place-found}
+use Rattle.state_whole.proofs.WholeLaws.{Live, Whole, live-whole, empty-whole}
+use Rattle.state_whole.proofs.LiveLaws.{ReadiedLive, ready-live, opened-live, TakenLive, taken-live, settled-live, delivered-live, spent-live, closed-live}
+use Rattle.table_dispatch.proofs.KeepLaws.{place-found}
 use Rattle.incoming.proofs.QueueLaws.{QueueKeeps, FrontAs, pop-keeps}
 use Rattle.connection.proofs.WholeAct.{ActedKeeps, acted-keeps}
-use Rattle.connection.specs.Act.{PacketFits}
 use Rattle.connection.proofs.Decoding.{Admitted, fault-fine, error-fine, unless-fine, ReceivedFits, received-fits}
 use Rattle.connection.proofs.WholeWork.{negotiated, Kept, WorkWhole, At, drop-whole, begun-whole, frames-whole, slot-whole, act-whole, ends-kept, at-frames, at-slot, at-act, at-ends, untouched-kept, dropped-whole, there-live, there-at, Long, long}
 
 -- ---- answers that are neither refusal 13 nor 8
 
 done-fine : Admitted Done
-unfolding numberOf
+unfolding answerNumber
 done-fine = (λ e. omega arith, λ e. omega arith)
 
-waiting-fine : Admitted Waiting
-unfolding numberOf
-waiting-fine = (λ e. omega arith, λ e. omega arith)
+pending-fine : Admitted Waiting
+unfolding answerNumber
+pending-fine = (λ e. omega arith, λ e. omega arith)
 
 nothing-fine : Admitted Nothing
-unfolding numberOf
+unfolding answerNumber
 nothing-fine = (λ e. omega arith, λ e. omega arith)
 
 opened-fine : (ch : ChannelId) → Admitted (Opened ch)
-unfolding numberOf
+unfolding answerNumber
 opened-fine ch = (λ e. omega arith, λ e. omega arith)
 
 settled-fine : (a : PendingAck) → Admitted (Settled a)
-unfolding numberOf
+unfolding answerNumber
 settled-fine a = (λ e. omega arith, λ e. omega arith)
 
 read-fine : (k : ℕ) → Admitted (Read k)
-unfolding numberOf
+unfolding answerNumber
 read-fine k = (λ e. omega arith, λ e. omega arith)
 
 written-fine : (k : ℕ) → Admitted (Written k)
-unfolding numberOf
+unfolding answerNumber
 written-fine k = (λ e. omega arith, λ e. omega arith)
 
 front-fine : (r : RemoteId) (credit place len : ℕ) → Admitted (FrontIs r credit place len)
-unfolding numberOf
+unfolding answerNumber
 front-fine r credit place len = (λ e. omega arith, λ e. omega arith)
 
 closed-fine : Admitted (Refused ChannelClosed)
-unfolding numberOf refusalNumber
+unfolding answerNumber refusalNumber
 closed-fine = (λ e. omega arith, λ e. omega arith)
 
 short-fine : Admitted (Refused ShortReadyPayload)
-unfolding numberOf refusalNumber
+unfolding answerNumber refusalNumber
 short-fine = (λ e. omega arith, λ e. omega arith)
 
 early-fine : Admitted (Refused UnexpectedCommand)
-unfolding numberOf refusalNumber
+unfolding answerNumber refusalNumber
 early-fine = (λ e. omega arith, λ e. omega arith)
 
 large-fine : Admitted (Refused PayloadTooLarge)
-unfolding numberOf refusalNumber
+unfolding answerNumber refusalNumber
 large-fine = (λ e. omega arith, λ e. omega arith)
 
 out-fine : Admitted (Refused OutShort)
-unfolding numberOf refusalNumber
+unfolding answerNumber refusalNumber
 out-fine = (λ e. omega arith, λ e. omega arith)
 
 free-fine : Admitted (Refused NoFreeChannels)
-unfolding numberOf refusalNumber
+unfolding answerNumber refusalNumber
 free-fine = (λ e. omega arith, λ e. omega arith)
 
-module _ (l : Lent) (g : Whole (negotiated l) (l .state .header) (l .state .slots) (l .state .opens)) where
-  gd : Whole (negotiated l) (dropped (l .state .header)) (l .state .slots) (l .state .opens)
+module _ (l : Lent) (g : Whole (negotiated l) (l .state .header) (l .state .slots) (l .state .queue)) where
+  gd : Whole (negotiated l) (dropped (l .state .header)) (l .state .slots) (l .state .queue)
   gd = drop-whole (negotiated l) (l .state .header) (l .state) g
 
   -- no such channel
@@ -164,30 +162,30 @@ module _ (l : Lent) (g : Whole (negotiated l) (l .state .header) (l .state .slot
 
   -- ---- take_front
 
-  queue-work : (less : Header) (xs : List Change) → QueueKeeps (negotiated l) (l .state .slots) (l .state .opens) less xs → WorkWhole l (then (begun less l) xs [])
+  queue-work : (less : Header) (xs : List Change) → QueueKeeps (negotiated l) (l .state .slots) (l .state .queue) less xs → WorkWhole l (then (begun less l) xs [])
   queue-work less xs q =
       record {
         within = q .within;
-        facts = subst (λ x. Whole (negotiated l) less x (changedAll (l .state) xs .opens)) (sym (q .slots (l .state))) (q .facts (l .state) refl);
+        facts = subst (λ x. Whole (negotiated l) less x (changedAll (l .state) xs .queue)) (sym (q .slots (l .state))) (q .facts (l .state) refl);
         rx-length = refl;
         store-length = refl;
       }
 
-  front-by : (xs : List Change) (f : Front) → FrontAs (dropped (l .state .header)) (l .state .slots) (l .state .opens) gd xs f → Kept l (frontBy l (dropped (l .state .header)) xs f)
-  unfolding frontBy
+  front-by : (xs : List Change) (f : Front) → FrontAs (dropped (l .state .header)) (l .state .slots) (l .state .queue) gd xs f → Kept l (takeFrontBy l (dropped (l .state .header)) xs f)
+  unfolding takeFrontBy
   front-by xs (FrontOpen q less) k = ends-kept l _ (queue-work less xs k) _ 0 [] (front-fine _ _ _ _)
   front-by xs NoFront k = ends-kept l _ (dropped-whole l g) Nothing 0 [] nothing-fine
 
-  pub front-kept : Kept l (frontStep l)
-  unfolding frontStep
-  front-kept = front-by _ _ (pop-keeps (dropped (l .state .header)) (l .state .slots) (l .state .opens) gd)
+  pub front-kept : Kept l (takeFrontStep l)
+  unfolding takeFrontStep
+  front-kept = front-by _ _ (pop-keeps (dropped (l .state .header)) (l .state .slots) (l .state .queue) gd)
 
   -- ---- calls that look at a packet
 
   module _ (long : Long (negotiated l) (length (l .rx)) (length (l .store))) (received : List ℕ) where
-    -- what acting on it leaves, with the state as it was lent, the open that waits dropped
+    -- what acting on it leaves, with the state as it was lent, the pending open dropped
     acted : (p : Packet) → PacketFits (negotiated l) p (bodyOf received p) → ActedKeeps (negotiated l) (l .state) (length (l .rx)) (length (l .store))
-        (actOn (dropped (l .state .header)) (l .state .slots) (l .state .opens) (l .rx) (l .store) p (bodyOf received p))
+        (actOn (dropped (l .state .header)) (l .state .slots) (l .state .queue) (l .rx) (l .store) p (bodyOf received p))
     acted p k = acted-keeps (dropped (l .state .header)) (l .state) (l .rx) (l .store) gd (long .rx-long) (long .store-long) p (bodyOf received p) k
 
     -- ---- dispatch
@@ -209,7 +207,7 @@ module _ (l : Lent) (g : Whole (negotiated l) (l .state .header) (l .state .slot
       unfolding reread
       reread-kept used fault w s k v (Data t n) u = at-ends l (ch .slot) _ (at-slot l (ch .slot) w k t [] u) (Read n) used _ (read-fine n)
       reread-kept used fault w s k v NothingTaken u =
-          at-ends l (ch .slot) _ (at-slot l (ch .slot) w k s [] v) (unlessFault fault Waiting) used [] (unless-fine fault Waiting waiting-fine)
+          at-ends l (ch .slot) _ (at-slot l (ch .slot) w k s [] v) (unlessFault fault Waiting) used [] (unless-fine fault Waiting pending-fine)
       reread-kept used fault w s k v (ClosedTaken e) u =
           at-ends l (ch .slot) _ (at-slot l (ch .slot) w k s [] v) (unlessFault fault (Refused (errorRefusal e))) used [] (unless-fine fault (Refused (errorRefusal e)) (error-fine e))
 
@@ -231,7 +229,7 @@ module _ (l : Lent) (g : Whole (negotiated l) (l .state .header) (l .state .slot
         stored = at-slot l (ch .slot) _ start s [] v
 
         acted-stored : (p : Packet) → PacketFits (negotiated l) p (bodyOf received p) → ActedKeeps (negotiated l) (withSlot (l .state) (ch .slot) s) (length (l .rx)) (length (l .store))
-            (actOn (dropped (l .state .header)) (set (l .state .slots) (ch .slot) s) (l .state .opens) (l .rx) (l .store) p (bodyOf received p))
+            (actOn (dropped (l .state .header)) (set (l .state .slots) (ch .slot) s) (l .state .queue) (l .rx) (l .store) p (bodyOf received p))
         acted-stored p k =
             acted-keeps (dropped (l .state .header)) (withSlot (l .state) (ch .slot) s) (l .rx) (l .store) (stored .work .facts) (long .rx-long) (long .store-long) p (bodyOf received p) k
 
@@ -277,7 +275,7 @@ module _ (l : Lent) (g : Whole (negotiated l) (l .state .header) (l .state .slot
       send-by : (used : ℕ) (w : Work) (s : ChannelSlot) → At l (ch .slot) w → Live (negotiated l) (ch .slot) s → (b : Budget) → Kept l (sendBy l ch out bytes used w s b)
       unfolding sendBy
       send-by used w s k v (Most most) = send-some used w s (sendLen l bytes most) k v
-      send-by used w s k v NoBudget = at-ends l (ch .slot) _ (at-slot l (ch .slot) w k s [] v) Waiting used [] waiting-fine
+      send-by used w s k v NoBudget = at-ends l (ch .slot) _ (at-slot l (ch .slot) w k s [] v) Waiting used [] pending-fine
 
       send-again : (used : ℕ) (w : Work) (s : ChannelSlot) → At l (ch .slot) w → Live (negotiated l) (ch .slot) s → Kept l (sendAgain l ch out bytes used w s)
       unfolding sendAgain
@@ -325,10 +323,10 @@ module _ (l : Lent) (g : Whole (negotiated l) (l .state .header) (l .state .slot
           pick (Kept l) (eqb (length bytes) 0) (λ z. ends-kept l _ (dropped-whole l g) (Written 0) 0 [] (written-fine 0))
           (λ z. pick (Kept l) (isThere l ch) (λ t. write-on (there-at l g ch t) (slotFor l ch) (there-live l g ch t) y) (λ t. gone-kept))
 
-    -- ---- open, while one waits
+    -- ---- open, while one is pending
 
-    still-whole : (c : Connection) (h : Header) (a : Answer) → Whole (negotiated l) h (c .slots) (c .opens) → Whole (negotiated l) (stillWaits a h) (c .slots) (c .opens)
-    unfolding stillWaits
+    still-whole : (c : Connection) (h : Header) (a : Answer) → Whole (negotiated l) h (c .slots) (c .queue) → Whole (negotiated l) (stillPending a h) (c .slots) (c .queue)
+    unfolding stillPending
     still-whole c h Done k = drop-whole (negotiated l) h c k
     still-whole c h Waiting k = k
     still-whole c h Nothing k = drop-whole (negotiated l) h c k
@@ -350,7 +348,7 @@ module _ (l : Lent) (g : Whole (negotiated l) (l .state .header) (l .state .slot
           rx-length = m .rx-length;
           store-length = m .store-length;
         })
-        (unlessFault (a .fault) Waiting) used [] (unless-fine (a .fault) Waiting waiting-fine)
+        (unlessFault (a .fault) Waiting) used [] (unless-fine (a .fault) Waiting pending-fine)
 
     module _ (ch : ChannelId) (place : ch .slot < negotiated l .config .channels) (local : ch .local .0 < 2 ^ 32) where
       open-readied : (remote used : ℕ) (r : Readied) → ReadiedLive (negotiated l) (ch .slot) r → Kept l (openReadied l ch remote used r)
@@ -384,7 +382,7 @@ module _ (l : Lent) (g : Whole (negotiated l) (l .state .header) (l .state .slot
     unfolding nextLocal
     next-fits n = (omega arith, omega arith)
 
-    numbered-whole : Whole (negotiated l) (numbered (l .state .header)) (l .state .slots) (l .state .opens)
+    numbered-whole : Whole (negotiated l) (numbered (l .state .header)) (l .state .slots) (l .state .queue)
     numbered-whole =
         let k = next-fits (l .state .header .«next_local») in
         record {
@@ -399,8 +397,8 @@ module _ (l : Lent) (g : Whole (negotiated l) (l .state .header) (l .state .slot
                 queue-fits = g .header .queue-fits;
               };
           slots = g .slots;
-          waits = g .waits;
-          opens = g .opens;
+          pending-open = g .pending-open;
+          queue = g .queue;
         }
 
     -- a place that was allocated is below channels and empty, and its number is of 32 bits
@@ -433,7 +431,7 @@ module _ (l : Lent) (g : Whole (negotiated l) (l .state .header) (l .state .slot
         record { place = h; empty = not-filled _ (place-found Empty n (l .state .slots) (omega arith) h); local = g .header .next-fits })
         (λ t. tt)
 
-    waits-whole : (ch : ChannelId) → Free ch → Whole (negotiated l) (waitingFor (numbered (l .state .header)) ch) (l .state .slots) (l .state .opens)
+    waits-whole : (ch : ChannelId) → Free ch → Whole (negotiated l) (pendingFor (numbered (l .state .header)) ch) (l .state .slots) (l .state .queue)
     unfolding slotIn
     waits-whole ch f =
         let k = next-fits (l .state .header .«next_local») in
@@ -451,8 +449,8 @@ module _ (l : Lent) (g : Whole (negotiated l) (l .state .header) (l .state .slot
                 queue-fits = g .header .queue-fits;
               };
           slots = g .slots;
-          waits = λ e. record { place = p; empty = f .empty };
-          opens = g .opens;
+          pending-open = λ e. record { place = p; empty = f .empty };
+          queue = g .queue;
         }
 
     open-on : (out : ℕ) (destination : List ℕ) (r : Allocated) → AllocatedFree r → Kept l (openOn l out destination r)
@@ -461,12 +459,12 @@ module _ (l : Lent) (g : Whole (negotiated l) (l .state .header) (l .state .slot
     open-on out destination (Channel ch) k =
         pick (Kept l) (ltb maxPayload (length destination)) (λ t. ends-kept l _ (begun-whole l _ numbered-whole) (Refused PayloadTooLarge) 0 [] large-fine)
         (λ t. pick (Kept l) (ltb out (24 + length destination)) (λ u. untouched-kept l g OutShort out-fine)
-        (λ u. ends-kept l _ (frames-whole l _ (begun-whole l _ (waits-whole ch k)) _) Waiting 0 [] waiting-fine))
+        (λ u. ends-kept l _ (frames-whole l _ (begun-whole l _ (waits-whole ch k)) _) Waiting 0 [] pending-fine))
 
     pub open-kept : (out : ℕ) (destination : List ℕ) → Bytes received → Kept l (openStep l out destination received)
     unfolding openStep
     open-kept out destination y =
-        pick (Kept l) (l .state .header .waiting .on)
-        (λ t. open-by (record { slot = l .state .header .waiting .slot; local = l .state .header .waiting .local }) (g .waits t .place) (g .header .local-fits)
+        pick (Kept l) (l .state .header .pending .on)
+        (λ t. open-by (record { slot = l .state .header .pending .slot; local = l .state .header .pending .local }) (g .pending-open t .place) (g .header .local-fits)
         (receivedOf l received) (received-fits l received y))
         (λ t. open-on out destination (allocated (l .state .header) (l .state .slots)) allocated-free)

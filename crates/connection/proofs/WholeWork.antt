@@ -16,24 +16,24 @@ use Rattle.slot.specs.declared.ChannelSlot.{ChannelSlot}
 use Rattle.slot.specs.Slot.{emptySlot}
 use Rattle.slot.proofs.Kept.{pick}
 use Rattle.state.specs.declared.Header.{Header}
-use Rattle.state.specs.Change.{slotTo, headerTo, changedAll, Within}
+use Rattle.state.specs.Change.{slotTo, headerTo, changedAll, InPlace}
 use Rattle.state.specs.State.{Connection}
-use Rattle.state.proofs.RowLaws.{Every, every-append, never}
+use Rattle.le.proofs.RowLaws.{Every, every-append, never}
 use Rattle.state.proofs.ChangeLaws.{changes-append}
 use Rattle.table.specs.declared.ChannelId.{ChannelId}
-use Rattle.table.specs.Dispatch.{slotIn}
+use Rattle.table.specs.Table.{slotIn}
 use Rattle.connection.specs.declared.Answer.{Answer}
 use Rattle.connection.specs.declared.Answer.the-variants.{Refused}
 use Rattle.connection.specs.declared.Refusal.{Refusal}
 use Rattle.connection.specs.declared.Refusal.the-variants.{StoreShort, OutShort}
-use Rattle.connection.specs.Answer.{refusalNumber, numberOf}
+use Rattle.connection.specs.Answer.{refusalNumber, answerNumber}
 use Rattle.connection.specs.Act.{Acted}
 use Rattle.connection.specs.Calls.{Lent, Outcome, untouched, Work, begun, then, thenActed, ends, checked, checkedOut, dropped, isThere, slotFor}
 use Rattle.connection.specs.Frames.{Frame}
-use Rattle.state.proofs.WholeLaws.{Live, SlotWhole, Whole, whole-live, whole-put}
+use Rattle.state_whole.proofs.WholeLaws.{Live, SlotWhole, Whole, whole-live, whole-put}
 use Rattle.connection.proofs.WholeAct.{ActedKeeps}
 use Rattle.connection.proofs.Decoding.{Admitted}
-use Rattle.table.proofs.KeepLaws.{local-filled}
+use Rattle.table_dispatch.proofs.KeepLaws.{local-filled}
 
 abbrev pub negotiated : Lent → Negotiated
 negotiated l = l .state .header .negotiated
@@ -41,17 +41,17 @@ negotiated l = l .state .header .negotiated
 -- a call's outcome: its changes lie within the state and leave it whole with its negotiated values, both stores keep their
 -- lengths, the answer is not refusal 13, and is 8 only where a store is under its length and nothing was done
 pub record Kept (l : Lent) (o : Outcome) : Type 0 where
-  pub within : Every Within (o .changes)
-  pub facts : Whole (negotiated l) (changedAll (l .state) (o .changes) .header) (changedAll (l .state) (o .changes) .slots) (changedAll (l .state) (o .changes) .opens)
+  pub within : Every InPlace (o .changes)
+  pub facts : Whole (negotiated l) (changedAll (l .state) (o .changes) .header) (changedAll (l .state) (o .changes) .slots) (changedAll (l .state) (o .changes) .queue)
   pub rx-length : length (o .rx) ≡ length (l .rx)
   pub store-length : length (o .store) ≡ length (l .store)
-  pub answer : numberOf (o .answer) ≡ 13 → ⊥
-  pub eight : numberOf (o .answer) ≡ 8 → o ≡ untouched l StoreShort
+  pub answer : answerNumber (o .answer) ≡ 13 → ⊥
+  pub eight : answerNumber (o .answer) ≡ 8 → o ≡ untouched l StoreShort
 
 -- the same of what a call has done so far, once its header is stored
 pub record WorkWhole (l : Lent) (w : Work) : Type 0 where
-  pub within : Every Within (w .changes)
-  pub facts : Whole (negotiated l) (w .header) (changedAll (l .state) (w .changes) .slots) (changedAll (l .state) (w .changes) .opens)
+  pub within : Every InPlace (w .changes)
+  pub facts : Whole (negotiated l) (w .header) (changedAll (l .state) (w .changes) .slots) (changedAll (l .state) (w .changes) .queue)
   pub rx-length : length (w .rx) ≡ length (l .rx)
   pub store-length : length (w .store) ≡ length (l .store)
 
@@ -60,7 +60,7 @@ pub record At (l : Lent) (i : ℕ) (w : Work) : Type 0 where
   pub work : WorkWhole l w
   pub live : Live (negotiated l) i (slotIn (changedAll (l .state) (w .changes) .slots) i)
 
-pub drop-whole : (n : Negotiated) (h : Header) (c : Connection) → Whole n h (c .slots) (c .opens) → Whole n (dropped h) (c .slots) (c .opens)
+pub drop-whole : (n : Negotiated) (h : Header) (c : Connection) → Whole n h (c .slots) (c .queue) → Whole n (dropped h) (c .slots) (c .queue)
 drop-whole n h c g =
     record {
       limits = g .limits;
@@ -74,11 +74,11 @@ drop-whole n h c g =
             queue-fits = g .header .queue-fits;
           };
       slots = g .slots;
-      waits = λ e. never e;
-      opens = g .opens;
+      pending-open = λ e. never e;
+      queue = g .queue;
     }
 
-pub begun-whole : (l : Lent) (h : Header) → Whole (negotiated l) h (l .state .slots) (l .state .opens) → WorkWhole l (begun h l)
+pub begun-whole : (l : Lent) (h : Header) → Whole (negotiated l) h (l .state .slots) (l .state .queue) → WorkWhole l (begun h l)
 begun-whole l h g = record { within = tt; facts = g; rx-length = refl; store-length = refl }
 
 -- ---- steps
@@ -90,20 +90,20 @@ module _ (l : Lent) (w : Work) (k : WorkWhole l w) where
   pub frames-whole : (fs : List Frame) → WorkWhole l (then w [] fs)
   frames-whole fs =
       record {
-        within = every-append Within (w .changes) [] (k .within) tt;
-        facts = subst (λ (x : Connection). Whole (negotiated l) (w .header) (x .slots) (x .opens)) (sym (changes-append (l .state) (w .changes) [])) (k .facts);
+        within = every-append InPlace (w .changes) [] (k .within) tt;
+        facts = subst (λ (x : Connection). Whole (negotiated l) (w .header) (x .slots) (x .queue)) (sym (changes-append (l .state) (w .changes) [])) (k .facts);
         rx-length = k .rx-length;
         store-length = k .store-length;
       }
 
   -- a slot is stored
-  pub slot-whole : (i : ℕ) (t : ChannelSlot) (fs : List Frame) → i < 64 → (w .header .waiting .on ≡ true → w .header .waiting .slot ≡ i → ⊥) → SlotWhole (negotiated l) i t
+  pub slot-whole : (i : ℕ) (t : ChannelSlot) (fs : List Frame) → i < 64 → (w .header .pending .on ≡ true → w .header .pending .slot ≡ i → ⊥) → SlotWhole (negotiated l) i t
       → WorkWhole l (then w (slotTo i t ∷ []) fs)
   slot-whole i t fs h f s =
       record {
-        within = every-append Within (w .changes) (slotTo i t ∷ []) (k .within) (h, tt);
-        facts = subst (λ (x : Connection). Whole (negotiated l) (w .header) (x .slots) (x .opens)) (sym (changes-append (l .state) (w .changes) (slotTo i t ∷ [])))
-            (whole-put (negotiated l) (w .header) (before .slots) (before .opens) (k .facts) i t f h s);
+        within = every-append InPlace (w .changes) (slotTo i t ∷ []) (k .within) (h, tt);
+        facts = subst (λ (x : Connection). Whole (negotiated l) (w .header) (x .slots) (x .queue)) (sym (changes-append (l .state) (w .changes) (slotTo i t ∷ [])))
+            (whole-put (negotiated l) (w .header) (before .slots) (before .queue) (k .facts) i t f h s);
         rx-length = k .rx-length;
         store-length = k .store-length;
       }
@@ -112,8 +112,8 @@ module _ (l : Lent) (w : Work) (k : WorkWhole l w) where
   pub act-whole : (a : Acted) → ActedKeeps (negotiated l) (changedAll (l .state) (w .changes)) (length (l .rx)) (length (l .store)) a → WorkWhole l (thenActed w a)
   act-whole a g =
       record {
-        within = every-append Within (w .changes) (a .changes) (k .within) (g .within);
-        facts = subst (λ (x : Connection). Whole (negotiated l) (a .header) (x .slots) (x .opens)) (sym (changes-append (l .state) (w .changes) (a .changes))) (g .facts);
+        within = every-append InPlace (w .changes) (a .changes) (k .within) (g .within);
+        facts = subst (λ (x : Connection). Whole (negotiated l) (a .header) (x .slots) (x .queue)) (sym (changes-append (l .state) (w .changes) (a .changes))) (g .facts);
         rx-length = g .rx-length;
         store-length = g .store-length;
       }
@@ -123,8 +123,8 @@ module _ (l : Lent) (w : Work) (k : WorkWhole l w) where
   unfolding ends
   ends-kept a used handed f =
       record {
-        within = every-append Within (w .changes) (headerTo (w .header) ∷ []) (k .within) (tt, tt);
-        facts = subst (λ (x : Connection). Whole (negotiated l) (x .header) (x .slots) (x .opens)) (sym (changes-append (l .state) (w .changes) (headerTo (w .header) ∷ []))) (k .facts);
+        within = every-append InPlace (w .changes) (headerTo (w .header) ∷ []) (k .within) (tt, tt);
+        facts = subst (λ (x : Connection). Whole (negotiated l) (x .header) (x .slots) (x .queue)) (sym (changes-append (l .state) (w .changes) (headerTo (w .header) ∷ []))) (k .facts);
         rx-length = k .rx-length;
         store-length = k .store-length;
         answer = f .0;
@@ -153,9 +153,9 @@ module _ (l : Lent) (i : ℕ) (w : Work) (k : At l i w) where
       record {
         work =
             record {
-              within = every-append Within (w .changes) (slotTo i t ∷ []) (k .work .within) (omega arith, tt);
-              facts = subst (λ (x : Connection). Whole (negotiated l) (w .header) (x .slots) (x .opens)) (sym z)
-                  (whole-live (negotiated l) (w .header) (here .slots) (here .opens) g i t (k .live) v);
+              within = every-append InPlace (w .changes) (slotTo i t ∷ []) (k .work .within) (omega arith, tt);
+              facts = subst (λ (x : Connection). Whole (negotiated l) (w .header) (x .slots) (x .queue)) (sym z)
+                  (whole-live (negotiated l) (w .header) (here .slots) (here .queue) g i t (k .live) v);
               rx-length = k .work .rx-length;
               store-length = k .work .store-length;
             };
@@ -177,13 +177,13 @@ module _ (l : Lent) (i : ℕ) (w : Work) (k : At l i w) where
 
 -- ---- a call's start
 
-module _ (l : Lent) (g : Whole (negotiated l) (l .state .header) (l .state .slots) (l .state .opens)) where
+module _ (l : Lent) (g : Whole (negotiated l) (l .state .header) (l .state .slots) (l .state .queue)) where
   -- a refusal that changes nothing
   pub untouched-kept : (r : Refusal) → Admitted (Refused r) → Kept l (untouched l r)
   untouched-kept r f = record { within = tt; facts = g; rx-length = refl; store-length = refl; answer = f .0; eight = λ e. absurd (f .1 e) }
 
   short-kept : Kept l (untouched l StoreShort)
-  unfolding numberOf refusalNumber
+  unfolding answerNumber refusalNumber
   short-kept = record { within = tt; facts = g; rx-length = refl; store-length = refl; answer = λ e. omega arith; eight = λ e. refl }
 
   pub dropped-whole : WorkWhole l (begun (dropped (l .state .header)) l)
@@ -202,12 +202,12 @@ module _ (l : Lent) (g : Whole (negotiated l) (l .state .header) (l .state .slot
 
   -- the refusals ahead of every step
   pub checked-kept : (o : Outcome) → (storesFit (negotiated l .config) (length (l .rx)) (length (l .store)) ≡ true → Kept l o) → Kept l (checked true l o)
-  unfolding checked numberOf refusalNumber
+  unfolding checked answerNumber refusalNumber
   checked-kept o f =
       pick (Kept l) (storesFit (negotiated l .config) (length (l .rx)) (length (l .store))) f (λ t. short-kept)
 
   pub checked-out-kept : (out : ℕ) (o : Outcome) → (storesFit (negotiated l .config) (length (l .rx)) (length (l .store)) ≡ true → Kept l o) → Kept l (checkedOut true l out o)
-  unfolding checkedOut numberOf refusalNumber
+  unfolding checkedOut answerNumber refusalNumber
   checked-out-kept out o f =
       checked-kept _ (λ t. pick (Kept l) (ltb out 56) (λ u. untouched-kept OutShort (λ e. omega arith, λ e. omega arith)) (λ u. f t))
 

@@ -25,16 +25,16 @@ refusalNumber NoFreeChannels = 12
 refusalNumber BrokenState = 13
 
 -- 0 for a call that is done, a refusal's own, 100 for waiting, 101 for nothing there
-unfoldable pub numberOf : Answer → ℕ
-numberOf Done = 0
-numberOf Waiting = 100
-numberOf Nothing = 101
-numberOf (Opened ch) = 0
-numberOf (Settled ack) = 0
-numberOf (Read n) = 0
-numberOf (Written n) = 0
-numberOf (Front remote credit place len) = 0
-numberOf (Refused refusal) = refusalNumber refusal
+unfoldable pub answerNumber : Answer → ℕ
+answerNumber Done = 0
+answerNumber Waiting = 100
+answerNumber Nothing = 101
+answerNumber (Opened ch) = 0
+answerNumber (Settled ack) = 0
+answerNumber (Read n) = 0
+answerNumber (Written n) = 0
+answerNumber (Front remote credit place len) = 0
+answerNumber (Refused refusal) = refusalNumber refusal
 
 -- the length acknowledged, 0 for none
 unfoldable pub ackLength : PendingAck → ℕ
@@ -58,13 +58,13 @@ refusalWord NoFreeChannels = 0
 refusalWord BrokenState = 0
 
 -- an answer's four values, 0 where unused
-unfoldable pub valuesOf : Answer → List ℕ
-valuesOf Done = 0 ∷ 0 ∷ 0 ∷ 0 ∷ []
-valuesOf Waiting = 0 ∷ 0 ∷ 0 ∷ 0 ∷ []
-valuesOf Nothing = 0 ∷ 0 ∷ 0 ∷ 0 ∷ []
-valuesOf (Opened ch) = ch .slot ∷ ch .local .0 ∷ 0 ∷ 0 ∷ []
-valuesOf (Settled ack) = ackLength ack ∷ 0 ∷ 0 ∷ 0 ∷ []
-valuesOf (Read n) = n ∷ 0 ∷ 0 ∷ 0 ∷ []
-valuesOf (Written n) = n ∷ 0 ∷ 0 ∷ 0 ∷ []
-valuesOf (Front remote credit place len) = remote .0 ∷ credit ∷ place ∷ len ∷ []
-valuesOf (Refused refusal) = refusalWord refusal ∷ 0 ∷ 0 ∷ 0 ∷ []
+unfoldable pub answerValues : Answer → List ℕ
+answerValues Done = 0 ∷ 0 ∷ 0 ∷ 0 ∷ []
+answerValues Waiting = 0 ∷ 0 ∷ 0 ∷ 0 ∷ []
+answerValues Nothing = 0 ∷ 0 ∷ 0 ∷ 0 ∷ []
+answerValues (Opened ch) = ch .slot ∷ ch .local .0 ∷ 0 ∷ 0 ∷ []
+answerValues (Settled ack) = ackLength ack ∷ 0 ∷ 0 ∷ 0 ∷ []
+answerValues (Read n) = n ∷ 0 ∷ 0 ∷ 0 ∷ []
+answerValues (Written n) = n ∷ 0 ∷ 0 ∷ 0 ∷ []
+answerValues (Front remote credit place len) = remote .0 ∷ credit ∷ place ∷ len ∷ []
+answerValues (Refused refusal) = refusalWord refusal ∷ 0 ∷ 0 ∷ 0 ∷ []

@@ -1,19 +1,19 @@
 -- The calls (docs/SCOPE.md, 5 and 6; connection.rs), each as a function of what
 -- its caller lends and hands in. Assumes nothing.
 use Prim.Native.Nat.{ℕ, _+_, _*_, min, max}
-use mathlib.Core.Bool.{Bool, true, false, not, cond, _&&_}
+use mathlib.Core.Bool.{Bool, true, false, cond, _&&_}
 use mathlib.Core.List.{List, [], _∷_, _++_}
 use lib.Dec.{eqb, ltb, leb}
 use lib.ListN.{length, take, set, replicate}
-use Rattle.le.specs.Le.{part, put}
+use Rattle.le.specs.Le.{put}
 use Rattle.config.specs.declared.ConnectionConfig.{ConnectionConfig}
 use Rattle.config.specs.declared.negotiated.Negotiated.{Negotiated}
 use Rattle.config.specs.declared.negotiated.RxPolicy.{RxPolicy}
 use Rattle.config.specs.Config.{withinLimits, storesFit}
-use Rattle.config.specs.Negotiated.{negotiatedOf, policyOf, creditOf}
+use Rattle.config.specs.Negotiated.{negotiatedOf, policyOf, offeredCredit}
 use Rattle.incoming.specs.declared.Front.{Front}
 use Rattle.incoming.specs.declared.Front.the-variants.{Open as FrontOpen, Nothing as NoFront}
-use Rattle.incoming.specs.Incoming.{noOpen, popped}
+use Rattle.incoming.specs.Incoming.{noneQueued, popped}
 use Rattle.protocol.specs.declared.packet.Packet.{Packet}
 use Rattle.protocol.specs.declared.packet.Decoded.{Decoded}
 use Rattle.protocol.specs.declared.packet.Decoded.the-variants.{Waiting as FrameWaiting, InvalidCommand as WordInvalid, InvalidMagic as MagicInvalid, PayloadTooLarge as LengthTooLarge, InvalidChecksum as SumInvalid, Accepted}
@@ -39,15 +39,14 @@ use Rattle.slot.specs.declared.ids.ChannelIds.{ChannelIds}
 use Rattle.slot.specs.Ids.{closedBy}
 use Rattle.slot.specs.Slot.{emptySlot, openingSlot, isClosed, openedOf, readyOf, deliveredOf, settledOf, takenOf, budgetOf, spentOf, closedSlot}
 use Rattle.state.specs.declared.Header.{Header}
-use Rattle.state.specs.declared.Waiting.{Waiting as WaitingOpen}
+use Rattle.state.specs.declared.PendingOpen.{PendingOpen}
 use Rattle.state.specs.Change.{Change, slotTo, headerTo, changedAll}
 use Rattle.state.specs.State.{Connection, layout}
 use Rattle.table.specs.declared.Allocated.{Allocated}
 use Rattle.table.specs.declared.Allocated.the-variants.{Channel, NoFree}
 use Rattle.table.specs.declared.ChannelId.{ChannelId}
-use Rattle.table.specs.declared.Want.the-variants.{Local}
-use Rattle.table.specs.Table.{wantedBy, numbered, allocated}
-use Rattle.table.specs.Dispatch.{slotIn, shareOf}
+use Rattle.table.specs.Table.{thereIn, numbered, allocated, slotIn}
+use Rattle.rx_store.specs.RxStore.{frontOf}
 use Rattle.connection.specs.declared.Answer.{Answer}
 use Rattle.connection.specs.declared.Answer.the-variants.{Done, Waiting, Nothing, Opened, Settled, Read, Written, Front as FrontIs, Refused}
 use Rattle.connection.specs.declared.Received.{Received}
@@ -56,6 +55,7 @@ use Rattle.connection.specs.declared.Refusal.{Refusal}
 use Rattle.connection.specs.declared.Refusal.the-variants.{InvalidCommand, InvalidMagic, PayloadTooLarge, InvalidChecksum, ShortReadyPayload, UnexpectedCommand, BadConfig, StoreShort, OutShort, ChannelClosed, ChannelRxOverflow, NoFreeChannels, BrokenState}
 use Rattle.connection.specs.Act.{Acted, actOn}
 use Rattle.connection.specs.Frames.{Frame, okayFrame, closeFrame, openFrame, writeFrame, framesBytes}
+use Rattle.protocol.specs.Message.{messageSize}
 
 -- ---- what a call is lent, and what it leaves
 
@@ -105,13 +105,17 @@ abbrev pub thenActed : Work → Acted → Work
 thenActed w a = record { header = a .header; changes = w .changes ++ a .changes; rx = a .rx; store = a .store; frames = w .frames ++ a .frames }
 
 -- another header to store
-abbrev pub withHeader : Work → Header → Work
-withHeader w h = record { header = h; changes = w .changes; rx = w .rx; store = w .store; frames = w .frames }
+abbrev pub storing : Work → Header → Work
+storing w h = record { header = h; changes = w .changes; rx = w .rx; store = w .store; frames = w .frames }
 
 -- a call's end
 unfoldable pub ends : Work → Answer → ℕ → List ℕ → Outcome
 ends w a used handed =
     record { answer = a; used = used; frames = w .frames; handed = handed; changes = w .changes ++ headerTo (w .header) ∷ []; rx = w .rx; store = w .store }
+
+-- a call's end with slot s stored at a channel's place, and nothing handed over
+abbrev pub endsWith : Work → ChannelId → ChannelSlot → Answer → ℕ → Outcome
+endsWith w ch s a used = ends (then w (slotTo (ch .slot) s ∷ []) []) a used []
 
 -- ---- refusals ahead of every step
 
@@ -126,17 +130,17 @@ checkedOut whole l out o = checked whole l (cond (ltb out 56) (untouched l OutSh
 
 -- ---- small parts
 
--- an open that waited does so no more
-abbrev pub notWaiting : WaitingOpen → WaitingOpen
-notWaiting w = record { on = false; slot = w .slot; local = w .local }
+-- a pending open is so no more
+abbrev pub notPending : PendingOpen → PendingOpen
+notPending w = record { on = false; slot = w .slot; local = w .local }
 
--- a header in which no open of ours waits
+-- a header with no open of ours pending
 abbrev pub dropped : Header → Header
-dropped h = record { negotiated = h .negotiated; «next_local» = h .«next_local»; waiting = notWaiting (h .waiting); queued = h .queued }
+dropped h = record { negotiated = h .negotiated; «next_local» = h .«next_local»; pending = notPending (h .pending); queued = h .queued }
 
--- a header in which an open waits for its OKAY
-abbrev pub waitingFor : Header → ChannelId → Header
-waitingFor h ch = record { negotiated = h .negotiated; «next_local» = h .«next_local»; waiting = record { on = true; slot = ch .slot; local = ch .local }; queued = h .queued }
+-- a header with a pending open
+abbrev pub pendingFor : Header → ChannelId → Header
+pendingFor h ch = record { negotiated = h .negotiated; «next_local» = h .«next_local»; pending = record { on = true; slot = ch .slot; local = ch .local }; queued = h .queued }
 
 -- the receive policy, the same for every channel
 abbrev pub policy : Lent → RxPolicy
@@ -146,9 +150,13 @@ policy l = policyOf (l .state .header .negotiated)
 abbrev pub idsIn : ChannelSlot → ChannelIds
 idsIn s = record { local = s .local; remote = s .remote }
 
--- whether a channel is in the table: its place is below channels, filled, and has its number
+-- whether a channel is in the table
 unfoldable pub isThere : Lent → ChannelId → Bool
-isThere l ch = ltb (ch .slot) (l .state .header .negotiated .config .channels) && wantedBy (Local (ch .local)) (slotIn (l .state .slots) (ch .slot))
+isThere l ch = thereIn (l .state .header .negotiated .config .channels) (l .state .slots) ch
+
+-- 10 where a channel is not in the table
+abbrev pub notThere : Lent → Outcome
+notThere l = ends (begun (dropped (l .state .header)) l) (Refused ChannelClosed) 0 []
 
 -- the slot at a channel's place
 unfoldable pub slotFor : Lent → ChannelId → ChannelSlot
@@ -194,17 +202,17 @@ bodyOf received p = payloadOf received (p .«data_length»)
 
 -- the bytes that a packet uses
 abbrev pub frameLen : Packet → ℕ
-frameLen p = 24 + p .«data_length»
+frameLen p = messageSize + p .«data_length»
 
 -- ---- make (`Handshake::assemble`)
 
--- 64 empty slots, none waiting, the next number 1
+-- 64 empty slots, none queued, the next number 1
 unfoldable pub fresh : Negotiated → Connection
 fresh n =
     record {
-      header = record { negotiated = n; «next_local» = 1; waiting = record { on = false; slot = 0; local = record { 0 = 0 } }; queued = 0 };
+      header = record { negotiated = n; «next_local» = 1; pending = record { on = false; slot = 0; local = record { 0 = 0 } }; queued = 0 };
       slots = replicate 64 emptySlot;
-      opens = replicate 64 noOpen;
+      queue = replicate 64 noneQueued;
     }
 
 -- the answer, and the state's bytes
@@ -225,10 +233,10 @@ makeOf c a b host device state =
 unfoldable pub dispatchBy : Lent → Header → List ℕ → Received → Outcome
 dispatchBy l h received (Stop a used) = ends (begun h l) a used []
 dispatchBy l h received (PacketIs p) =
-    let a = actOn h (l .state .slots) (l .state .opens) (l .rx) (l .store) p (bodyOf received p) in
+    let a = actOn h (l .state .slots) (l .state .queue) (l .rx) (l .store) p (bodyOf received p) in
     ends (thenActed (begun h l) a) (unlessFault (a .fault) Done) (frameLen p) []
 
--- an open that waits is dropped, then one packet is looked at
+-- a pending open is dropped, then one packet is looked at
 unfoldable pub dispatchStep : Lent → List ℕ → Outcome
 dispatchStep l received = dispatchBy l (dropped (l .state .header)) received (receivedOf l received)
 
@@ -241,15 +249,15 @@ settledAs l ch s = ends (then (begun (dropped (l .state .header)) l) (slotTo (ch
 -- 10 where the channel is not in the table
 unfoldable pub settleStep : Lent → ChannelId → ℕ → Outcome
 settleStep l ch want =
-    cond (isThere l ch) (settledAs l ch (settledOf (slotFor l ch) (policy l) want)) (ends (begun (dropped (l .state .header)) l) (Refused ChannelClosed) 0 [])
+    cond (isThere l ch) (settledAs l ch (settledOf (slotFor l ch) (policy l) want)) (notThere l)
 
--- the first n bytes that slot i has buffered
-unfoldable pub frontOf : List ℕ → ℕ → ℕ → ChannelSlot → ℕ → List ℕ
-frontOf rx cap i s n = part (shareOf rx cap i) (s .head) n
+-- n bytes of slot s handed over, and t stored in its place
+abbrev pub handing : List ℕ → ℕ → ChannelId → ℕ → Work → ChannelSlot → ChannelSlot → ℕ → Outcome
+handing rx cap ch used w s t n = ends (then w (slotTo (ch .slot) t ∷ []) []) (Read n) used (frontOf rx cap (ch .slot) (s .head) n)
 
 -- taking n bytes, nothing there, or closed with nothing there
 unfoldable pub takenBy : Lent → ChannelId → ChannelSlot → Work → Taken → Outcome
-takenBy l ch s w (Data t n) = ends (then w (slotTo (ch .slot) t ∷ []) []) (Read n) 0 (frontOf (l .rx) (policy l .«rx_cap») (ch .slot) s n)
+takenBy l ch s w (Data t n) = handing (l .rx) (policy l .«rx_cap») ch 0 w s t n
 takenBy l ch s w NothingTaken = ends w Nothing 0 []
 takenBy l ch s w (ClosedTaken e) = ends w (Refused (errorRefusal e)) 0 []
 
@@ -257,15 +265,15 @@ takenBy l ch s w (ClosedTaken e) = ends w (Refused (errorRefusal e)) 0 []
 unfoldable pub takeStep : Lent → ChannelId → ℕ → Outcome
 takeStep l ch room =
     cond (isThere l ch) (takenBy l ch (slotFor l ch) (begun (dropped (l .state .header)) l) (takenOf (slotFor l ch) room))
-    (ends (begun (dropped (l .state .header)) l) (Refused ChannelClosed) 0 [])
+    (notThere l)
 
 -- ---- read (`recv_data`)
 
 -- what the second settling and taking give, after a packet that was dispatched
 unfoldable pub reread : ChannelId → ℕ → ℕ → Failed → Work → ChannelSlot → Taken → Outcome
-reread ch cap used fault w s (Data t n) = ends (then w (slotTo (ch .slot) t ∷ []) []) (Read n) used (frontOf (w .rx) cap (ch .slot) s n)
-reread ch cap used fault w s NothingTaken = ends (then w (slotTo (ch .slot) s ∷ []) []) (unlessFault fault Waiting) used []
-reread ch cap used fault w s (ClosedTaken e) = ends (then w (slotTo (ch .slot) s ∷ []) []) (unlessFault fault (Refused (errorRefusal e))) used []
+reread ch cap used fault w s (Data t n) = handing (w .rx) cap ch used w s t n
+reread ch cap used fault w s NothingTaken = endsWith w ch s (unlessFault fault Waiting) used
+reread ch cap used fault w s (ClosedTaken e) = endsWith w ch s (unlessFault fault (Refused (errorRefusal e))) used
 
 -- the second settling's OKAY, then the second taking
 unfoldable pub readSettled : Lent → ChannelId → ℕ → ℕ → Failed → Work → SettledSlot → Outcome
@@ -288,19 +296,19 @@ readDirect ch used w payload d = ends (then w (slotTo (ch .slot) (d .slot) ∷ [
 
 -- no packet: its answer; else the channel's own WRTE, its CLSE (10), or any other
 unfoldable pub readBy : Lent → ChannelId → ℕ → Work → ChannelSlot → List ℕ → Received → Outcome
-readBy l ch room w s received (Stop a used) = ends (then w (slotTo (ch .slot) s ∷ []) []) a used []
+readBy l ch room w s received (Stop a used) = endsWith w ch s a used
 readBy l ch room w s received (PacketIs p) =
     cond (isDirect s room p) (readDirect ch (frameLen p) w (bodyOf received p) (deliveredOf s (policy l) (p .«data_length»)))
-    (cond (closedBy (idsIn s) p) (ends (then w (slotTo (ch .slot) (closedSlot s) ∷ []) []) (Refused ChannelClosed) (frameLen p) [])
+    (cond (closedBy (idsIn s) p) (endsWith w ch (closedSlot s) (Refused ChannelClosed) (frameLen p))
     (readActed l ch room (frameLen p) (then w (slotTo (ch .slot) s ∷ []) [])
-    (actOn (w .header) (set (l .state .slots) (ch .slot) s) (l .state .opens) (l .rx) (l .store) p (bodyOf received p))))
+    (actOn (w .header) (set (l .state .slots) (ch .slot) s) (l .state .queue) (l .rx) (l .store) p (bodyOf received p))))
 
 -- the first taking: data, closed, or a packet is looked at
 unfoldable pub readTaken : Lent → ChannelId → ℕ → Work → ChannelSlot → List ℕ → Taken → Outcome
-readTaken l ch room w s received (Data t n) = ends (then w (slotTo (ch .slot) t ∷ []) []) (Read n) 0 (frontOf (l .rx) (policy l .«rx_cap») (ch .slot) s n)
+readTaken l ch room w s received (Data t n) = handing (l .rx) (policy l .«rx_cap») ch 0 w s t n
 readTaken l ch room w s received NothingTaken =
-    cond (s .«has_remote») (readBy l ch room w s received (receivedOf l received)) (ends (then w (slotTo (ch .slot) s ∷ []) []) (Refused ChannelClosed) 0 [])
-readTaken l ch room w s received (ClosedTaken e) = ends (then w (slotTo (ch .slot) s ∷ []) []) (Refused (errorRefusal e)) 0 []
+    cond (s .«has_remote») (readBy l ch room w s received (receivedOf l received)) (endsWith w ch s (Refused ChannelClosed) 0)
+readTaken l ch room w s received (ClosedTaken e) = endsWith w ch s (Refused (errorRefusal e)) 0
 
 -- the first settling's OKAY, then the first taking
 unfoldable pub readFirst : Lent → ChannelId → ℕ → List ℕ → SettledSlot → Outcome
@@ -311,7 +319,7 @@ readFirst l ch room received s =
 unfoldable pub readStep : Lent → ChannelId → ℕ → List ℕ → Outcome
 readStep l ch room received =
     cond (isThere l ch) (readFirst l ch room received (settledOf (slotFor l ch) (policy l) room))
-    (ends (begun (dropped (l .state .header)) l) (Refused ChannelClosed) 0 [])
+    (notThere l)
 
 -- ---- write (`wait_ack`, then one turn of `write_channel`)
 
@@ -322,18 +330,18 @@ sendLen l bytes most = min (min (length bytes) (max (l .state .header .negotiate
 -- n bytes sent, unless their frame does not fit the outgoing buffer: 9, and nothing has changed
 unfoldable pub sendSome : Lent → ChannelId → ℕ → List ℕ → ℕ → Work → ChannelSlot → ℕ → Outcome
 sendSome l ch out bytes used w s n =
-    cond (ltb out (length (framesBytes (w .header .negotiated) (w .frames)) + 24 + n)) (untouched l OutShort)
+    cond (ltb out (length (framesBytes (w .header .negotiated) (w .frames)) + messageSize + n)) (untouched l OutShort)
     (ends (then w (slotTo (ch .slot) (spentOf s (policy l) n) ∷ []) (writeFrame (idsIn s) (take n bytes) ∷ [])) (Written n) used [])
 
 -- by the budget: sent, or waiting again
 unfoldable pub sendBy : Lent → ChannelId → ℕ → List ℕ → ℕ → Work → ChannelSlot → Budget → Outcome
 sendBy l ch out bytes used w s (Bytes most) = sendSome l ch out bytes used w s (sendLen l bytes most)
-sendBy l ch out bytes used w s NoBudget = ends (then w (slotTo (ch .slot) s ∷ []) []) Waiting used []
+sendBy l ch out bytes used w s NoBudget = endsWith w ch s Waiting used
 
 -- the turn of the loop after a packet: closed, sent, or waiting again
 unfoldable pub sendAgain : Lent → ChannelId → ℕ → List ℕ → ℕ → Work → ChannelSlot → Outcome
 sendAgain l ch out bytes used w s =
-    cond (isClosed (s .state)) (ends (then w (slotTo (ch .slot) s ∷ []) []) (Refused ChannelClosed) used [])
+    cond (isClosed (s .state)) (endsWith w ch s (Refused ChannelClosed) used)
     (sendBy l ch out bytes used w s (budgetOf s (policy l)))
 
 -- the channel's own OKAY: its credit is used at once, or it is short (5)
@@ -356,9 +364,9 @@ unfoldable pub writeBy : Lent → ChannelId → ℕ → List ℕ → Work → Ch
 writeBy l ch out bytes w s received (Stop a used) = ends w a used []
 writeBy l ch out bytes w s received (PacketIs p) =
     cond (isReady (p .command) && eqb (p .arg1) (s .local .0)) (writeReadied l ch out bytes (frameLen p) w s (readyOf s (bodyOf received p) (policy l)))
-    (cond (closedBy (idsIn s) p) (ends (then w (slotTo (ch .slot) (closedSlot s) ∷ []) []) (Refused ChannelClosed) (frameLen p) [])
+    (cond (closedBy (idsIn s) p) (endsWith w ch (closedSlot s) (Refused ChannelClosed) (frameLen p))
     (writeAct l ch out bytes (frameLen p) w
-    (actOn (w .header) (l .state .slots) (l .state .opens) (l .rx) (l .store) p (bodyOf received p))))
+    (actOn (w .header) (l .state .slots) (l .state .queue) (l .rx) (l .store) p (bodyOf received p))))
 
 -- by the budget: sent at once, or a packet is looked at
 unfoldable pub writeFirst : Lent → ChannelId → ℕ → List ℕ → List ℕ → Work → ChannelSlot → Budget → Outcome
@@ -376,7 +384,7 @@ unfoldable pub writeStep : Lent → ChannelId → ℕ → List ℕ → List ℕ 
 writeStep l ch out bytes received =
     cond (eqb (length bytes) 0) (ends (begun (dropped (l .state .header)) l) (Written 0) 0 [])
     (cond (isThere l ch) (writeOn l ch out bytes received (begun (dropped (l .state .header)) l) (slotFor l ch))
-    (ends (begun (dropped (l .state .header)) l) (Refused ChannelClosed) 0 []))
+    (notThere l))
 
 -- ---- close (`close_channel`)
 
@@ -385,21 +393,21 @@ unfoldable pub closeStep : Lent → ChannelId → Outcome
 closeStep l ch =
     cond (isThere l ch && slotFor l ch .«has_remote»)
     (ends (then (begun (dropped (l .state .header)) l) (slotTo (ch .slot) emptySlot ∷ []) (closeFrame (idsIn (slotFor l ch)) ∷ [])) Done 0 [])
-    (ends (begun (dropped (l .state .header)) l) (Refused ChannelClosed) 0 [])
+    (notThere l)
 
 -- ---- take_front (`try_accept_incoming`, without a verdict)
 
--- the first that waits and the place of its destination, or none
-unfoldable pub frontBy : Lent → Header → List Change → Front → Outcome
-frontBy l h xs (FrontOpen q less) =
+-- the first that is queued and the place of its destination, or none
+unfoldable pub takeFrontBy : Lent → Header → List Change → Front → Outcome
+takeFrontBy l h xs (FrontOpen q less) =
     ends (then (begun less l) xs []) (FrontIs (q .remote) (q .credit) (q .share * h .negotiated .config .«max_payload») (q .length)) 0 []
-frontBy l h xs NoFront = ends (begun h l) Nothing 0 []
+takeFrontBy l h xs NoFront = ends (begun h l) Nothing 0 []
 
--- an open of ours that waits is dropped, then the first is taken off the queue
-unfoldable pub frontStep : Lent → Outcome
-frontStep l =
+-- a pending open is dropped, then the first is taken off the queue
+unfoldable pub takeFrontStep : Lent → Outcome
+takeFrontStep l =
     let h = dropped (l .state .header) in
-    frontBy l h (popped h (l .state .opens) .changes) (popped h (l .state .opens) .result)
+    takeFrontBy l h (popped h (l .state .queue) .changes) (popped h (l .state .queue) .result)
 
 -- ---- open (`open_channel`, `await_open_ack`)
 
@@ -409,20 +417,20 @@ openOn l out destination NoFree = ends (begun (l .state .header) l) (Refused NoF
 openOn l out destination (Channel ch) =
     let h = l .state .header in
     cond (ltb maxPayload (length destination)) (ends (begun (numbered h) l) (Refused PayloadTooLarge) 0 [])
-    (cond (ltb out (24 + length destination)) (untouched l OutShort)
-    (ends (then (begun (waitingFor (numbered h) ch) l) [] (openFrame (ch .local) (creditOf (h .negotiated)) destination ∷ [])) Waiting 0 []))
+    (cond (ltb out (messageSize + length destination)) (untouched l OutShort)
+    (ends (then (begun (pendingFor (numbered h) ch) l) [] (openFrame (ch .local) (offeredCredit (h .negotiated)) destination ∷ [])) Waiting 0 []))
 
--- a waiting open stays where the answer is waiting, and ends otherwise
-unfoldable pub stillWaits : Answer → Header → Header
-stillWaits Waiting h = h
-stillWaits Done h = dropped h
-stillWaits Nothing h = dropped h
-stillWaits (Opened ch) h = dropped h
-stillWaits (Settled a) h = dropped h
-stillWaits (Read n) h = dropped h
-stillWaits (Written n) h = dropped h
-stillWaits (FrontIs r c p n) h = dropped h
-stillWaits (Refused r) h = dropped h
+-- a pending open stays where the answer is waiting, and ends otherwise
+unfoldable pub stillPending : Answer → Header → Header
+stillPending Waiting h = h
+stillPending Done h = dropped h
+stillPending Nothing h = dropped h
+stillPending (Opened ch) h = dropped h
+stillPending (Settled a) h = dropped h
+stillPending (Read n) h = dropped h
+stillPending (Written n) h = dropped h
+stillPending (FrontIs r c p n) h = dropped h
+stillPending (Refused r) h = dropped h
 
 -- its OKAY
 unfoldable pub openReadied : Lent → ChannelId → ℕ → ℕ → Readied → Outcome
@@ -434,11 +442,11 @@ openReadied l ch remote used Short =
 unfoldable pub openActed : Lent → ℕ → Acted → Outcome
 openActed l used a =
     let w = thenActed (begun (l .state .header) l) a in
-    ends (withHeader w (stillWaits (unlessFault (a .fault) Waiting) (a .header))) (unlessFault (a .fault) Waiting) used []
+    ends (storing w (stillPending (unlessFault (a .fault) Waiting) (a .header))) (unlessFault (a .fault) Waiting) used []
 
 -- no packet: its answer; else the open's own OKAY, WRTE (6) or CLSE (10), or any other
 unfoldable pub openBy : Lent → ChannelId → List ℕ → Received → Outcome
-openBy l ch received (Stop a used) = ends (begun (stillWaits a (l .state .header)) l) a used []
+openBy l ch received (Stop a used) = ends (begun (stillPending a (l .state .header)) l) a used []
 openBy l ch received (PacketIs p) =
     let mine = eqb (p .arg1) (ch .local .0) in
     cond (isReady (p .command) && mine)
@@ -446,45 +454,45 @@ openBy l ch received (PacketIs p) =
     (cond (isWrite (p .command) && mine)
     (ends (then (begun (dropped (l .state .header)) l) [] (closeFrame (record { local = ch .local; remote = record { 0 = p .arg0 } }) ∷ [])) (Refused UnexpectedCommand) (frameLen p) [])
     (cond (isClose (p .command) && mine) (ends (begun (dropped (l .state .header)) l) (Refused ChannelClosed) (frameLen p) [])
-    (openActed l (frameLen p) (actOn (l .state .header) (l .state .slots) (l .state .opens) (l .rx) (l .store) p (bodyOf received p)))))
+    (openActed l (frameLen p) (actOn (l .state .header) (l .state .slots) (l .state .queue) (l .rx) (l .store) p (bodyOf received p)))))
 
--- while an open waits, it goes on; else one begins
+-- while an open is pending, it goes on; else one begins
 unfoldable pub openStep : Lent → ℕ → List ℕ → List ℕ → Outcome
 openStep l out destination received =
     let h = l .state .header in
-    cond (h .waiting .on) (openBy l (record { slot = h .waiting .slot; local = h .waiting .local }) received (receivedOf l received))
+    cond (h .pending .on) (openBy l (record { slot = h .pending .slot; local = h .pending .local }) received (receivedOf l received))
     (openOn l out destination (allocated h (l .state .slots)))
 
 -- ---- the calls, with the refusals ahead of them
 
 -- open; out: the outgoing buffer's length
-unfoldable pub openOf : Bool → Lent → ℕ → List ℕ → List ℕ → Outcome
-openOf whole l out destination received = checkedOut whole l out (openStep l out destination received)
+unfoldable pub openOutcome : Bool → Lent → ℕ → List ℕ → List ℕ → Outcome
+openOutcome whole l out destination received = checkedOut whole l out (openStep l out destination received)
 
 -- dispatch
-unfoldable pub dispatchOf : Bool → Lent → ℕ → List ℕ → Outcome
-dispatchOf whole l out received = checkedOut whole l out (dispatchStep l received)
+unfoldable pub dispatchOutcome : Bool → Lent → ℕ → List ℕ → Outcome
+dispatchOutcome whole l out received = checkedOut whole l out (dispatchStep l received)
 
 -- settle
-unfoldable pub settleOf : Bool → Lent → ℕ → ChannelId → ℕ → Outcome
-settleOf whole l out ch want = checkedOut whole l out (settleStep l ch want)
+unfoldable pub settleOutcome : Bool → Lent → ℕ → ChannelId → ℕ → Outcome
+settleOutcome whole l out ch want = checkedOut whole l out (settleStep l ch want)
 
 -- take: it is lent no outgoing buffer
-unfoldable pub takeOf : Bool → Lent → ChannelId → ℕ → Outcome
-takeOf whole l ch room = checked whole l (takeStep l ch room)
+unfoldable pub takeOutcome : Bool → Lent → ChannelId → ℕ → Outcome
+takeOutcome whole l ch room = checked whole l (takeStep l ch room)
 
 -- read; room: the reader's buffer's length
-unfoldable pub readOf : Bool → Lent → ℕ → ChannelId → ℕ → List ℕ → Outcome
-readOf whole l out ch room received = checkedOut whole l out (readStep l ch room received)
+unfoldable pub readOutcome : Bool → Lent → ℕ → ChannelId → ℕ → List ℕ → Outcome
+readOutcome whole l out ch room received = checkedOut whole l out (readStep l ch room received)
 
 -- write
-unfoldable pub writeOf : Bool → Lent → ℕ → ChannelId → List ℕ → List ℕ → Outcome
-writeOf whole l out ch bytes received = checkedOut whole l out (writeStep l ch out bytes received)
+unfoldable pub writeOutcome : Bool → Lent → ℕ → ChannelId → List ℕ → List ℕ → Outcome
+writeOutcome whole l out ch bytes received = checkedOut whole l out (writeStep l ch out bytes received)
 
 -- close
-unfoldable pub closeOf : Bool → Lent → ℕ → ChannelId → Outcome
-closeOf whole l out ch = checkedOut whole l out (closeStep l ch)
+unfoldable pub closeOutcome : Bool → Lent → ℕ → ChannelId → Outcome
+closeOutcome whole l out ch = checkedOut whole l out (closeStep l ch)
 
 -- take_front: it is lent no outgoing buffer
-unfoldable pub frontCall : Bool → Lent → Outcome
-frontCall whole l = checked whole l (frontStep l)
+unfoldable pub takeFrontOutcome : Bool → Lent → Outcome
+takeFrontOutcome whole l = checked whole l (takeFrontStep l)

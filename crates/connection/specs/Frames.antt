@@ -3,10 +3,10 @@ use Prim.Native.Nat.{ℕ}
 use mathlib.Core.List.{List}
 use Rattle.config.specs.declared.negotiated.Negotiated.{Negotiated}
 use Rattle.protocol.specs.declared.command.Command.{Command}
-use Rattle.protocol.specs.Checksum.{policyFor}
+use Rattle.checksum.specs.Checksum.{policyFor}
 use Rattle.slot.specs.declared.ids.ChannelIds.{ChannelIds}
 use Rattle.slot.specs.declared.ids.LocalId.{LocalId}
-use Rattle.state.specs.Rows.{flat}
+use Rattle.le.specs.Rows.{flat}
 use Rattle.wire.specs.Wire.{okayBytes, closeBytes, openBytes, writeBytes}
 
 -- an OKAY with the length acknowledged, a CLSE, an OPEN with its credit and destination, a WRTE

@@ -5,7 +5,7 @@ use slot::PendingAck;
 use slot::ids::RemoteId;
 use table::ChannelId;
 ghost use mathlib.Core.Path.{_≡_};
-ghost use Rattle.connection.specs.Answer.{refusalNumber, numberOf};
+ghost use Rattle.connection.specs.Answer.{refusalNumber, answerNumber};
 
 // The refusals (docs/SCOPE.md, 6).
 pub enum Refusal {
@@ -30,7 +30,7 @@ pub enum Answer {
     Done,
     // The frame is not all there, or one packet was handled and the call's end has not come.
     Waiting,
-    // take: nothing is buffered; take_front: none waits.
+    // take: nothing is buffered; take_front: none is queued.
     Nothing,
     Opened(ChannelId),
     Settled(PendingAck),
@@ -38,7 +38,7 @@ pub enum Answer {
     Read(usize),
     // Bytes sent.
     Written(usize),
-    // A waiting open's number, credit, and its destination's place and length in the open store.
+    // A queued open's number, credit, and its destination's place and length in the open store.
     Front(RemoteId, u32, usize, usize),
     Refused(Refusal),
 }
@@ -75,7 +75,7 @@ impl Refusal {
 impl Answer {
     // 0, a refusal's number, 100 for waiting, 101 for nothing there.
     pub fn number(self) -> u32
-        ensures { λ r. ⌜ r ≡ numberOf self ⌝ }
+        ensures { λ r. ⌜ r ≡ answerNumber self ⌝ }
     {
         match self {
             Answer::Done => 0,

@@ -1,8 +1,8 @@
 // The ids of AOSP's sync messages (SYNC.TXT), by libadb's names (sync/format.rs), what stands behind each, and which of them
 // an exchange has.
 ghost use mathlib.Core.Path.{_≡_};
-ghost use Rattle.exchange.specs.Exchange.{wordOf, isOver, headOf, longestOf, layoutNumber};
-ghost use Rattle.exchange.specs.Exchange.{exchangeOf, amongOf, requests, listReplies, statReplies, recvReplies, sendReplies, foundOf};
+ghost use Rattle.exchange.specs.Exchange.{wordOf, isOver, headOf, longestOf, layoutNumber, exchangeOf, amongOf, requests};
+ghost use Rattle.exchange.specs.Exchange.{listReplies, statReplies, recvReplies, sendReplies, foundOf};
 
 const ID_LIST: u32 = 0x5453_494c;
 

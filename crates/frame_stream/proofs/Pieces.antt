@@ -11,21 +11,21 @@ use lib.Dec.{T, eqb, ltb}
 use lib.ListN.{length, length-append}
 use borrow.Author.Tests.{ltb-false, le-ltb}
 use Rattle.le.proofs.Parts.{by-test, part-front}
-use Rattle.protocol.specs.declared.checksum.Checksum.{Checksum}
+use Rattle.checksum.specs.declared.Checksum.{Checksum}
 use Rattle.protocol.specs.declared.command.Command.{Command}
 use Rattle.protocol.specs.declared.command.CommandWord.{CommandWord}
 use Rattle.protocol.specs.declared.command.CommandWord.the-variants.{Known, Invalid}
 use Rattle.protocol.specs.declared.message.Message.{Message}
 use Rattle.protocol.specs.declared.packet.Decoded.{Decoded}
 use Rattle.protocol.specs.declared.packet.Decoded.the-variants.{Waiting, InvalidCommand, InvalidMagic, PayloadTooLarge, InvalidChecksum, Accepted}
-use Rattle.protocol.specs.Checksum.{checkFor}
+use Rattle.checksum.specs.Checksum.{checkFor}
 use Rattle.protocol.specs.Command.{magicOf, commandOf}
 use Rattle.protocol.specs.Message.{messageOf}
 use Rattle.protocol.specs.Packet.{maxPayload, payloadOf, checkPasses, packetOf, knownOf, namedOf, decodeOf, usedOf}
-use Rattle.protocol.proofs.ChecksumLaws.{check-small}
+use Rattle.checksum.proofs.ChecksumLaws.{check-small}
 use Rattle.protocol.proofs.PacketLaws.{frame-length}
 use Rattle.protocol.proofs.RoundTrip.{frame-payload, not-refused, own-check}
-use Rattle.stream.specs.Stream.{waiting, message, refused, isWaiting, joined, readAll, begun, feedAll, Stable, more, Every, none-left, each, written, ReadsBack}
+use Rattle.stream.specs.Stream.{message, refused, isWaiting, joined, readAll, begun, feedAll, Stable, more, Every, none-left, each, written, ReadsBack}
 use Rattle.stream.proofs.Cut.{cut, arrives}
 use Rattle.frame_stream.specs.Frames.{Got, answerOf, receives, bytesFor, Sendable}
 

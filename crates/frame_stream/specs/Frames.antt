@@ -3,11 +3,11 @@ use Prim.Native.Nat.{ℕ, _≤_, _<_, _^_, min}
 use mathlib.Core.Path.{_≡_}
 use mathlib.Core.List.{List}
 use lib.ListN.{length}
-use Rattle.protocol.specs.declared.checksum.Checksum.{Checksum}
+use Rattle.checksum.specs.declared.Checksum.{Checksum}
 use Rattle.protocol.specs.declared.packet.Packet.{Packet}
 use Rattle.protocol.specs.declared.packet.Decoded.{Decoded}
 use Rattle.protocol.specs.declared.packet.Decoded.the-variants.{Waiting, InvalidCommand, InvalidMagic, PayloadTooLarge, InvalidChecksum, Accepted}
-use Rattle.protocol.specs.Packet.{maxPayload, payloadOf, decodeOf, numberOf, usedOf, frameFor}
+use Rattle.protocol.specs.Packet.{maxPayload, payloadOf, decodeOf, decodedNumber, usedOf, frameFor}
 use Rattle.stream.specs.Stream.{Answer, waiting, message, refused}
 
 -- a frame with its payload
@@ -17,7 +17,7 @@ pub record Got : Type 0 where
 
 -- an answer that is no frame: a refusal's number, and the bytes that it uses
 abbrev pub refusal : Decoded → Answer Got
-refusal d = refused (numberOf d) (usedOf d)
+refusal d = refused (decodedNumber d) (usedOf d)
 
 unfoldable pub answerOf : List ℕ → Decoded → Answer Got
 answerOf s Waiting = waiting

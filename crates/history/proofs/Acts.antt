@@ -8,7 +8,7 @@ use lib.Dec.{eqb, ltb, leb}
 use lib.ListN.{length}
 use borrow.Author.Tests.{eq-eqb, ne-eqb, ltb-true}
 use Rattle.le.specs.Le.{numOf}
-use Rattle.table.proofs.DispatchLaws.{share-in, length-buffered}
+use Rattle.rx_store.proofs.ShareLaws.{share-in, length-buffered}
 use Rattle.le.proofs.Parts.{by-test}
 use Rattle.config.specs.declared.negotiated.RxPolicy.{RxPolicy}
 use Rattle.config.specs.Negotiated.{policyOf}
@@ -16,7 +16,6 @@ use Rattle.incoming.specs.declared.Pushed.{Pushed}
 use Rattle.incoming.specs.declared.Pushed.the-variants.{Queued, Full}
 use Rattle.incoming.specs.Incoming.{PushOutcome, pushed, withdrawal}
 use Rattle.protocol.specs.declared.command.Command.{Command}
-use Rattle.protocol.specs.declared.command.Command.the-variants.{Sync, Connect, Open, Ready, Close, Write, Auth, StartTls}
 use Rattle.protocol.specs.declared.message.Message.{Message}
 use Rattle.protocol.specs.declared.packet.Packet.{Packet}
 use Rattle.protocol.specs.Command.{isClose, isWrite, isThe, wordOf, lettersOf}
@@ -26,8 +25,8 @@ use Rattle.slot.specs.declared.AckDecision.{AckDecision}
 use Rattle.slot.specs.declared.AckDecision.the-variants.{Now, Hold, Overflow, Early}
 use Rattle.slot.specs.declared.ChannelFault.the-variants.{RxOverflow}
 use Rattle.slot.specs.declared.ChannelSlot.{ChannelSlot}
-use Rattle.slot.specs.declared.Credit.{Credit}
-use Rattle.slot.specs.declared.Credit.the-variants.{Of, Short as CreditShort}
+use Rattle.credit.specs.declared.Credit.{Credit}
+use Rattle.credit.specs.declared.Credit.the-variants.{Of, Short as CreditShort}
 use Rattle.slot.specs.declared.Failed.{Failed}
 use Rattle.slot.specs.declared.Failed.the-variants.{No, By}
 use Rattle.slot.specs.declared.PendingAck.{PendingAck}
@@ -35,21 +34,23 @@ use Rattle.slot.specs.declared.PendingAck.the-variants.{Len, Nothing}
 use Rattle.slot.specs.declared.Readied.{Readied}
 use Rattle.slot.specs.declared.Readied.the-variants.{Slot, Short}
 use Rattle.slot.specs.declared.Wrote.{Wrote}
-use Rattle.slot.specs.Slot.{isOpening, isClosed, bufferedWith, isFailed, acksNow, wroteOf, creditOf, readyBy, readyOf, closedSlot, heldOf, SlotOk}
+use Rattle.slot.specs.Slot.{isOpening, isClosed, bufferedWith, isFailed, acksNow, wroteOf, readyBy, readyOf, closedSlot, heldOf, SlotOk}
+use Rattle.credit.specs.Credit.{creditOf}
 use Rattle.slot.proofs.Stays.{Stays, stays-same, ReadiedStays, ready-stays, wrote-stays, closed-stays}
 use Rattle.slot.proofs.Kept.{pick, wrote-sound, Readied-sound, ready-sound, closed-sound}
 use Rattle.slot.proofs.Laws.{cond-true, cond-false}
 use Rattle.state.specs.declared.Header.{Header}
-use Rattle.state.specs.declared.PendingOpen.{PendingOpen}
-use Rattle.state.specs.Change.{Step, Change, slotTo, headerTo, openTo, opensTo}
-use Rattle.table.specs.declared.DispatchOutcome.{DispatchOutcome}
-use Rattle.table.specs.declared.DispatchOutcome.the-variants.{AckWrite, CreditGranted, SlotClosed, DataBuffered, IncomingOpen, CancelPendingOpen, StrayReady, ChannelFault, Unmatched}
+use Rattle.state.specs.declared.QueuedOpen.{QueuedOpen}
+use Rattle.state.specs.Change.{Step, Change, slotTo, headerTo, queuedTo, queueTo}
+use Rattle.table_dispatch.specs.declared.DispatchOutcome.{DispatchOutcome}
+use Rattle.table_dispatch.specs.declared.DispatchOutcome.the-variants.{AckWrite, CreditGranted, SlotClosed, DataBuffered, IncomingOpen, CancelQueuedOpen, StrayReady, ChannelFault, Unmatched}
 use Rattle.table.specs.declared.Want.the-variants.{Local, Remote}
-use Rattle.table.specs.Table.{placeOf}
-use Rattle.table.specs.Dispatch.{remotePlace, readiedOf, slotIn, Dispatched, wroteBy, wroteAt, writeOf, closedAt, closeOf, readyAt, grantOf, granted, strayOf, routeOf, dispatchOf}
+use Rattle.table.specs.Table.{placeOf, slotIn}
+use Rattle.table_dispatch.specs.Dispatch.{remotePlace, readiedOf, Dispatched, wroteBy, wroteAt, writeOf, closedAt, closeOf, readyAt, grantOf, granted, strayOf, routeOf, dispatchOf}
+use Rattle.table_dispatch.proofs.RouteLaws.{by-route}
 use Rattle.connection.specs.declared.Answer.{Answer}
 use Rattle.connection.specs.Act.{Acted, pushedBy, actedBy, tableOf, actOn}
-use Rattle.connection.specs.Answer.{ackLength, numberOf}
+use Rattle.connection.specs.Answer.{ackLength, answerNumber}
 use Rattle.connection.specs.Calls.{ackFrames}
 use Rattle.connection.specs.Frames.{Frame, okayFrame, closeFrame, openFrame, writeFrame}
 use Rattle.history.specs.Book.{Book, sentB, closedB, overB, isRefused, isWrte, closesB, wrteB, frameB}
@@ -95,7 +96,7 @@ acksFor (CreditGranted i) = 0
 acksFor (SlotClosed i) = 0
 acksFor (DataBuffered i) = 0
 acksFor (IncomingOpen remote credit) = 0
-acksFor (CancelPendingOpen remote) = 0
+acksFor (CancelQueuedOpen remote) = 0
 acksFor (StrayReady ids) = 0
 acksFor (ChannelFault i ids opening f) = 0
 acksFor Unmatched = 0
@@ -122,7 +123,7 @@ silent-closed f n ss other e = pick Silent-step (ltb f n) (λ t. refl) (λ t. e)
 silent-close : (n : ℕ) (ss : List ChannelSlot) (remote : RemoteId) (local : LocalId) → Silent-step (closeOf n ss remote local)
 unfolding closeOf
 silent-close n ss remote local =
-    pick Silent-step (eqb (local .0) 0) (λ t. silent-closed (remotePlace n ss remote) n ss (CancelPendingOpen remote) refl)
+    pick Silent-step (eqb (local .0) 0) (λ t. silent-closed (remotePlace n ss remote) n ss (CancelQueuedOpen remote) refl)
     (λ t. silent-closed (placeOf (Local local) n ss) n ss Unmatched refl)
 
 silent-granted : (f : ℕ) (s : ChannelSlot) (remote : RemoteId) (r : Readied) → Silent-step (granted f s remote r)
@@ -153,15 +154,9 @@ silent-write p n ss remote local payload rx d =
     (λ t. refl)
 
 silent-route : (p : RxPolicy) (n : ℕ) (ss : List ChannelSlot) (c : Command) (a l : ℕ) (payload rx : List ℕ) → p .delayed ≡ true → Silent (routeOf p n ss c a l payload rx)
-unfolding routeOf
-silent-route p n ss Connect a l payload rx d = refl
-silent-route p n ss Auth a l payload rx d = refl
-silent-route p n ss StartTls a l payload rx d = refl
-silent-route p n ss Open a l payload rx d = refl
-silent-route p n ss Close a l payload rx d = silent-close n ss (record { 0 = a }) (record { 0 = l })
-silent-route p n ss Write a l payload rx d = silent-write p n ss (record { 0 = a }) (record { 0 = l }) payload rx d
-silent-route p n ss Ready a l payload rx d = silent-grant p n ss (record { 0 = a }) (record { 0 = l }) payload
-silent-route p n ss Sync a l payload rx d = refl
+silent-route p n ss c a l payload rx d =
+    by-route p n ss a l payload rx (λ c x. Silent x) (λ c h. refl) refl (silent-close n ss (record { 0 = a }) (record { 0 = l }))
+    (silent-write p n ss (record { 0 = a }) (record { 0 = l }) payload rx d) (silent-grant p n ss (record { 0 = a }) (record { 0 = l }) payload) c
 
 -- ---- `act_on` beside the table's part
 
@@ -177,40 +172,40 @@ abbrev pub NoSlot : List Change → Type 0
 NoSlot [] = Unit {0}
 NoSlot (slotTo i s ∷ xs) = ⊥
 NoSlot (headerTo h ∷ xs) = NoSlot xs
-NoSlot (openTo i q ∷ xs) = NoSlot xs
-NoSlot (opensTo qs ∷ xs) = NoSlot xs
+NoSlot (queuedTo i q ∷ xs) = NoSlot xs
+NoSlot (queueTo qs ∷ xs) = NoSlot xs
 
 no-slot : (ss : List ChannelSlot) (xs : List Change) → NoSlot xs → slotsBy ss xs ≡ ss
 no-slot ss [] e = refl
 no-slot ss (slotTo i s ∷ xs) e = absurd e
 no-slot ss (headerTo h ∷ xs) e = no-slot ss xs e
-no-slot ss (openTo i q ∷ xs) e = no-slot ss xs e
-no-slot ss (opensTo qs ∷ xs) e = no-slot ss xs e
+no-slot ss (queuedTo i q ∷ xs) e = no-slot ss xs e
+no-slot ss (queueTo qs ∷ xs) e = no-slot ss xs e
 
 more-changes : (ss : List ChannelSlot) (xs ys : List Change) → NoSlot ys → slotsBy ss (xs ++ ys) ≡ slotsBy ss xs
 more-changes ss xs ys e = slots-append ss xs ys ∙ no-slot (slotsBy ss xs) ys e
 
-pub pushed-slots : (h : Header) (opens : List PendingOpen) (remote : RemoteId) (credit : ℕ) (payload store : List ℕ) → NoSlot (pushed h opens remote credit payload store .changes)
+pub pushed-slots : (h : Header) (queue : List QueuedOpen) (remote : RemoteId) (credit : ℕ) (payload store : List ℕ) → NoSlot (pushed h queue remote credit payload store .changes)
 unfolding pushed
-pushed-slots h opens remote credit payload store =
+pushed-slots h queue remote credit payload store =
     pick (λ (o : PushOutcome). NoSlot (o .changes)) (leb (h .negotiated .config .channels) (h .queued)) (λ t. tt) (λ t. tt)
 
-pub withdrawn-slots : (h : Header) (opens : List PendingOpen) (remote : RemoteId) → NoSlot (withdrawal h opens remote .changes)
+pub withdrawn-slots : (h : Header) (queue : List QueuedOpen) (remote : RemoteId) → NoSlot (withdrawal h queue remote .changes)
 unfolding withdrawal
-withdrawn-slots h opens remote = tt
+withdrawn-slots h queue remote = tt
 
 no-credit : (p : RxPolicy) (t : Bool) (len : ℕ) → (p .delayed ≡ true → len ≡ 0) → cond t (cond (p .delayed) len 0) 0 + 0 ≡ 0
 no-credit p t len s =
     let e : cond (p .delayed) len 0 ≡ 0 = by-test (p .delayed) (λ d. cond-true (p .delayed) len 0 d ∙ s d) (λ d. cond-false (p .delayed) len 0 d) in
     by-test t (λ u. let z = cond-true t (cond (p .delayed) len 0) 0 u in omega arith) (λ u. let z = cond-false t (cond (p .delayed) len 0) 0 u in omega arith)
 
-module _ (p : RxPolicy) (ss : List ChannelSlot) (h : Header) (opens : List PendingOpen) (payload store : List ℕ) (d : Dispatched) where
+module _ (p : RxPolicy) (ss : List ChannelSlot) (h : Header) (queue : List QueuedOpen) (payload store : List ℕ) (d : Dispatched) where
   same-pushed : (remote : RemoteId) (o : PushOutcome) (r : Pushed) → NoSlot (o .changes) → No ≡ faultOf (d .step .result) → Same p ss d (pushedBy h store d remote o r)
   unfolding pushedBy
   same-pushed remote o (Queued more) e f = record { slots = more-changes ss (d .step .changes) (o .changes) e; rx = refl; fault = f; credit = λ l. refl }
   same-pushed remote o Full e f = record { slots = refl; rx = refl; fault = f; credit = λ l. refl }
 
-  same-by : (o : DispatchOutcome) → o ≡ d .step .result → (p .delayed ≡ true → acksFor o ≡ 0) → Same p ss d (actedBy h opens payload store d o)
+  same-by : (o : DispatchOutcome) → o ≡ d .step .result → (p .delayed ≡ true → acksFor o ≡ 0) → Same p ss d (actedBy h queue payload store d o)
   unfolding actedBy
   same-by (AckWrite i ids len) e s =
       record { slots = refl; rx = refl; fault = ap faultOf e; credit = λ l. no-credit p (eqb (ids .local .0) l) len s }
@@ -218,9 +213,9 @@ module _ (p : RxPolicy) (ss : List ChannelSlot) (h : Header) (opens : List Pendi
   same-by (SlotClosed i) e s = record { slots = refl; rx = refl; fault = ap faultOf e; credit = λ l. refl }
   same-by (DataBuffered i) e s = record { slots = refl; rx = refl; fault = ap faultOf e; credit = λ l. refl }
   same-by (IncomingOpen remote credit) e s =
-      same-pushed remote (pushed h opens remote credit payload store) (pushed h opens remote credit payload store .result) (pushed-slots h opens remote credit payload store) (ap faultOf e)
-  same-by (CancelPendingOpen remote) e s =
-      record { slots = more-changes ss (d .step .changes) (withdrawal h opens remote .changes) (withdrawn-slots h opens remote); rx = refl; fault = ap faultOf e; credit = λ l. refl }
+      same-pushed remote (pushed h queue remote credit payload store) (pushed h queue remote credit payload store .result) (pushed-slots h queue remote credit payload store) (ap faultOf e)
+  same-by (CancelQueuedOpen remote) e s =
+      record { slots = more-changes ss (d .step .changes) (withdrawal h queue remote .changes) (withdrawn-slots h queue remote); rx = refl; fault = ap faultOf e; credit = λ l. refl }
   same-by (StrayReady ids) e s = record { slots = refl; rx = refl; fault = ap faultOf e; credit = λ l. refl }
   same-by (ChannelFault i ids opening f) e s = record { slots = refl; rx = refl; fault = ap faultOf e; credit = λ l. refl }
   same-by Unmatched e s = record { slots = refl; rx = refl; fault = ap faultOf e; credit = λ l. refl }
@@ -236,17 +231,17 @@ endsOf n ss i k =
     isClose (k .command)
     && cond (eqb (k .arg1) 0) (not (eqb (k .arg0) 0) && eqb (placeOf (Remote (record { 0 = k .arg0 })) n ss) i) (eqb (k .arg1) (slotIn ss i .local .0))
 
-module _ (h : Header) (ss : List ChannelSlot) (opens : List PendingOpen) (rx store : List ℕ) (k : Packet) (payload : List ℕ) where
+module _ (h : Header) (ss : List ChannelSlot) (queue : List QueuedOpen) (rx store : List ℕ) (k : Packet) (payload : List ℕ) where
   abbrev pol : RxPolicy
   pol = policyOf (h .negotiated)
 
   abbrev acted : Acted
-  acted = actOn h ss opens rx store k payload
+  acted = actOn h ss queue rx store k payload
 
   same : Same pol ss (tableOf h ss rx k payload) acted
   unfolding actOn tableOf dispatchOf
   same =
-      same-by pol ss h opens payload store (tableOf h ss rx k payload) (tableOf h ss rx k payload .step .result) refl
+      same-by pol ss h queue payload store (tableOf h ss rx k payload) (tableOf h ss rx k payload .step .result) refl
       (λ d. silent-route pol (h .negotiated .config .channels) ss (k .command) (k .arg0) (k .arg1) payload rx d)
 
   -- the fault is the table's
@@ -280,22 +275,17 @@ unfolding closedAt
 faultless-closed f n ss other e = pick Faultless (ltb f n) (λ t. refl) (λ t. e)
 
 faultless-route : (p : RxPolicy) (n : ℕ) (ss : List ChannelSlot) (c : Command) (a l : ℕ) (payload rx : List ℕ) → isClose c ≡ true → Faultless (routeOf p n ss c a l payload rx .step)
-unfolding routeOf isClose closeOf isThe wordOf lettersOf numOf
-faultless-route p n ss Connect a l payload rx e = absurd (true≢false (sym e))
-faultless-route p n ss Auth a l payload rx e = absurd (true≢false (sym e))
-faultless-route p n ss StartTls a l payload rx e = absurd (true≢false (sym e))
-faultless-route p n ss Open a l payload rx e = absurd (true≢false (sym e))
-faultless-route p n ss Close a l payload rx e =
-    pick Faultless (eqb l 0) (λ t. faultless-closed (remotePlace n ss (record { 0 = a })) n ss (CancelPendingOpen (record { 0 = a })) refl)
-    (λ t. faultless-closed (placeOf (Local (record { 0 = l })) n ss) n ss Unmatched refl)
-faultless-route p n ss Write a l payload rx e = absurd (true≢false (sym e))
-faultless-route p n ss Ready a l payload rx e = absurd (true≢false (sym e))
-faultless-route p n ss Sync a l payload rx e = absurd (true≢false (sym e))
+unfolding isClose closeOf isThe wordOf lettersOf numOf
+faultless-route p n ss c a l payload rx =
+    by-route p n ss a l payload rx (λ c d. isClose c ≡ true → Faultless (d .step)) (λ c h e. refl) (λ e. refl)
+    (λ e. pick Faultless (eqb l 0) (λ t. faultless-closed (remotePlace n ss (record { 0 = a })) n ss (CancelQueuedOpen (record { 0 = a })) refl)
+    (λ t. faultless-closed (placeOf (Local (record { 0 = l })) n ss) n ss Unmatched refl))
+    (λ e. absurd (true≢false (sym e))) (λ e. absurd (true≢false (sym e))) c
 
-pub close-fault : (h : Header) (ss : List ChannelSlot) (opens : List PendingOpen) (rx store : List ℕ) (k : Packet) (payload : List ℕ) → isClose (k .command) ≡ true → actOn h ss opens rx store k payload .fault ≡ No
+pub close-fault : (h : Header) (ss : List ChannelSlot) (queue : List QueuedOpen) (rx store : List ℕ) (k : Packet) (payload : List ℕ) → isClose (k .command) ≡ true → actOn h ss queue rx store k payload .fault ≡ No
 unfolding tableOf dispatchOf
-close-fault h ss opens rx store k payload e =
-    same h ss opens rx store k payload .fault ∙ faultless-route (policyOf (h .negotiated)) (h .negotiated .config .channels) ss (k .command) (k .arg0) (k .arg1) payload rx e
+close-fault h ss queue rx store k payload e =
+    same h ss queue rx store k payload .fault ∙ faultless-route (policyOf (h .negotiated)) (h .negotiated .config .channels) ss (k .command) (k .arg0) (k .arg1) payload rx e
 
 -- ---- the receive store keeps its length
 
@@ -304,9 +294,9 @@ module _ (p : RxPolicy) (n : ℕ) (ss : List ChannelSlot) (rx : List ℕ) (ok : 
       → length (wroteBy p f (slotIn ss f) remote payload rx t d .rx) ≡ length rx
   unfolding wroteBy
   wrote-length f remote t (Now len) h sound (buffers e k) =
-      length-buffered rx (p .«rx_cap») f (slotIn ss f) payload (share-in f n (2 * p .«rx_cap») (length rx) h (ok .shares)) (room-for (slotIn ss f) p (length payload) sound k)
+      length-buffered rx (p .«rx_cap») f (slotIn ss f .head) (slotIn ss f .buffered) payload (share-in f n (2 * p .«rx_cap») (length rx) h (ok .shares)) (room-for (slotIn ss f) p (length payload) sound k)
   wrote-length f remote t Hold h sound (buffers e k) =
-      length-buffered rx (p .«rx_cap») f (slotIn ss f) payload (share-in f n (2 * p .«rx_cap») (length rx) h (ok .shares)) (room-for (slotIn ss f) p (length payload) sound k)
+      length-buffered rx (p .«rx_cap») f (slotIn ss f .head) (slotIn ss f .buffered) payload (share-in f n (2 * p .«rx_cap») (length rx) h (ok .shares)) (room-for (slotIn ss f) p (length payload) sound k)
   wrote-length f remote t (Now len) h sound (overflows e k) = absurd (true≢false (ap isTaken e))
   wrote-length f remote t Hold h sound (overflows e k) = absurd (true≢false (ap isTaken e))
   wrote-length f remote t Overflow h sound x = refl
@@ -325,21 +315,14 @@ module _ (p : RxPolicy) (n : ℕ) (ss : List ChannelSlot) (rx : List ℕ) (ok : 
       (λ t. refl)
 
   route-length : (c : Command) (a l : ℕ) → length (routeOf p n ss c a l payload rx .rx) ≡ length rx
-  unfolding routeOf
-  route-length Connect a l = refl
-  route-length Auth a l = refl
-  route-length StartTls a l = refl
-  route-length Open a l = refl
-  route-length Close a l = refl
-  route-length Write a l = write-length (record { 0 = a }) (record { 0 = l })
-  route-length Ready a l = refl
-  route-length Sync a l = refl
+  route-length c a l =
+      by-route p n ss a l payload rx (λ c d. length (d .rx) ≡ length rx) (λ c h. refl) refl refl (write-length (record { 0 = a }) (record { 0 = l })) refl c
 
-module _ (h : Header) (ss : List ChannelSlot) (opens : List PendingOpen) (rx store : List ℕ) (k : Packet) (payload : List ℕ) (ok : TableOk (policyOf (h .negotiated)) (h .negotiated .config .channels) ss rx) where
-  pub acted-length : length (actOn h ss opens rx store k payload .rx) ≡ length rx
+module _ (h : Header) (ss : List ChannelSlot) (queue : List QueuedOpen) (rx store : List ℕ) (k : Packet) (payload : List ℕ) (ok : TableOk (policyOf (h .negotiated)) (h .negotiated .config .channels) ss rx) where
+  pub acted-length : length (actOn h ss queue rx store k payload .rx) ≡ length rx
   unfolding tableOf dispatchOf
   acted-length =
-      ap length (same h ss opens rx store k payload .rx)
+      ap length (same h ss queue rx store k payload .rx)
       ∙ route-length (policyOf (h .negotiated)) (h .negotiated .config .channels) ss rx ok payload (k .command) (k .arg0) (k .arg1)
 
 -- ---- what stays of a slot
@@ -422,8 +405,8 @@ module _ (p : RxPolicy) (s : ChannelSlot) (q payload : List ℕ) (mine ends : Bo
 
 -- what an answer tells of a WRTE of the slot's own: not refused where it was taken, 11 where it did not fit
 pub record Tells (mine : Bool) (fault : Failed) (a : Answer) : Type 0 where
-  pub taken : mine ≡ true → fault ≡ No → isRefused (numberOf a) ≡ false
-  pub over : mine ≡ true → fault ≡ By RxOverflow → (isRefused (numberOf a) ≡ true) × (eqb (numberOf a) 11 ≡ true)
+  pub taken : mine ≡ true → fault ≡ No → isRefused (answerNumber a) ≡ false
+  pub over : mine ≡ true → fault ≡ By RxOverflow → (isRefused (answerNumber a) ≡ true) × (eqb (answerNumber a) 11 ≡ true)
 
 -- the same of equal slots, runs and books
 pub good-by : (p : RxPolicy) (credit : Terms) (s t : ChannelSlot) (q r : List ℕ) (b c : Book) → t ≡ s → r ≡ q → c ≡ b → Good p credit s q b → Good p credit t r c
@@ -431,34 +414,34 @@ good-by p credit s t q r b c e f h g =
     subst (λ (x : ChannelSlot). Good p credit x r c) (sym e) (subst (λ (x : List ℕ). Good p credit s x c) (sym f) (subst (Good p credit s q) (sym h) g))
 
 module _ (d : List Book) (i before : ℕ) (m : Message) (payload : List ℕ) (a : Answer) (b : Book) where
-  frame-mine : (isWrte m && eqb (m .arg1) (b .local)) ≡ true → frameB d i before m payload (numberOf a) b ≡ wrteB before payload (numberOf a) b
+  frame-mine : (isWrte m && eqb (m .arg1) (b .local)) ≡ true → frameB d i before m payload (answerNumber a) b ≡ wrteB before payload (answerNumber a) b
   unfolding frameB
   frame-mine e = cond-true (isWrte m && eqb (m .arg1) (b .local)) _ _ e
 
-  frame-end : (isWrte m && eqb (m .arg1) (b .local)) ≡ false → closesB d i b m ≡ true → frameB d i before m payload (numberOf a) b ≡ closedB b
+  frame-end : (isWrte m && eqb (m .arg1) (b .local)) ≡ false → closesB d i b m ≡ true → frameB d i before m payload (answerNumber a) b ≡ closedB b
   unfolding frameB
   frame-end e f = cond-false (isWrte m && eqb (m .arg1) (b .local)) _ _ e ∙ cond-true (closesB d i b m) _ _ f
 
-  pub frame-none : (isWrte m && eqb (m .arg1) (b .local)) ≡ false → closesB d i b m ≡ false → frameB d i before m payload (numberOf a) b ≡ b
+  pub frame-none : (isWrte m && eqb (m .arg1) (b .local)) ≡ false → closesB d i b m ≡ false → frameB d i before m payload (answerNumber a) b ≡ b
   unfolding frameB
   frame-none e f = cond-false (isWrte m && eqb (m .arg1) (b .local)) _ _ e ∙ cond-false (closesB d i b m) _ _ f
 
 module _ (p : RxPolicy) (credit : Terms) (most : ℕ) (lim : Limits p credit most) (s : ChannelSlot) (q : List ℕ) (b : Book) (g : Good p credit s q b) (o : isOpening (s .state) ≡ false)
     (payload : List ℕ) (small : length payload ≤ most) (before : ℕ) (early : before ≤ b .acked) (d : List Book) (i : ℕ) (m : Message) (a : Answer) where
   -- a WRTE that was taken
-  wrte-taken : heldOf s + length payload ≤ p .«rx_cap» → isRefused (numberOf a) ≡ false → Good p credit (wroteOf s p (length payload) .slot) (q ++ payload) (wrteB before payload (numberOf a) b)
+  wrte-taken : heldOf s + length payload ≤ p .«rx_cap» → isRefused (answerNumber a) ≡ false → Good p credit (wroteOf s p (length payload) .slot) (q ++ payload) (wrteB before payload (answerNumber a) b)
   wrte-taken h e =
-      good-by p credit _ _ _ _ _ _ refl refl (cond-false (isRefused (numberOf a)) _ _ e) (accept-good p credit s q b g before payload (lim .small) h o)
+      good-by p credit _ _ _ _ _ _ refl refl (cond-false (isRefused (answerNumber a)) _ _ e) (accept-good p credit s q b g before payload (lim .small) h o)
 
-  wrte-over : p .«rx_cap» < heldOf s + length payload → isRefused (numberOf a) ≡ true → eqb (numberOf a) 11 ≡ true → Good p credit s q (wrteB before payload (numberOf a) b)
+  wrte-over : p .«rx_cap» < heldOf s + length payload → isRefused (answerNumber a) ≡ true → eqb (answerNumber a) 11 ≡ true → Good p credit s q (wrteB before payload (answerNumber a) b)
   wrte-over h e f =
       good-by p credit s s q q (overB true (sentB before (length payload) b)) _ refl refl
-      (cond-true (isRefused (numberOf a)) _ _ e ∙ ap (λ (x : Bool). overB x (sentB before (length payload) b)) f)
+      (cond-true (isRefused (answerNumber a)) _ _ e ∙ ap (λ (x : Bool). overB x (sentB before (length payload) b)) f)
       (refuse-good p credit s q b g before (length payload) most lim early small h)
 
   -- the book of a slot that a packet was dispatched to, or not
   pub at-good : (mine ends : Bool) (t : ChannelSlot) (r : List ℕ) (fault : Failed) → At p s q payload mine ends t r fault → Tells mine fault a
-      → (isWrte m && eqb (m .arg1) (b .local)) ≡ mine → closesB d i b m ≡ ends → Good p credit t r (frameB d i before m payload (numberOf a) b)
+      → (isWrte m && eqb (m .arg1) (b .local)) ≡ mine → closesB d i b m ≡ ends → Good p credit t r (frameB d i before m payload (answerNumber a) b)
   at-good mine ends t r fault (apart e1 e2 e3 e4) tells x y =
       good-by p credit s t q r b _ e3 e4 (frame-none d i before m payload a b (x ∙ e1) (y ∙ e2)) g
   at-good mine ends t r fault (wrote e1 h e3 e4 e5) tells x y =

@@ -11,7 +11,7 @@ use Rattle.le.specs.Le.{part}
 use lib.Seq.{take-take}
 use Rattle.le.proofs.Parts.{by-test, length-part}
 use Rattle.rx_store.proofs.Laws.{part-taken}
-use Rattle.table.proofs.DispatchLaws.{share-in}
+use Rattle.rx_store.proofs.ShareLaws.{share-in}
 use Rattle.config.specs.declared.negotiated.RxPolicy.{RxPolicy}
 use Rattle.config.proofs.Laws.{and-true}
 use Rattle.protocol.specs.declared.packet.Packet.{Packet}
@@ -32,7 +32,7 @@ use Rattle.slot.specs.declared.Taken.the-variants.{Data, Nothing as NothingTake
 use Rattle.slot.specs.declared.ids.LocalId.{LocalId}
 use Rattle.slot.specs.Ids.{closedBy}
 use Rattle.slot.specs.Slot.{budgetOf, spentOf, readyOf, closedSlot, deliveredOf, emptySlot, settledOf, tookOf, takenOf, takeLen, hasData, isClosed, errorOf, heldOf, SlotOk}
-use Rattle.slot.proofs.Stays.{Stays}
+use Rattle.slot.proofs.Stays.{Stays, settled-state, settled-stays}
 use Rattle.slot.proofs.Kept.{pick, settled-sound}
 use Rattle.slot.proofs.Laws.{cond-true, cond-false, take-held}
 use Rattle.state.specs.declared.Header.{Header}
@@ -41,18 +41,18 @@ use Rattle.incoming.specs.declared.Front.{Front}
 use Rattle.incoming.specs.declared.Front.the-variants.{Open as FrontOpen, Nothing as NoFront}
 use Rattle.incoming.specs.Incoming.{popped}
 use Rattle.connection.specs.Frames.{Frame, closeFrame, writeFrame, framesBytes, Sent}
-use Rattle.table.specs.Dispatch.{slotIn, shareOf}
+use Rattle.table.specs.Table.{slotIn, first, wantedBy, placeOf}
+use Rattle.rx_store.specs.RxStore.{shareOf, frontOf}
 use Rattle.connection.specs.declared.Answer.{Answer}
 use Rattle.connection.specs.declared.Answer.the-variants.{Done, Waiting, Nothing, Settled as SettledIs, Read, Written, Front as FrontIs, Refused}
 use Rattle.connection.specs.declared.Refusal.the-variants.{ChannelClosed, OutShort, ShortReadyPayload as ReadyShort}
 use Rattle.connection.specs.declared.Received.{Received}
 use Rattle.connection.specs.declared.Received.the-variants.{Packet as PacketIs}
 use Rattle.connection.specs.Act.{Acted, actOn}
-use Rattle.connection.specs.Answer.{refusalNumber, numberOf}
+use Rattle.connection.specs.Answer.{refusalNumber, answerNumber}
 use Rattle.table.specs.declared.ChannelId.{ChannelId}
 use Rattle.table.specs.declared.Want.the-variants.{Remote}
-use Rattle.table.specs.Table.{first, wantedBy, placeOf}
-use Rattle.connection.specs.Calls.{untouched, sendLen, sendSome, sendBy, sendAgain, writeReadied, writeActed, writeAct, writeBy, writeFirst, writeOn, writeStep, faultRefusal, readDirect, readActed, readSettled, reread, isDirect, readBy, readTaken, readFirst, readStep, idsIn, closeStep, frontBy, frontStep, errorRefusal, frontOf, takenBy, takeStep, ackFrames, settledAs, settleStep, isThere, slotFor, Lent, Outcome, Work, begun, then, thenActed, ends, dropped, policy, bodyOf, frameLen, receivedOf, unlessFault, dispatchBy, dispatchStep}
+use Rattle.connection.specs.Calls.{untouched, sendLen, sendSome, sendBy, sendAgain, writeReadied, writeActed, writeAct, writeBy, writeFirst, writeOn, writeStep, faultRefusal, readDirect, readActed, readSettled, reread, isDirect, readBy, readTaken, readFirst, readStep, idsIn, closeStep, takeFrontBy, takeFrontStep, errorRefusal, takenBy, takeStep, ackFrames, settledAs, settleStep, isThere, slotFor, Lent, Outcome, Work, begun, then, thenActed, ends, dropped, policy, bodyOf, frameLen, receivedOf, unlessFault, dispatchBy, dispatchStep}
 use Rattle.history.specs.Book.{writeB, isClse, hasRemote, endsOther, ownEnd, acceptedB, sentB, closedB, damagedB, isWrte, payloadAt, readB, readUsedB, isRefused, handedB, isEarly, settleB, isOn, Book, ackedB, acksOf, packetB, frameB, headerAt, never}
 use Rattle.history.specs.Demand3.{runOf}
 use Rattle.history.proofs.Acts.{frame-none, at-keeps, at-stays, at-named, at-sound, at-fits, at-live, acted-length, acks-own, acks-other, acksIn, acks-append, mineOf, endsOf, acted-acks, acted-at, Tells, good-by}
@@ -60,7 +60,7 @@ use Rattle.history.proofs.Good.{Terms, settled-takes, ready-good, spent
 use Rattle.history.proofs.Packets.{Stops, Got, stopped, packet, got, Marked, marked-set, reads-write, reads-close, reads-arg1, reads-payload, ready-no-write, write-no-close, reads-end, body-length, body-small}
 use Rattle.connection.proofs.Slots.{slots-by, slots-append, slots-length, slotsBy, slot-set-same, slot-set-other}
 use Rattle.history.proofs.Places.{closed-run, ready-run, At, SameRun, TableOk}
-use Rattle.history.proofs.Steps.{fault-apart, unless-is, waiting-four, spent-run, late-error, late-unless, four-error, over-told, table-set, delivered-same, damaged-good, nil-of, Alike, settled-alike, settled-run, acted-good, saw, sawOf, stop-good, packet-good, not-four, tells-fault, Fine, ends-fine}
+use Rattle.history.proofs.Steps.{fault-apart, unless-is, waiting-four, spent-run, late-error, late-unless, four-error, over-told, table-set, delivered-same, damaged-good, nil-of, settled-run, acted-good, saw, sawOf, stop-good, packet-good, not-four, tells-fault, Fine, ends-fine}
 
 module _ (l : Lent) (credit : Terms) (ok : TableOk (policy l) (l .state .header .negotiated .config .channels) (l .state .slots) (l .rx))
     (lim : Limits (policy l) credit (l .state .header .negotiated .config .«max_payload»)) (i : ℕ) (there : slotIn (l .state .slots) i .filled ≡ true)
@@ -85,20 +85,20 @@ module _ (l : Lent) (credit : Terms) (ok : TableOk (policy l) (l .state .header 
   dispatch-by : (received : List ℕ) (fs : List Sent) (r : Received) → Got received (l .state .header .negotiated .config .«max_payload») r
       → acksOf (b .local) fs ≡ acksIn p (b .local) (dispatchBy l (dropped (l .state .header)) received r .frames)
       → Fine p credit ss i (dispatchBy l (dropped (l .state .header)) received r) (dispatched received fs (dispatchBy l (dropped (l .state .header)) received r))
-  unfolding dispatchBy ends numberOf
+  unfolding dispatchBy ends answerNumber
   dispatch-by received fs r (stopped a used st) e =
       let x = ends (begun (dropped (l .state .header)) l) a used [] in
       quiet-acks x fs _ e refl (ends-fine p credit ss i (begun (dropped (l .state .header)) l) a used [] _ (stop-good p credit _ lim _ _ b g books i received never a used fs [] st))
   dispatch-by received fs r (packet k sy) e =
       let h = dropped (l .state .header) in
-      let act = actOn h ss (l .state .opens) (l .rx) (l .store) k (bodyOf received k) in
+      let act = actOn h ss (l .state .queue) (l .rx) (l .store) k (bodyOf received k) in
       let w = thenActed (begun h l) act in
       let a = unlessFault (act .fault) Done in
       let x = ends w a (frameLen k) [] in
-      quiet-acks x fs _ e (acted-acks h ss (l .state .opens) (l .rx) (l .store) k (bodyOf received k) (b .local))
+      quiet-acks x fs _ e (acted-acks h ss (l .state .queue) (l .rx) (l .store) k (bodyOf received k) (b .local))
       (ends-fine p credit ss i w a (frameLen k) [] _
       (packet-good p credit _ lim _ _ b g books i received never (l .state .header .negotiated .config .«max_payload») k a fs [] _ _ sy (not-four (act .fault) Done refl) refl
-      (acted-good h ss (l .state .opens) (l .rx) (l .store) ok credit lim i there b g books mk received k sy (b .acked) (omega arith) a (tells-fault (mineOf ss i k) (act .fault) Done refl))))
+      (acted-good h ss (l .state .queue) (l .rx) (l .store) ok credit lim i there b g books mk received k sy (b .acked) (omega arith) a (tells-fault (mineOf ss i k) (act .fault) Done refl))))
 
   pub dispatch-good : (received : List ℕ) (fs : List Sent) → acksOf (b .local) fs ≡ acksIn p (b .local) (dispatchStep l received .frames)
       → Fine p credit ss i (dispatchStep l received) (dispatched received fs (dispatchStep l received))
@@ -198,16 +198,16 @@ module _ (l : Lent) (credit : Terms) (ok : TableOk (policy l) (l .state .header 
 
   settled-local : (j want : ℕ) → j ≡ i → settledOf (slotIn ss j) p want .slot .local .0 ≡ b .local
   settled-local j want e =
-      ap (λ (x : ℕ). settledOf (slotIn ss x) p want .slot .local .0) e ∙ ap (λ x. x .0) (settled-alike (slotIn ss i) p want (g .known) .local) ∙ sym (g .loc)
+      ap (λ (x : ℕ). settledOf (slotIn ss x) p want .slot .local .0) e ∙ ap (λ x. x .0) (settled-stays (slotIn ss i) p want .local) ∙ sym (g .loc)
 
   module _ (ch : ChannelId) (want : ℕ) (fs : List Sent) where
     abbrev settles-fine : Outcome → Type 0
     settles-fine x =
         acksOf (b .local) fs ≡ acksIn p (b .local) (x .frames)
-        → Fine p credit ss i x (ackedB (acksOf (b .local) fs) (cond (isOn i b ch && not (isEarly (numberOf (x .answer)))) (settleB p want b) b))
+        → Fine p credit ss i x (ackedB (acksOf (b .local) fs) (cond (isOn i b ch && not (isEarly (answerNumber (x .answer)))) (settleB p want b) b))
 
     settle-by : On ch → settles-fine (settleStep l ch want)
-    unfolding settleStep settledAs slotFor ends numberOf refusalNumber
+    unfolding settleStep settledAs slotFor ends answerNumber refusalNumber
     settle-by (this d t o) =
         subst settles-fine (sym (cond-true (isThere l ch) _ _ t))
         (λ e.
@@ -222,7 +222,7 @@ module _ (l : Lent) (credit : Terms) (ok : TableOk (policy l) (l .state .header 
         subst settles-fine (sym (cond-true (isThere l ch) _ _ t))
         (λ e.
         let r = settledOf (slotIn ss (ch .slot)) p want in
-        let a = settled-alike (slotIn ss (ch .slot)) p want (ok .known (ch .slot) f) in
+        let a = settled-stays (slotIn ss (ch .slot)) p want in
         let z = acks-other p (b .local) (r .slot) (r .ack) (λ x. ne (sym (ap (λ y. y .0) (a .local)) ∙ x)) in
         quiet-acks (settledAs l ch r) fs _ e z
         (ends-fine p credit ss i (settling r ch 0) (SettledIs (r .ack)) 0 [] _
@@ -244,7 +244,7 @@ module _ (l : Lent) (credit : Terms) (ok : TableOk (policy l) (l .state .header 
     share-long =
         length-part rx (i * (2 * p .«rx_cap»)) (2 * p .«rx_cap») (share-in i (l .state .header .negotiated .config .channels) (2 * p .«rx_cap») (length rx) (ok .below i there) (let z = ok .shares in omega arith))
 
-    front-is : frontOf rx (p .«rx_cap») i s n ≡ take n (runOf rx (p .«rx_cap») i s)
+    front-is : frontOf rx (p .«rx_cap») i (s .head) n ≡ take n (runOf rx (p .«rx_cap») i s)
     unfolding frontOf runOf part
     front-is = sym (take-take n (s .buffered) (drop (s .head) (shareOf rx (p .«rx_cap») i)) h)
 
@@ -254,7 +254,7 @@ module _ (l : Lent) (credit : Terms) (ok : TableOk (policy l) (l .state .header 
 
     -- taken, beside the book
     taken-slot : (c : Book) → Good p credit s (runOf rx (p .«rx_cap») i s) c → (credit .reads ≡ true → p .delayed ≡ true → c .closed ≡ false → n ≤ s .settled)
-        → Good p credit (tookOf s n) (runOf rx (p .«rx_cap») i (tookOf s n)) (handedB (frontOf rx (p .«rx_cap») i s n) c)
+        → Good p credit (tookOf s n) (runOf rx (p .«rx_cap») i (tookOf s n)) (handedB (frontOf rx (p .«rx_cap») i (s .head) n) c)
     taken-slot c f most = good-by p credit _ _ _ _ _ _ refl rest-is (ap (λ (x : List ℕ). handedB x c) front-is) (took-good p credit s _ c f n most)
 
   -- the channel at this place, as a caller names it
@@ -278,9 +278,9 @@ module _ (l : Lent) (credit : Terms) (ok : TableOk (policy l) (l .state .header 
         let sound = ok .sound i there in
         let book : (bs : List ℕ) → cond (isOn i b (me local)) (handedB bs b) b ≡ handedB bs b = λ bs. cond-true (isOn i b (me local)) _ _ o in
         pick P (hasData s)
-        (λ d. ends-fine p credit ss i (then w (slotTo i (tookOf s n) ∷ []) []) (Read n) 0 (frontOf (l .rx) (p .«rx_cap») i s n) _
+        (λ d. ends-fine p credit ss i (then w (slotTo i (tookOf s n) ∷ []) []) (Read n) 0 (frontOf (l .rx) (p .«rx_cap») i (s .head) n) _
         (good-this i (tookOf s n) (l .rx) _ refl
-        (good-by p credit _ _ _ _ _ _ refl refl (book (frontOf (l .rx) (p .«rx_cap») i s n)) (taken-slot (l .rx) refl s sound n (take-held s room (sound .settled-buffered)) b g (λ t d c. absurd (only t))))))
+        (good-by p credit _ _ _ _ _ _ refl refl (book (frontOf (l .rx) (p .«rx_cap») i (s .head) n)) (taken-slot (l .rx) refl s sound n (take-held s room (sound .settled-buffered)) b g (λ t d c. absurd (only t))))))
         (λ d. pick P (isClosed (s .state))
         (λ c. ends-fine p credit ss i w (Refused (errorRefusal (errorOf (s .failed)))) 0 [] _ (good-by p credit _ _ _ _ _ _ refl refl (book []) (handed-none p credit _ _ b g)))
         (λ c. ends-fine p credit ss i w Nothing 0 [] _ (good-by p credit _ _ _ _ _ _ refl refl (book []) (handed-none p credit _ _ b g))))
@@ -288,7 +288,7 @@ module _ (l : Lent) (credit : Terms) (ok : TableOk (policy l) (l .state .header 
     take-else : (ch : ChannelId) (s : ChannelSlot) (t : Taken) → (i ≡ ch .slot → ⊥) → isOn i b ch ≡ false → takes-fine ch (takenBy l ch s (begun (dropped (l .state .header)) l) t)
     unfolding takenBy ends
     take-else ch s (Data t n) d o =
-        ends-fine p credit ss i (then (begun (dropped (l .state .header)) l) (slotTo (ch .slot) t ∷ []) []) (Read n) 0 (frontOf (l .rx) (p .«rx_cap») (ch .slot) s n) _
+        ends-fine p credit ss i (then (begun (dropped (l .state .header)) l) (slotTo (ch .slot) t ∷ []) []) (Read n) 0 (frontOf (l .rx) (p .«rx_cap») (ch .slot) (s .head) n) _
         (good-other (ch .slot) t (l .rx) _ d (good-by p credit _ _ _ _ b _ refl refl (cond-false (isOn i b ch) _ _ o) g))
     take-else ch s NothingTaken d o = none-fine Nothing _ (good-by p credit _ _ _ _ b _ refl refl (cond-false (isOn i b ch) _ _ o) g)
     take-else ch s (ClosedTaken e) d o = none-fine (Refused (errorRefusal e)) _ (good-by p credit _ _ _ _ b _ refl refl (cond-false (isOn i b ch) _ _ o) g)
@@ -313,10 +313,10 @@ module _ (l : Lent) (credit : Terms) (ok : TableOk (policy l) (l .state .header 
   closing ch = then (begun (dropped (l .state .header)) l) (slotTo (ch .slot) emptySlot ∷ []) (closeFrame (idsIn (slotFor l ch)) ∷ [])
 
   -- on this channel: its slot is empty, and it has no book any more
-  pub close-this : (ch : ChannelId) → On ch → isOn i b ch ≡ true → (slotIn (slotsBy ss (closeStep l ch .changes)) i .filled ≡ false) × (isRefused (numberOf (closeStep l ch .answer)) ≡ false)
-  unfolding closeStep slotFor ends emptySlot numberOf
+  pub close-this : (ch : ChannelId) → On ch → isOn i b ch ≡ true → (slotIn (slotsBy ss (closeStep l ch .changes)) i .filled ≡ false) × (isRefused (answerNumber (closeStep l ch .answer)) ≡ false)
+  unfolding closeStep slotFor ends emptySlot answerNumber
   close-this ch (this d t o) _ =
-      let C : Outcome → Type 0 = λ x. (slotIn (slotsBy ss (x .changes)) i .filled ≡ false) × (isRefused (numberOf (x .answer)) ≡ false) in
+      let C : Outcome → Type 0 = λ x. (slotIn (slotsBy ss (x .changes)) i .filled ≡ false) × (isRefused (answerNumber (x .answer)) ≡ false) in
       let z = ok .size in
       let y = ok .most in
       let h = ok .below i there in
@@ -340,18 +340,18 @@ module _ (l : Lent) (credit : Terms) (ok : TableOk (policy l) (l .state .header 
 
   -- ---- take_front
 
-  front-by : (h : Header) (xs : List Change) (f : Front) → slotsBy ss xs ≡ ss → Fine p credit ss i (frontBy l h xs f) b
-  unfolding frontBy ends
+  front-by : (h : Header) (xs : List Change) (f : Front) → slotsBy ss xs ≡ ss → Fine p credit ss i (takeFrontBy l h xs f) b
+  unfolding takeFrontBy ends
   front-by h xs (FrontOpen q less) e =
       ends-fine p credit ss i (then (begun less l) xs []) (FrontIs (q .remote) (q .credit) (q .share * h .negotiated .config .«max_payload») (q .length)) 0 [] b
       (good-by p credit _ _ _ _ b b (ap (λ (x : List ChannelSlot). slotIn x i) e) (ap (λ (x : List ChannelSlot). runOf (l .rx) (p .«rx_cap») i (slotIn x i)) e) refl g)
   front-by h xs NoFront e = ends-fine p credit ss i (begun h l) Nothing 0 [] b g
 
-  pub front-call : Fine p credit ss i (frontStep l) b
-  unfolding frontStep popped
+  pub front-call : Fine p credit ss i (takeFrontStep l) b
+  unfolding takeFrontStep popped
   front-call =
       let h = dropped (l .state .header) in
-      front-by h (popped h (l .state .opens) .changes) (popped h (l .state .opens) .result)
+      front-by h (popped h (l .state .queue) .changes) (popped h (l .state .queue) .result)
       (pick (λ (x : Step Front). slotsBy ss (x .changes) ≡ ss) (eqb (h .queued) 0) (λ t. refl) (λ t. refl))
 
   -- ---- read, on this channel
@@ -369,8 +369,8 @@ module _ (l : Lent) (credit : Terms) (ok : TableOk (policy l) (l .state .header 
     abbrev B0 : Book
     B0 = settleB p room b
 
-    alike1 : Alike (slotIn ss i) s1
-    alike1 = settled-alike (slotIn ss i) p room (g .known)
+    alike1 : Stays (slotIn ss i) s1
+    alike1 = settled-stays (slotIn ss i) p room
 
     sound1 : SlotOk s1 (p .«rx_cap»)
     sound1 = settled-sound (slotIn ss i) p room (p .«rx_cap») (ok .sound i there)
@@ -392,18 +392,18 @@ module _ (l : Lent) (credit : Terms) (ok : TableOk (policy l) (l .state .header 
     reads-fine x = acksOf (b .local) fs ≡ acksIn p (b .local) (x .frames) → Fine p credit ss i x (ackedB (acksOf (b .local) fs) (readB p books i room received (sawOf x fs) b))
 
     -- the book of a read that used nothing
-    unused-book : (a : Answer) (bs : List ℕ) → isEarly (numberOf a) ≡ false → readB p books i room received (saw a 0 fs bs) b ≡ handedB bs B0
+    unused-book : (a : Answer) (bs : List ℕ) → isEarly (answerNumber a) ≡ false → readB p books i room received (saw a 0 fs bs) b ≡ handedB bs B0
     unfolding readB
-    unused-book a bs e = cond-false (isEarly (numberOf a)) _ _ e
+    unused-book a bs e = cond-false (isEarly (answerNumber a)) _ _ e
 
     -- and of one that used a packet
-    used-book : (a : Answer) (used : ℕ) (bs : List ℕ) → isEarly (numberOf a) ≡ false → (used ≡ 0 → ⊥)
+    used-book : (a : Answer) (used : ℕ) (bs : List ℕ) → isEarly (answerNumber a) ≡ false → (used ≡ 0 → ⊥)
         → readB p books i room received (saw a used fs bs) b ≡ readUsedB p books i (b .acked) room received (saw a used fs bs) B0
     unfolding readB
-    used-book a used bs e ne = cond-false (isEarly (numberOf a)) _ _ e ∙ cond-false (eqb used 0) _ _ (ne-eqb used 0 ne)
+    used-book a used bs e ne = cond-false (isEarly (answerNumber a)) _ _ e ∙ cond-false (eqb used 0) _ _ (ne-eqb used 0 ne)
 
     -- a slot stored at the end of a read that used nothing
-    unused-fine : (t : ChannelSlot) (a : Answer) (bs : List ℕ) → isEarly (numberOf a) ≡ false → Good p credit t (runOf (l .rx) (p .«rx_cap») i t) (handedB bs (ackedB (carried p (r1 .ack)) B0))
+    unused-fine : (t : ChannelSlot) (a : Answer) (bs : List ℕ) → isEarly (answerNumber a) ≡ false → Good p credit t (runOf (l .rx) (p .«rx_cap») i t) (handedB bs (ackedB (carried p (r1 .ack)) B0))
         → reads-fine (ends (then w1 (slotTo i t ∷ []) []) a 0 bs)
     unfolding ends
     unused-fine t a bs late f e =
@@ -412,21 +412,21 @@ module _ (l : Lent) (credit : Terms) (ok : TableOk (policy l) (l .state .header 
         (good-this i t (l .rx) _ refl (good-by p credit _ _ _ _ _ _ refl refl (ap (ackedB (acksOf (b .local) fs)) (unused-book a bs late) ∙ ap (λ (x : ℕ). handedB bs (ackedB x B0)) k) f))
 
     -- data at once
-    read-data : (n : ℕ) → n ≡ takeLen s1 room → reads-fine (ends (then w1 (slotTo i (tookOf s1 n) ∷ []) []) (Read n) 0 (frontOf (l .rx) (p .«rx_cap») i s1 n))
-    unfolding numberOf
+    read-data : (n : ℕ) → n ≡ takeLen s1 room → reads-fine (ends (then w1 (slotTo i (tookOf s1 n) ∷ []) []) (Read n) 0 (frontOf (l .rx) (p .«rx_cap») i (s1 .head) n))
+    unfolding answerNumber
     read-data n e =
-        unused-fine (tookOf s1 n) (Read n) (frontOf (l .rx) (p .«rx_cap») i s1 n) refl
+        unused-fine (tookOf s1 n) (Read n) (frontOf (l .rx) (p .«rx_cap») i (s1 .head) n) refl
         (taken-slot (l .rx) refl s1 sound1 n (subst (λ (x : ℕ). x ≤ s1 .buffered) (sym e) (take-held s1 room (sound1 .settled-buffered))) _ good1
         (λ t d c. subst (λ (x : ℕ). x ≤ s1 .settled) (sym e) (settled-takes p credit (slotIn ss i) _ b room g d c)))
 
     -- an answer with nothing handed over
-    read-plain : (a : Answer) → isEarly (numberOf a) ≡ false → reads-fine (ends (then w1 (slotTo i s1 ∷ []) []) a 0 [])
+    read-plain : (a : Answer) → isEarly (answerNumber a) ≡ false → reads-fine (ends (then w1 (slotTo i s1 ∷ []) []) a 0 [])
     read-plain a late = unused-fine s1 a [] late (handed-none p credit s1 q1 _ good1)
 
-    damaged-book : (a : Answer) (used : ℕ) → eqb (numberOf a) 4 ≡ true
+    damaged-book : (a : Answer) (used : ℕ) → eqb (answerNumber a) 4 ≡ true
         → readUsedB p books i (b .acked) room received (saw a used fs []) B0 ≡ damagedB (b .acked) (headerAt received) (payloadAt received used) B0
     unfolding readUsedB
-    damaged-book a used u = cond-true (eqb (numberOf a) 4) _ _ u
+    damaged-book a used u = cond-true (eqb (answerNumber a) 4) _ _ u
 
     -- with nothing buffered, a packet is looked at
     module _ (nodata : hasData s1 ≡ false) (live : isClosed (s1 .state) ≡ false) where
@@ -458,7 +458,7 @@ module _ (l : Lent) (credit : Terms) (ok : TableOk (policy l) (l .state .header 
           subst (λ (x : ℕ). Fine p credit ss i (ends (then w1 (slotTo i s1 ∷ []) []) a x []) (ackedB (acksOf (b .local) fs) (readB p books i room received (sawOf (ends (then w1 (slotTo i s1 ∷ []) []) a x []) fs) b))) (sym z)
           (read-plain a (st .late) e))
           (λ t. let ne = eqb-false used 0 t in
-          by-test (eqb (numberOf a) 4)
+          by-test (eqb (answerNumber a) 4)
           (λ u. ends-fine p credit ss i (then w1 (slotTo i s1 ∷ []) []) a used [] _
           (good-this i s1 (l .rx) _ refl
           (good-by p credit _ _ _ _ _ _ refl refl (ap (ackedB (acksOf (b .local) fs)) (used-book a used [] (st .late) ne ∙ damaged-book a used u))
@@ -494,7 +494,7 @@ module _ (l : Lent) (credit : Terms) (ok : TableOk (policy l) (l .state .header 
 
         direct-book : isDirect s1 room k ≡ true → readUsedB p books i (b .acked) room received (saw (Read (length body)) (frameLen k) fs body) B0
             ≡ handedB body (acceptedB body (sentB (b .acked) (length body) B0))
-        unfolding readUsedB numberOf
+        unfolding readUsedB answerNumber
         direct-book t =
             cond-true (isWrte m && eqb (m .arg1) (b .local) && leb (frameLen k - 24) room) _ _ (direct-test ∙ t)
             ∙ ap (λ (x : List ℕ). handedB body (acceptedB x (sentB (b .acked) (length x) B0))) (reads-payload received limit k sy)
@@ -509,7 +509,7 @@ module _ (l : Lent) (credit : Terms) (ok : TableOk (policy l) (l .state .header 
             (deliver-good p credit s1 q1 B0 good0 (b .acked) body nil1))
 
         read-direct : isDirect s1 room k ≡ true → reads-fine (readDirect (me local) (frameLen k) w1 body delivered)
-        unfolding readDirect ends numberOf
+        unfolding readDirect ends answerNumber
         read-direct t e =
             let c : acksOf (b .local) fs ≡ carried p (delivered .ack) =
             e ∙ acks2 (ackFrames (delivered .slot) (delivered .ack))
@@ -523,12 +523,12 @@ module _ (l : Lent) (credit : Terms) (ok : TableOk (policy l) (l .state .header 
         end-test = reads-end received limit k sy (b .local) (b .remote) (idsIn s1) (sym local1) (g .rem ∙ sym (ap (λ x. x .0) (alike1 .remote)))
 
         end-book : isDirect s1 room k ≡ false → closedBy (idsIn s1) k ≡ true → readUsedB p books i (b .acked) room received (saw (Refused ChannelClosed) (frameLen k) fs []) B0 ≡ closedB B0
-        unfolding readUsedB numberOf refusalNumber
+        unfolding readUsedB answerNumber refusalNumber
         end-book t u =
             cond-false (isWrte m && eqb (m .arg1) (b .local) && leb (frameLen k - 24) room) _ _ (direct-test ∙ t) ∙ cond-true (ownEnd (b .local) (b .remote) m) _ _ (end-test ∙ u)
 
         read-end : isDirect s1 room k ≡ false → closedBy (idsIn s1) k ≡ true → reads-fine (ends (then w1 (slotTo i (closedSlot s1) ∷ []) []) (Refused ChannelClosed) (frameLen k) [])
-        unfolding ends numberOf refusalNumber runOf closedSlot
+        unfolding ends answerNumber refusalNumber runOf closedSlot
         read-end t u e =
             ends-fine p credit ss i (then w1 (slotTo i (closedSlot s1) ∷ []) []) (Refused ChannelClosed) (frameLen k) [] _
             (good-this i (closedSlot s1) (l .rx) _ refl
@@ -552,7 +552,7 @@ module _ (l : Lent) (credit : Terms) (ok : TableOk (policy l) (l .state .header 
         marked1 = marked-set books ss i s1 mk (alike1 .filled) (alike1 .remote)
 
         abbrev act : Acted
-        act = actOn (dropped (l .state .header)) ss1 (l .state .opens) (l .rx) (l .store) k body
+        act = actOn (dropped (l .state .header)) ss1 (l .state .queue) (l .rx) (l .store) k body
 
         abbrev ts : List ChannelSlot
         ts = slotsBy ss1 (act .changes)
@@ -561,16 +561,16 @@ module _ (l : Lent) (credit : Terms) (ok : TableOk (policy l) (l .state .header 
         good-in = good-by p credit s1 _ q1 _ B0 B0 u1 (ap (runOf (l .rx) (p .«rx_cap») i) u1) refl good0
 
         at2 : At p (slotIn ss1 i) (runOf (l .rx) (p .«rx_cap») i (slotIn ss1 i)) body (mineOf ss1 i k) (endsOf (l .state .header .negotiated .config .channels) ss1 i k) (slotIn ts i) (runOf (act .rx) (p .«rx_cap») i (slotIn ts i)) (act .fault)
-        at2 = acted-at (dropped (l .state .header)) ss1 (l .state .opens) (l .rx) (l .store) k body ok1 i there1
+        at2 = acted-at (dropped (l .state .header)) ss1 (l .state .queue) (l .rx) (l .store) k body ok1 i there1
 
-        good2 : (a : Answer) → Tells (mineOf ss1 i k) (act .fault) a → Good p credit (slotIn ts i) (runOf (act .rx) (p .«rx_cap») i (slotIn ts i)) (frameB books i (b .acked) m body (numberOf a) B0)
-        good2 a tells = acted-good (dropped (l .state .header)) ss1 (l .state .opens) (l .rx) (l .store) ok1 credit lim i there1 B0 good-in books marked1 received k sy (b .acked) (omega arith) a tells
+        good2 : (a : Answer) → Tells (mineOf ss1 i k) (act .fault) a → Good p credit (slotIn ts i) (runOf (act .rx) (p .«rx_cap») i (slotIn ts i)) (frameB books i (b .acked) m body (answerNumber a) B0)
+        good2 a tells = acted-good (dropped (l .state .header)) ss1 (l .state .queue) (l .rx) (l .store) ok1 credit lim i there1 B0 good-in books marked1 received k sy (b .acked) (omega arith) a tells
 
         sound2 : SlotOk (slotIn ts i) (p .«rx_cap»)
         sound2 = at-sound p (slotIn ss1 i) _ body (ok1 .sound i there1) _ _ _ _ _ at2
 
         length2 : length (act .rx) ≡ length (l .rx)
-        length2 = acted-length (dropped (l .state .header)) ss1 (l .state .opens) (l .rx) (l .store) k body ok1
+        length2 = acted-length (dropped (l .state .header)) ss1 (l .state .queue) (l .rx) (l .store) k body ok1
 
         abbrev r3 : Settled
         r3 = settledOf (slotIn ts i) p room
@@ -581,22 +581,22 @@ module _ (l : Lent) (credit : Terms) (ok : TableOk (policy l) (l .state .header 
             let e1 = acks-append p (b .local) ((ackFrames s1 (r1 .ack) ++ []) ++ act .frames) more in
             let e2 = acks-append p (b .local) (ackFrames s1 (r1 .ack) ++ []) (act .frames) in
             let e3 = acks2 [] in
-            let e4 = acted-acks (dropped (l .state .header)) ss1 (l .state .opens) (l .rx) (l .store) k body (b .local) in
+            let e4 = acted-acks (dropped (l .state .header)) ss1 (l .state .queue) (l .rx) (l .store) k body (b .local) in
             omega arith
 
         -- the book of it
-        acted-book : (a : Answer) (bs : List ℕ) → isDirect s1 room k ≡ false → closedBy (idsIn s1) k ≡ false → eqb (numberOf a) 4 ≡ false
-            → readUsedB p books i (b .acked) room received (saw a (frameLen k) fs bs) B0 ≡ handedB bs (settleB p room (frameB books i (b .acked) m body (numberOf a) B0))
+        acted-book : (a : Answer) (bs : List ℕ) → isDirect s1 room k ≡ false → closedBy (idsIn s1) k ≡ false → eqb (answerNumber a) 4 ≡ false
+            → readUsedB p books i (b .acked) room received (saw a (frameLen k) fs bs) B0 ≡ handedB bs (settleB p room (frameB books i (b .acked) m body (answerNumber a) B0))
         unfolding readUsedB
         acted-book a bs t u four =
-            cond-false (eqb (numberOf a) 4) _ _ four
+            cond-false (eqb (answerNumber a) 4) _ _ four
             ∙ cond-false (isWrte m && eqb (m .arg1) (b .local) && leb (frameLen k - 24) room) _ _ (direct-test ∙ t) ∙ cond-false (ownEnd (b .local) (b .remote) m) _ _ (end-test ∙ u)
-            ∙ ap (λ (x : List ℕ). handedB bs (settleB p room (frameB books i (b .acked) m x (numberOf a) B0))) (reads-payload received limit k sy)
+            ∙ ap (λ (x : List ℕ). handedB bs (settleB p room (frameB books i (b .acked) m x (answerNumber a) B0))) (reads-payload received limit k sy)
 
         -- after the second settling
         module _ (t : isDirect s1 room k ≡ false) (u : closedBy (idsIn s1) k ≡ false) where
           good3 : (a : Answer) → Tells (mineOf ss1 i k) (act .fault) a
-              → Good p credit (r3 .slot) (runOf (act .rx) (p .«rx_cap») i (r3 .slot)) (ackedB (carried p (r3 .ack)) (settleB p room (frameB books i (b .acked) m body (numberOf a) B0)))
+              → Good p credit (r3 .slot) (runOf (act .rx) (p .«rx_cap») i (r3 .slot)) (ackedB (carried p (r3 .ack)) (settleB p room (frameB books i (b .acked) m body (answerNumber a) B0)))
           unfolding runOf
           good3 a tells =
               let gg = good2 a tells in
@@ -613,7 +613,7 @@ module _ (l : Lent) (credit : Terms) (ok : TableOk (policy l) (l .state .header 
 
           local3 : r3 .slot .local .0 ≡ b .local
           local3 =
-              ap (λ x. x .0) (settled-alike (slotIn ts i) p room known2 .local) ∙ ap (λ x. x .0) (named2 .local)
+              ap (λ x. x .0) (settled-stays (slotIn ts i) p room .local) ∙ ap (λ x. x .0) (named2 .local)
               ∙ ap (λ (x : ChannelSlot). x .local .0) u1 ∙ local1
 
           abbrev w3 : Work
@@ -629,8 +629,8 @@ module _ (l : Lent) (credit : Terms) (ok : TableOk (policy l) (l .state .header 
               let h = ok .below i there in
               ap (λ (x : List ChannelSlot). slotIn x i) e ∙ slot-set-same (slotsBy ss1 xs) i t (omega arith)
 
-          final-fine : (t : ChannelSlot) (a : Answer) (bs : List ℕ) → isEarly (numberOf a) ≡ false → eqb (numberOf a) 4 ≡ false
-              → Good p credit t (runOf (act .rx) (p .«rx_cap») i t) (handedB bs (ackedB (carried p (r3 .ack)) (settleB p room (frameB books i (b .acked) m body (numberOf a) B0))))
+          final-fine : (t : ChannelSlot) (a : Answer) (bs : List ℕ) → isEarly (answerNumber a) ≡ false → eqb (answerNumber a) 4 ≡ false
+              → Good p credit t (runOf (act .rx) (p .«rx_cap») i t) (handedB bs (ackedB (carried p (r3 .ack)) (settleB p room (frameB books i (b .acked) m body (answerNumber a) B0))))
               → reads-fine (ends (then w3 (slotTo i t ∷ []) []) a (frameLen k) bs)
           unfolding ends
           final-fine t' a bs late four f e =
@@ -639,7 +639,7 @@ module _ (l : Lent) (credit : Terms) (ok : TableOk (policy l) (l .state .header 
               let s3 = slot3 t' in
               ends-fine p credit ss i (then w3 (slotTo i t' ∷ []) []) a (frameLen k) bs _
               (good-by p credit t' _ _ _ _ _ s3 (ap (runOf (act .rx) (p .«rx_cap») i) s3)
-              (ap (ackedB (acksOf (b .local) fs)) (used-book a (frameLen k) bs late used-some ∙ acted-book a bs t u four) ∙ ap (λ (x : ℕ). handedB bs (ackedB x (settleB p room (frameB books i (b .acked) m body (numberOf a) B0)))) c) f)
+              (ap (ackedB (acksOf (b .local) fs)) (used-book a (frameLen k) bs late used-some ∙ acted-book a bs t u four) ∙ ap (λ (x : ℕ). handedB bs (ackedB x (settleB p room (frameB books i (b .acked) m body (answerNumber a) B0)))) c) f)
 
           -- what was not there before the packet
           held1 : heldOf (slotIn ss1 i) + length body ≤ p .«rx_cap»
@@ -654,7 +654,7 @@ module _ (l : Lent) (credit : Terms) (ok : TableOk (policy l) (l .state .header 
           live1 = ap (λ (x : ChannelSlot). isClosed (x .state)) u1 ∙ live
 
           tells-read : (n : ℕ) → Tells (mineOf ss1 i k) (act .fault) (Read n)
-          unfolding numberOf
+          unfolding answerNumber
           tells-read n =
               record {
                 taken = λ own e. refl;
@@ -665,7 +665,7 @@ module _ (l : Lent) (credit : Terms) (ok : TableOk (policy l) (l .state .header 
           tells-error x c =
               record {
                 taken = λ own e.
-                    absurd (true≢false (sym c ∙ ap isClosed (settled-alike (slotIn ts i) p room known2 .state) ∙ at-live p _ _ _ _ _ _ _ _ at2 own live1));
+                    absurd (true≢false (sym c ∙ ap isClosed (settled-state (slotIn ts i) p room) ∙ at-live p _ _ _ _ _ _ _ _ at2 own live1));
                 over = λ own e. absurd (at-fits p _ _ _ _ _ _ _ _ at2 own held1 e);
               }
 
@@ -676,11 +676,11 @@ module _ (l : Lent) (credit : Terms) (ok : TableOk (policy l) (l .state .header 
           sound3 = settled-sound (slotIn ts i) p room (p .«rx_cap») sound2
 
           read-again : reads-fine (rereads (takenOf (r3 .slot) room))
-          unfolding takenOf reread numberOf
+          unfolding takenOf reread answerNumber
           read-again =
               let n = takeLen (r3 .slot) room in
               pick (λ (y : Taken). reads-fine (rereads y)) (hasData (r3 .slot))
-              (λ d. final-fine (tookOf (r3 .slot) n) (Read n) (frontOf (act .rx) (p .«rx_cap») i (r3 .slot) n) refl refl
+              (λ d. final-fine (tookOf (r3 .slot) n) (Read n) (frontOf (act .rx) (p .«rx_cap») i (r3 .slot .head) n) refl refl
               (taken-slot (act .rx) length2 (r3 .slot) sound3 n (take-held (r3 .slot) room (sound3 .settled-buffered)) _ (good3 (Read n) (tells-read n))
               (λ x d c. settled-takes p credit (slotIn ts i) _ _ room (good2 (Read n) (tells-read n)) d c)))
               (λ d. pick (λ (y : Taken). reads-fine (rereads y)) (isClosed (r3 .slot .state))
@@ -757,8 +757,8 @@ module _ (l : Lent) (credit : Terms) (ok : TableOk (policy l) (l .state .header 
       abbrev sj : ChannelSlot
       sj = settledOf (slotIn ss j) p room .slot
 
-      alikej : Alike (slotIn ss j) sj
-      alikej = settled-alike (slotIn ss j) p room (ok .known j fill)
+      alikej : Stays (slotIn ss j) sj
+      alikej = settled-stays (slotIn ss j) p room
 
       localj : sj .local .0 ≡ slotIn ss j .local .0
       localj = ap (λ x. x .0) (alikej .local)
@@ -794,19 +794,19 @@ module _ (l : Lent) (credit : Terms) (ok : TableOk (policy l) (l .state .header 
             (mk .remote j fill ∙ sym (ap (λ x. x .0) (alikej .remote)))
 
         -- a packet that is not for this slot
-        else-none : (a : Answer) (bs : List ℕ) → eqb (numberOf a) 4 ≡ false → endsOther books ch (headerAt received) ≡ true → taken a (frameLen k) bs ≡ b
+        else-none : (a : Answer) (bs : List ℕ) → eqb (answerNumber a) 4 ≡ false → endsOther books ch (headerAt received) ≡ true → taken a (frameLen k) bs ≡ b
         unfolding packetB
         else-none a bs four e =
-            cond-false (eqb (frameLen k) 0) _ _ (ne-eqb (frameLen k) 0 (λ x. omega arith)) ∙ cond-false (eqb (numberOf a) 4) _ _ four ∙ cond-true (endsOther books ch (headerAt received)) _ _ e
+            cond-false (eqb (frameLen k) 0) _ _ (ne-eqb (frameLen k) 0 (λ x. omega arith)) ∙ cond-false (eqb (answerNumber a) 4) _ _ four ∙ cond-true (endsOther books ch (headerAt received)) _ _ e
 
         else-end : closedBy (idsIn sj) k ≡ true → else-fine (ends (then wj (slotTo j (closedSlot sj) ∷ []) []) (Refused ChannelClosed) (frameLen k) [])
-        unfolding numberOf refusalNumber
+        unfolding answerNumber refusalNumber
         else-end t =
             else-ends (then wj (slotTo j (closedSlot sj) ∷ []) []) (Refused ChannelClosed) (frameLen k) [] (other-slot (closedSlot sj)) refl no-acks
             (good-by p credit _ _ _ _ b _ refl refl (else-none (Refused ChannelClosed) [] refl (else-test ∙ t)) g)
 
         -- a packet that the call took for itself, and that is no end
-        else-mine : (a : Answer) (bs : List ℕ) → eqb (numberOf a) 4 ≡ false → isWrite (k .command) ≡ true → (k .arg1 ≡ b .local → ⊥)
+        else-mine : (a : Answer) (bs : List ℕ) → eqb (answerNumber a) 4 ≡ false → isWrite (k .command) ≡ true → (k .arg1 ≡ b .local → ⊥)
             → Good p credit (slotIn ss i) (runOf (l .rx) (p .«rx_cap») i (slotIn ss i)) (taken a (frameLen k) bs)
         unfolding closedBy
         else-mine a bs four wr dif =
@@ -821,7 +821,7 @@ module _ (l : Lent) (credit : Terms) (ok : TableOk (policy l) (l .state .header 
             (ap (λ (x : Bool). x && cond (eqb (m .arg1) 0) (not (eqb (m .arg0) 0) && (eqb (first (hasRemote (m .arg0)) books) i)) (eqb (m .arg1) (b .local))) ec)) g)
 
         else-direct : isDirect sj room k ≡ true → else-fine (readDirect ch (frameLen k) wj (bodyOf received k) (deliveredOf sj p (k .«data_length»)))
-        unfolding readDirect isDirect numberOf
+        unfolding readDirect isDirect answerNumber
         else-direct t =
             let d = deliveredOf sj p (k .«data_length») in
             let t1 = and-true (isWrite (k .command) && eqb (k .arg1) (sj .local .0)) (leb (k .«data_length») room) t in
@@ -856,7 +856,7 @@ module _ (l : Lent) (credit : Terms) (ok : TableOk (policy l) (l .state .header 
         markedj = marked-set books ss j sj mk (alikej .filled) (alikej .remote)
 
         abbrev actj : Acted
-        actj = actOn (dropped (l .state .header)) ssj (l .state .opens) (l .rx) (l .store) k (bodyOf received k)
+        actj = actOn (dropped (l .state .header)) ssj (l .state .queue) (l .rx) (l .store) k (bodyOf received k)
 
         abbrev tsj : List ChannelSlot
         tsj = slotsBy ssj (actj .changes)
@@ -865,14 +865,14 @@ module _ (l : Lent) (credit : Terms) (ok : TableOk (policy l) (l .state .header 
         good-i = good-by p credit _ _ _ _ b b ui (ap (runOf (l .rx) (p .«rx_cap») i) ui) refl g
 
         -- this slot after the packet, and its book
-        acted-i : (a : Answer) (bs : List ℕ) → eqb (numberOf a) 4 ≡ false → closedBy (idsIn sj) k ≡ false → Tells (mineOf ssj i k) (actj .fault) a
+        acted-i : (a : Answer) (bs : List ℕ) → eqb (answerNumber a) 4 ≡ false → closedBy (idsIn sj) k ≡ false → Tells (mineOf ssj i k) (actj .fault) a
             → Good p credit (slotIn tsj i) (runOf (actj .rx) (p .«rx_cap») i (slotIn tsj i)) (taken a (frameLen k) bs)
         acted-i a bs four u tells =
             packet-good p credit _ lim _ _ b good-i books i received (endsOther books ch) limitE k a fs bs _ _ sy four (else-test ∙ u)
-            (acted-good (dropped (l .state .header)) ssj (l .state .opens) (l .rx) (l .store) okj credit lim i therei b good-i books markedj received k sy (b .acked) (omega arith) a tells)
+            (acted-good (dropped (l .state .header)) ssj (l .state .queue) (l .rx) (l .store) okj credit lim i therei b good-i books markedj received k sy (b .acked) (omega arith) a tells)
 
         atj : At p (slotIn ssj j) (runOf (l .rx) (p .«rx_cap») j (slotIn ssj j)) (bodyOf received k) (mineOf ssj j k) (endsOf (l .state .header .negotiated .config .channels) ssj j k) (slotIn tsj j) (runOf (actj .rx) (p .«rx_cap») j (slotIn tsj j)) (actj .fault)
-        atj = acted-at (dropped (l .state .header)) ssj (l .state .opens) (l .rx) (l .store) k (bodyOf received k) okj j therej
+        atj = acted-at (dropped (l .state .header)) ssj (l .state .queue) (l .rx) (l .store) k (bodyOf received k) okj j therej
 
         knownj : slotIn tsj j .«has_remote» ≡ true
         knownj = at-named p _ _ _ _ _ _ _ _ atj .known ∙ okj .known j therej
@@ -882,7 +882,7 @@ module _ (l : Lent) (credit : Terms) (ok : TableOk (policy l) (l .state .header 
 
         localj3 : rj3 .slot .local .0 ≡ slotIn ss j .local .0
         localj3 =
-            ap (λ x. x .0) (settled-alike (slotIn tsj j) p room knownj .local) ∙ ap (λ x. x .0) (at-named p _ _ _ _ _ _ _ _ atj .local)
+            ap (λ x. x .0) (settled-stays (slotIn tsj j) p room .local) ∙ ap (λ x. x .0) (at-named p _ _ _ _ _ _ _ _ atj .local)
             ∙ ap (λ (x : ChannelSlot). x .local .0) uj ∙ localj
 
         abbrev wj3 : Work
@@ -894,7 +894,7 @@ module _ (l : Lent) (credit : Terms) (ok : TableOk (policy l) (l .state .header 
             let e1 = acks-append p (b .local) ((ackFrames sj (rj .ack) ++ []) ++ actj .frames) (ackFrames (rj3 .slot) (rj3 .ack)) in
             let e2 = acks-append p (b .local) (ackFrames sj (rj .ack) ++ []) (actj .frames) in
             let e3 = no-acks in
-            let e4 = acted-acks (dropped (l .state .header)) ssj (l .state .opens) (l .rx) (l .store) k (bodyOf received k) (b .local) in
+            let e4 = acted-acks (dropped (l .state .header)) ssj (l .state .queue) (l .rx) (l .store) k (bodyOf received k) (b .local) in
             let e5 = acks-other p (b .local) (rj3 .slot) (rj3 .ack) (λ e. ne (sym localj3 ∙ e)) in
             omega arith
 
@@ -929,18 +929,18 @@ module _ (l : Lent) (credit : Terms) (ok : TableOk (policy l) (l .state .header 
           unfolding hasData
           still-none =
               let e0 : rj3 .slot .buffered ≡ sj .buffered = settled-run (slotIn tsj j) p room knownj .more ∙ at-keeps p _ _ _ _ _ _ _ _ atj not-j ∙ ap (λ (x : ChannelSlot). x .buffered) uj in
-              let e1 : rj3 .slot .«has_remote» ≡ sj .«has_remote» = settled-alike (slotIn tsj j) p room knownj .known ∙ at-named p _ _ _ _ _ _ _ _ atj .known ∙ ap (λ (x : ChannelSlot). x .«has_remote») uj in
+              let e1 : rj3 .slot .«has_remote» ≡ sj .«has_remote» = settled-stays (slotIn tsj j) p room .known ∙ at-named p _ _ _ _ _ _ _ _ atj .known ∙ ap (λ (x : ChannelSlot). x .«has_remote») uj in
               ap₂ (λ (x : Bool) (y : ℕ). cond x (not (eqb y 0)) false) e1 e0 ∙ nodata
 
           still-live : isClosed (rj3 .slot .state) ≡ false
           still-live =
               let nc = write-no-close (k .command) own-write in
-              ap isClosed (settled-alike (slotIn tsj j) p room knownj .state)
+              ap isClosed (settled-state (slotIn tsj j) p room)
               ∙ at-stays p _ _ _ _ _ _ _ _ atj (ap (λ (x : Bool). x && cond (eqb (k .arg1) 0) (not (eqb (k .arg0) 0) && eqb (placeOf (Remote (record { 0 = k .arg0 })) (l .state .header .negotiated .config .channels) ssj) j) (eqb (k .arg1) (slotIn ssj j .local .0))) nc)
               (ap (λ (x : ChannelSlot). isClosed (x .state)) uj ∙ live)
 
         else-again : hasData sj ≡ false → isClosed (sj .state) ≡ false → closedBy (idsIn sj) k ≡ false → else-fine (reread ch (p .«rx_cap») (frameLen k) (actj .fault) wj3 (rj3 .slot) (takenOf (rj3 .slot) room))
-        unfolding takenOf reread numberOf
+        unfolding takenOf reread answerNumber
         else-again nodata live u =
             let n = takeLen (rj3 .slot) room in
             let P : Taken → Type 0 = λ y. else-fine (reread ch (p .«rx_cap») (frameLen k) (actj .fault) wj3 (rj3 .slot) y) in
@@ -1103,7 +1103,7 @@ module _ (l : Lent) (credit : Terms) (ok : TableOk (policy l) (l .state .header 
       unfolding writeB
       stopped-book a used st =
           pick (Good p credit s0 q0) (eqb used 0) (λ t. g)
-          (λ t. pick (Good p credit s0 q0) (eqb (numberOf a) 4) (λ u. damaged-good p credit _ lim s0 q0 b g books i received never (b .acked) (headerAt received) (payloadAt received used))
+          (λ t. pick (Good p credit s0 q0) (eqb (answerNumber a) 4) (λ u. damaged-good p credit _ lim s0 q0 b g books i received never (b .acked) (headerAt received) (payloadAt received used))
           (λ u. absurd (eqb-false used 0 t (st .quiet u))))
 
       this-stop : (a : Answer) (used : ℕ) → Stops a used → write-fine (ends w0 a used [])
@@ -1122,19 +1122,19 @@ module _ (l : Lent) (credit : Terms) (ok : TableOk (policy l) (l .state .header 
         end-testW : ownEnd (b .local) (b .remote) mW ≡ closedBy (idsIn s0) k
         end-testW = reads-end received limW k sy (b .local) (b .remote) (idsIn s0) (g .loc) (g .rem)
 
-        used-book-end : (a : Answer) → eqb (numberOf a) 4 ≡ false → closedBy (idsIn s0) k ≡ true → entered a (frameLen k) [] ≡ closedB b
+        used-book-end : (a : Answer) → eqb (answerNumber a) 4 ≡ false → closedBy (idsIn s0) k ≡ true → entered a (frameLen k) [] ≡ closedB b
         unfolding writeB
         used-book-end a four u =
-            this-book a (frameLen k) [] ∙ cond-false (eqb (frameLen k) 0) _ _ (ne-eqb (frameLen k) 0 (λ x. omega arith)) ∙ cond-false (eqb (numberOf a) 4) _ _ four ∙ cond-true (ownEnd (b .local) (b .remote) mW) _ _ (end-testW ∙ u)
+            this-book a (frameLen k) [] ∙ cond-false (eqb (frameLen k) 0) _ _ (ne-eqb (frameLen k) 0 (λ x. omega arith)) ∙ cond-false (eqb (answerNumber a) 4) _ _ four ∙ cond-true (ownEnd (b .local) (b .remote) mW) _ _ (end-testW ∙ u)
 
-        used-book-frame : (a : Answer) → eqb (numberOf a) 4 ≡ false → closedBy (idsIn s0) k ≡ false → entered a (frameLen k) [] ≡ frameB books i (b .acked) mW bodyW (numberOf a) b
+        used-book-frame : (a : Answer) → eqb (answerNumber a) 4 ≡ false → closedBy (idsIn s0) k ≡ false → entered a (frameLen k) [] ≡ frameB books i (b .acked) mW bodyW (answerNumber a) b
         unfolding writeB
         used-book-frame a four u =
-            this-book a (frameLen k) [] ∙ cond-false (eqb (frameLen k) 0) _ _ (ne-eqb (frameLen k) 0 (λ x. omega arith)) ∙ cond-false (eqb (numberOf a) 4) _ _ four ∙ cond-false (ownEnd (b .local) (b .remote) mW) _ _ (end-testW ∙ u)
-            ∙ ap (λ (x : List ℕ). frameB books i (b .acked) mW x (numberOf a) b) (reads-payload received limW k sy)
+            this-book a (frameLen k) [] ∙ cond-false (eqb (frameLen k) 0) _ _ (ne-eqb (frameLen k) 0 (λ x. omega arith)) ∙ cond-false (eqb (answerNumber a) 4) _ _ four ∙ cond-false (ownEnd (b .local) (b .remote) mW) _ _ (end-testW ∙ u)
+            ∙ ap (λ (x : List ℕ). frameB books i (b .acked) mW x (answerNumber a) b) (reads-payload received limW k sy)
 
         this-end : closedBy (idsIn s0) k ≡ true → write-fine (ends (then w0 (slotTo (ch .slot) (closedSlot s0) ∷ []) []) (Refused ChannelClosed) (frameLen k) [])
-        unfolding numberOf refusalNumber
+        unfolding answerNumber refusalNumber
         this-end u =
             write-ends (then w0 (slotTo (ch .slot) (closedSlot s0) ∷ []) []) (Refused ChannelClosed) (frameLen k) refl
             (this-left (closedSlot s0) [] (Refused ChannelClosed) (frameLen k) (closed-run s0)
@@ -1146,18 +1146,18 @@ module _ (l : Lent) (credit : Terms) (ok : TableOk (policy l) (l .state .header 
           unfolding closedBy
           not-end = cond-false (isClose (k .command)) _ false (ready-no-write (k .command) rd .1)
 
-          ready-book : (a : Answer) → eqb (numberOf a) 4 ≡ false → entered a (frameLen k) [] ≡ b
+          ready-book : (a : Answer) → eqb (answerNumber a) 4 ≡ false → entered a (frameLen k) [] ≡ b
           ready-book a four =
               used-book-frame a four not-end
               ∙ frame-none books i (b .acked) mW bodyW a b
               (ap (λ (x : Bool). x && eqb (mW .arg1) (b .local)) (reads-write received limW k sy ∙ ready-no-write (k .command) rd .0))
               (ap (λ (x : Bool). x && cond (eqb (mW .arg1) 0) (not (eqb (mW .arg0) 0) && (eqb (first (hasRemote (mW .arg0)) books) i)) (eqb (mW .arg1) (b .local))) (reads-close received limW k sy ∙ ready-no-write (k .command) rd .1))
 
-          readied-left : (t : ChannelSlot) (f : List Frame) (a : Answer) → eqb (numberOf a) 4 ≡ false → SameRun s0 t → Good p credit t q0 b → Left (then w0 (slotTo (ch .slot) t ∷ []) f) a (frameLen k)
+          readied-left : (t : ChannelSlot) (f : List Frame) (a : Answer) → eqb (answerNumber a) 4 ≡ false → SameRun s0 t → Good p credit t q0 b → Left (then w0 (slotTo (ch .slot) t ∷ []) f) a (frameLen k)
           readied-left t f a four w x = this-left t f a (frameLen k) w (good-by p credit _ _ _ _ _ _ refl refl (ready-book a four) x)
 
           readied-by : (r : Readied) → Leaves (SameRun s0) r → Leaves (λ (t : ChannelSlot). Good p credit t q0 b) r → write-fine (writeReadied l ch out bytes (frameLen k) w0 s0 r)
-          unfolding writeReadied numberOf refusalNumber
+          unfolding writeReadied answerNumber refusalNumber
           readied-by (Slot t) w x =
               turn-fine (frameLen k) w0 t refl
               (λ n. readied-left (spentOf t p n) (writeFrame (idsIn t) (take n bytes) ∷ []) (Written n) refl (record { head = spent-run t p n .head ∙ w .head; more = spent-run t p n .more ∙ w .more }) (spent-good p credit t q0 b x n))
@@ -1171,7 +1171,7 @@ module _ (l : Lent) (credit : Terms) (ok : TableOk (policy l) (l .state .header 
         -- any other packet: dispatched, and another turn
         module _ (u : closedBy (idsIn s0) k ≡ false) where
           abbrev actW : Acted
-          actW = actOn (dropped (l .state .header)) ss (l .state .opens) (l .rx) (l .store) k bodyW
+          actW = actOn (dropped (l .state .header)) ss (l .state .queue) (l .rx) (l .store) k bodyW
 
           abbrev tsW : List ChannelSlot
           tsW = slotsBy ss (actW .changes)
@@ -1180,15 +1180,15 @@ module _ (l : Lent) (credit : Terms) (ok : TableOk (policy l) (l .state .header 
           sW = slotIn tsW i
 
           atW : At p s0 q0 bodyW (mineOf ss i k) (endsOf (l .state .header .negotiated .config .channels) ss i k) sW (runOf (actW .rx) (p .«rx_cap») i sW) (actW .fault)
-          atW = acted-at (dropped (l .state .header)) ss (l .state .opens) (l .rx) (l .store) k bodyW ok i there
+          atW = acted-at (dropped (l .state .header)) ss (l .state .queue) (l .rx) (l .store) k bodyW ok i there
 
           quietW : acksIn p (b .local) (thenActed w0 actW .frames) ≡ 0
-          quietW = acted-acks (dropped (l .state .header)) ss (l .state .opens) (l .rx) (l .store) k bodyW (b .local)
+          quietW = acted-acks (dropped (l .state .header)) ss (l .state .queue) (l .rx) (l .store) k bodyW (b .local)
 
-          goodW : (a : Answer) → eqb (numberOf a) 4 ≡ false → Tells (mineOf ss i k) (actW .fault) a → Good p credit sW (runOf (actW .rx) (p .«rx_cap») i sW) (entered a (frameLen k) [])
+          goodW : (a : Answer) → eqb (answerNumber a) 4 ≡ false → Tells (mineOf ss i k) (actW .fault) a → Good p credit sW (runOf (actW .rx) (p .«rx_cap») i sW) (entered a (frameLen k) [])
           goodW a four tells =
               good-by p credit _ _ _ _ _ _ refl refl (used-book-frame a four u)
-              (acted-good (dropped (l .state .header)) ss (l .state .opens) (l .rx) (l .store) ok credit lim i there b g books mk received k sy (b .acked) (omega arith) a tells)
+              (acted-good (dropped (l .state .header)) ss (l .state .queue) (l .rx) (l .store) ok credit lim i there b g books mk received k sy (b .acked) (omega arith) a tells)
 
           -- a slot stored after it
           slotW : (t : ChannelSlot) → slotIn (slotsBy ss (actW .changes ++ slotTo (ch .slot) t ∷ [])) i ≡ t
@@ -1206,7 +1206,7 @@ module _ (l : Lent) (credit : Terms) (ok : TableOk (policy l) (l .state .header 
               good-by p credit t _ _ _ _ _ e
               (ap (runOf (actW .rx) (p .«rx_cap») i) e ∙ ap (λ (y : ℕ). part (shareOf (actW .rx) (p .«rx_cap») i) y (t .buffered)) (w .head) ∙ ap (part (shareOf (actW .rx) (p .«rx_cap») i) (sW .head)) (w .more)) refl x
 
-          tells-no : (a : Answer) → actW .fault ≡ No → isRefused (numberOf a) ≡ false → Tells (mineOf ss i k) (actW .fault) a
+          tells-no : (a : Answer) → actW .fault ≡ No → isRefused (answerNumber a) ≡ false → Tells (mineOf ss i k) (actW .fault) a
           tells-no a e r = record { taken = λ own f. r; over = λ own f. absurd (fault-apart (sym e ∙ f)) }
 
           tells-closed : isClosed (sW .state) ≡ true → actW .fault ≡ No → Tells (mineOf ss i k) (actW .fault) (Refused ChannelClosed)
@@ -1214,7 +1214,7 @@ module _ (l : Lent) (credit : Terms) (ok : TableOk (policy l) (l .state .header 
               record { taken = λ own f. absurd (true≢false (sym c ∙ at-live p _ _ _ _ _ _ _ _ atW own open0)); over = λ own f. absurd (fault-apart (sym e ∙ f)) }
 
           this-again : actW .fault ≡ No → write-fine (sendAgain l ch out bytes (frameLen k) (thenActed w0 actW) sW)
-          unfolding numberOf refusalNumber
+          unfolding answerNumber refusalNumber
           this-again e =
               turn-fine (frameLen k) (thenActed w0 actW) sW quietW
               (λ n. leftW (spentOf sW p n) (writeFrame (idsIn sW) (take n bytes) ∷ []) (Written n) (spent-run sW p n) (spent-good p credit sW _ _ (goodW (Written n) refl (tells-no (Written n) e refl)) n))
@@ -1222,7 +1222,7 @@ module _ (l : Lent) (credit : Terms) (ok : TableOk (policy l) (l .state .header 
               (λ c. leftW sW [] (Refused ChannelClosed) (record { head = refl; more = refl }) (goodW (Refused ChannelClosed) refl (tells-closed c e)))
 
           acted-by : (f : Failed) → actW .fault ≡ f → write-fine (writeActed l ch out bytes (frameLen k) w0 actW f)
-          unfolding writeActed numberOf
+          unfolding writeActed answerNumber
           acted-by (By f) e =
               let a : Answer = Refused (faultRefusal f) in
               let z : unlessFault (actW .fault) Waiting ≡ a = unless-is (actW .fault) f e in
@@ -1239,7 +1239,7 @@ module _ (l : Lent) (credit : Terms) (ok : TableOk (policy l) (l .state .header 
             (λ t. this-readied (and-true (isReady (k .command)) (eqb (k .arg1) (s0 .local .0)) t .0))
             (λ t. by-test (closedBy (idsIn s0) k)
             (λ u. subst write-fine (sym (cond-true (closedBy (idsIn s0) k) _ _ u)) (this-end u))
-            (λ u. subst write-fine (sym (cond-false (closedBy (idsIn s0) k) _ _ u)) (acted-by u (actOn (dropped (l .state .header)) ss (l .state .opens) (l .rx) (l .store) k bodyW .fault) refl)))
+            (λ u. subst write-fine (sym (cond-false (closedBy (idsIn s0) k) _ _ u)) (acted-by u (actOn (dropped (l .state .header)) ss (l .state .queue) (l .rx) (l .store) k bodyW .fault) refl)))
 
       this-received : isClosed (s0 .state) ≡ false → (r : Received) → Got received (l .state .header .negotiated .config .«max_payload») r → write-fine (writeBy l ch out bytes w0 s0 received r)
       unfolding writeBy
@@ -1302,7 +1302,7 @@ module _ (l : Lent) (credit : Terms) (ok : TableOk (policy l) (l .state .header 
 
         -- it ended the other channel's write
         end-else : closedBy (idsIn s-else) k ≡ true → write-fine (ends (then w-else (slotTo j-else (closedSlot s-else) ∷ []) []) (Refused ChannelClosed) (frameLen k) [])
-        unfolding packetB numberOf refusalNumber
+        unfolding packetB answerNumber refusalNumber
         end-else u =
             write-ends (then w-else (slotTo j-else (closedSlot s-else) ∷ []) []) (Refused ChannelClosed) (frameLen k) refl
             (else-left (closedSlot s-else) [] (Refused ChannelClosed) (frameLen k)
@@ -1311,7 +1311,7 @@ module _ (l : Lent) (credit : Terms) (ok : TableOk (policy l) (l .state .header 
 
         -- the other channel's OKAY
         module _ (rd : isReady (k .command) ≡ true) where
-          ready-else : (a : Answer) → eqb (numberOf a) 4 ≡ false → Good p credit (slotIn ss i) (runOf (l .rx) (p .«rx_cap») i (slotIn ss i)) (entered a (frameLen k) [])
+          ready-else : (a : Answer) → eqb (answerNumber a) 4 ≡ false → Good p credit (slotIn ss i) (runOf (l .rx) (p .«rx_cap») i (slotIn ss i)) (entered a (frameLen k) [])
           unfolding closedBy
           ready-else a four =
               let rw2 = ready-no-write (k .command) rd in
@@ -1323,7 +1323,7 @@ module _ (l : Lent) (credit : Terms) (ok : TableOk (policy l) (l .state .header 
               (ap (λ (x : Bool). x && cond (eqb (m-else .arg1) 0) (not (eqb (m-else .arg0) 0) && (eqb (first (hasRemote (m-else .arg0)) books) i)) (eqb (m-else .arg1) (b .local))) (reads-close received lim-else k sy ∙ rw2 .1))) g))
 
           readied-else : (r : Readied) → write-fine (writeReadied l ch out bytes (frameLen k) w-else s-else r)
-          unfolding writeReadied numberOf refusalNumber
+          unfolding writeReadied answerNumber refusalNumber
           readied-else (Slot t) =
               turn-fine (frameLen k) w-else t refl
               (λ n. else-left (spentOf t p n) (writeFrame (idsIn t) (take n bytes) ∷ []) (Written n) (frameLen k) (ready-else (Written n) refl))
@@ -1334,29 +1334,29 @@ module _ (l : Lent) (credit : Terms) (ok : TableOk (policy l) (l .state .header 
         -- any other packet
         module _ (u : closedBy (idsIn s-else) k ≡ false) where
           abbrev act-else : Acted
-          act-else = actOn (dropped (l .state .header)) ss (l .state .opens) (l .rx) (l .store) k body-else
+          act-else = actOn (dropped (l .state .header)) ss (l .state .queue) (l .rx) (l .store) k body-else
 
           abbrev ts-else : List ChannelSlot
           ts-else = slotsBy ss (act-else .changes)
 
           at-else : At p s-else (runOf (l .rx) (p .«rx_cap») j-else s-else) body-else (mineOf ss j-else k) (endsOf (l .state .header .negotiated .config .channels) ss j-else k) (slotIn ts-else j-else) (runOf (act-else .rx) (p .«rx_cap») j-else (slotIn ts-else j-else)) (act-else .fault)
-          at-else = acted-at (dropped (l .state .header)) ss (l .state .opens) (l .rx) (l .store) k body-else ok j-else fill
+          at-else = acted-at (dropped (l .state .header)) ss (l .state .queue) (l .rx) (l .store) k body-else ok j-else fill
 
           quiet-else : acksIn p (b .local) (thenActed w-else act-else .frames) ≡ 0
-          quiet-else = acted-acks (dropped (l .state .header)) ss (l .state .opens) (l .rx) (l .store) k body-else (b .local)
+          quiet-else = acted-acks (dropped (l .state .header)) ss (l .state .queue) (l .rx) (l .store) k body-else (b .local)
 
-          good-else : (a : Answer) → eqb (numberOf a) 4 ≡ false → Tells (mineOf ss i k) (act-else .fault) a → Good p credit (slotIn ts-else i) (runOf (act-else .rx) (p .«rx_cap») i (slotIn ts-else i)) (entered a (frameLen k) [])
+          good-else : (a : Answer) → eqb (answerNumber a) 4 ≡ false → Tells (mineOf ss i k) (act-else .fault) a → Good p credit (slotIn ts-else i) (runOf (act-else .rx) (p .«rx_cap») i (slotIn ts-else i)) (entered a (frameLen k) [])
           good-else a four tells =
               good-by p credit _ _ _ _ _ _ refl refl (else-book a (frameLen k) [])
               (packet-good p credit _ lim _ _ b g books i received (endsOther books ch) lim-else k a fs [] _ _ sy four (test-else ∙ u)
-              (acted-good (dropped (l .state .header)) ss (l .state .opens) (l .rx) (l .store) ok credit lim i there b g books mk received k sy (b .acked) (omega arith) a tells))
+              (acted-good (dropped (l .state .header)) ss (l .state .queue) (l .rx) (l .store) ok credit lim i there b g books mk received k sy (b .acked) (omega arith) a tells))
 
           left-else : (t : ChannelSlot) (f : List Frame) (a : Answer) → Good p credit (slotIn ts-else i) (runOf (act-else .rx) (p .«rx_cap») i (slotIn ts-else i)) (entered a (frameLen k) []) → Left (then (thenActed w-else act-else) (slotTo j-else t ∷ []) f) a (frameLen k)
           left-else t f a x =
               let e : slotIn (slotsBy ss (act-else .changes ++ slotTo j-else t ∷ [])) i ≡ slotIn ts-else i = ap (λ (y : List ChannelSlot). slotIn y i) (slots-append ss (act-else .changes) (slotTo j-else t ∷ [])) ∙ slot-set-other ts-else j-else i t away in
               good-by p credit _ _ _ _ _ _ e (ap (runOf (act-else .rx) (p .«rx_cap») i) e) refl x
 
-          no-else : (a : Answer) → act-else .fault ≡ No → isRefused (numberOf a) ≡ false → Tells (mineOf ss i k) (act-else .fault) a
+          no-else : (a : Answer) → act-else .fault ≡ No → isRefused (answerNumber a) ≡ false → Tells (mineOf ss i k) (act-else .fault) a
           no-else a e r = record { taken = λ own f. r; over = λ own f. absurd (fault-apart (sym e ∙ f)) }
 
           closed-else : isClosed (slotIn ts-else j-else .state) ≡ true → act-else .fault ≡ No → Tells (mineOf ss i k) (act-else .fault) (Refused ChannelClosed)
@@ -1369,7 +1369,7 @@ module _ (l : Lent) (credit : Terms) (ok : TableOk (policy l) (l .state .header 
               }
 
           again-else : act-else .fault ≡ No → write-fine (sendAgain l ch out bytes (frameLen k) (thenActed w-else act-else) (slotIn ts-else j-else))
-          unfolding numberOf refusalNumber
+          unfolding answerNumber refusalNumber
           again-else e =
               turn-fine (frameLen k) (thenActed w-else act-else) (slotIn ts-else j-else) quiet-else
               (λ n. left-else (spentOf (slotIn ts-else j-else) p n) (writeFrame (idsIn (slotIn ts-else j-else)) (take n bytes) ∷ []) (Written n) (good-else (Written n) refl (no-else (Written n) e refl)))
@@ -1377,7 +1377,7 @@ module _ (l : Lent) (credit : Terms) (ok : TableOk (policy l) (l .state .header 
               (λ c. left-else (slotIn ts-else j-else) [] (Refused ChannelClosed) (good-else (Refused ChannelClosed) refl (closed-else c e)))
 
           acted-else : (f : Failed) → act-else .fault ≡ f → write-fine (writeActed l ch out bytes (frameLen k) w-else act-else f)
-          unfolding writeActed numberOf
+          unfolding writeActed answerNumber
           acted-else (By f) e =
               let a : Answer = Refused (faultRefusal f) in
               let z : unlessFault (act-else .fault) Waiting ≡ a = unless-is (act-else .fault) f e in
@@ -1394,7 +1394,7 @@ module _ (l : Lent) (credit : Terms) (ok : TableOk (policy l) (l .state .header 
             (λ t. readied-else (and-true (isReady (k .command)) (eqb (k .arg1) (s-else .local .0)) t .0) (readyOf s-else body-else p))
             (λ t. by-test (closedBy (idsIn s-else) k)
             (λ u. subst write-fine (sym (cond-true (closedBy (idsIn s-else) k) _ _ u)) (end-else u))
-            (λ u. subst write-fine (sym (cond-false (closedBy (idsIn s-else) k) _ _ u)) (acted-else u (actOn (dropped (l .state .header)) ss (l .state .opens) (l .rx) (l .store) k body-else .fault) refl)))
+            (λ u. subst write-fine (sym (cond-false (closedBy (idsIn s-else) k) _ _ u)) (acted-else u (actOn (dropped (l .state .header)) ss (l .state .queue) (l .rx) (l .store) k body-else .fault) refl)))
 
       received-else : isClosed (s-else .state) ≡ false → (r : Received) → Got received (l .state .header .negotiated .config .«max_payload») r → write-fine (writeBy l ch out bytes w-else s-else received r)
       unfolding writeBy

@@ -22,18 +22,17 @@ use Rattle.slot.proofs.Kept.{pick}
 use Rattle.slot.proofs.Laws.{cond-true, cond-false}
 use Rattle.state.specs.declared.Header.{Header}
 use Rattle.state.specs.Change.{Change, changedAll}
-use Rattle.state.specs.State.{Connection, stateOf}
-use Rattle.state.specs.Valid.{isWhole}
+use Rattle.state.specs.State.{stateLen, Connection, stateOf}
+use Rattle.state_whole.specs.Whole.{isWhole}
 use Rattle.table.specs.declared.Allocated.{Allocated}
 use Rattle.table.specs.declared.Allocated.the-variants.{Channel, NoFree}
 use Rattle.table.specs.declared.ChannelId.{ChannelId}
 use Rattle.table.specs.declared.Want.the-variants.{Empty}
-use Rattle.table.specs.Table.{placeOf, nextLocal, allocated}
-use Rattle.table.specs.Dispatch.{slotIn}
+use Rattle.table.specs.Table.{placeOf, nextLocal, allocated, slotIn}
 use Rattle.connection.specs.declared.Answer.the-variants.{Refused}
 use Rattle.connection.specs.declared.Refusal.the-variants.{StoreShort, OutShort, PayloadTooLarge, BrokenState}
-use Rattle.connection.specs.Answer.{refusalNumber, numberOf}
-use Rattle.connection.specs.Calls.{Lent, Outcome, ends, checked, checkedOut, untouched, bodyOf, isThere, slotFor, dispatchStep, settleStep, takeStep, readStep, writeStep, closeStep, frontStep, fresh, openOf, dispatchOf, settleOf, takeOf, readOf, writeOf, closeOf, frontCall}
+use Rattle.connection.specs.Answer.{refusalNumber, answerNumber}
+use Rattle.connection.specs.Calls.{Lent, Outcome, ends, checked, checkedOut, untouched, bodyOf, isThere, slotFor, dispatchStep, settleStep, takeStep, readStep, writeStep, closeStep, takeFrontStep, fresh, openOutcome, dispatchOutcome, settleOutcome, takeOutcome, readOutcome, writeOutcome, closeOutcome, takeFrontOutcome}
 use Rattle.connection.specs.Frames.{Frame, Sent}
 use Rattle.connection.proofs.Slots.{slotsBy, slots-by, slot-set-same, slot-set-other}
 use Rattle.connection.proofs.Sending.{sentOf}
@@ -61,9 +60,9 @@ record Given (g : ℕ) (c : Connection) : Type 0 where
   k : ℕ
   le : k ≤ g
   below : (i : ℕ) → slotIn (c .slots) i .filled ≡ true → slotIn (c .slots) i .local .0 ≤ k
-  waits : c .header .waiting .on ≡ true → c .header .waiting .local .0 ≤ k
-  -- the number of the open that waits is no channel's
-  away : c .header .waiting .on ≡ true → (i : ℕ) → slotIn (c .slots) i .filled ≡ true → slotIn (c .slots) i .local .0 ≡ c .header .waiting .local .0 → ⊥
+  pending-open : c .header .pending .on ≡ true → c .header .pending .local .0 ≤ k
+  -- the number of the pending open is no channel's
+  away : c .header .pending .on ≡ true → (i : ℕ) → slotIn (c .slots) i .filled ≡ true → slotIn (c .slots) i .local .0 ≡ c .header .pending .local .0 → ⊥
   apart : (i j : ℕ) → slotIn (c .slots) i .filled ≡ true → slotIn (c .slots) j .filled ≡ true → slotIn (c .slots) i .local .0 ≡ slotIn (c .slots) j .local .0 → i ≡ j
   next : k < 2 ^ 32 - 1 → c .header .«next_local» ≡ suc k
 
@@ -72,56 +71,56 @@ unfoldable Shrinks : List ChannelSlot → List ChannelSlot → Type 0
 Shrinks ss ts = (i : ℕ) → slotIn ts i .filled ≡ true → (slotIn ss i .filled ≡ true) × (slotIn ts i .local .0 ≡ slotIn ss i .local .0)
 
 -- no number is given out
-given-keeps : (g g' : ℕ) (c d : Connection) → g ≤ g' → Shrinks (c .slots) (d .slots) → d .header .«next_local» ≡ c .header .«next_local» → (d .header .waiting .on ≡ true → d .header .waiting ≡ c .header .waiting)
+given-keeps : (g g' : ℕ) (c d : Connection) → g ≤ g' → Shrinks (c .slots) (d .slots) → d .header .«next_local» ≡ c .header .«next_local» → (d .header .pending .on ≡ true → d .header .pending ≡ c .header .pending)
     → Given g c → Given g' d
 unfolding Shrinks
 given-keeps g g' c d h sh en ew v =
-    let on : d .header .waiting .on ≡ true → c .header .waiting .on ≡ true = λ t. sym (ap (λ x. x .on) (ew t)) ∙ t in
-    let wl : d .header .waiting .on ≡ true → d .header .waiting .local .0 ≡ c .header .waiting .local .0 = λ t. ap (λ x. x .local .0) (ew t) in
+    let on : d .header .pending .on ≡ true → c .header .pending .on ≡ true = λ t. sym (ap (λ x. x .on) (ew t)) ∙ t in
+    let wl : d .header .pending .on ≡ true → d .header .pending .local .0 ≡ c .header .pending .local .0 = λ t. ap (λ x. x .local .0) (ew t) in
     record {
       k = v .k;
       le = let a = v .le in omega arith;
       below = λ i f. let s = sh i f in subst (λ (x : ℕ). x ≤ v .k) (sym (s .1)) (v .below i (s .0));
-      waits = λ t. subst (λ (x : ℕ). x ≤ v .k) (sym (wl t)) (v .waits (on t));
+      pending-open = λ t. subst (λ (x : ℕ). x ≤ v .k) (sym (wl t)) (v .pending-open (on t));
       away = λ t i f e. let s = sh i f in v .away (on t) i (s .0) (sym (s .1) ∙ e ∙ wl t);
       apart = λ i j f q e. let s = sh i f in let z = sh j q in v .apart i j (s .0) (z .0) (sym (s .1) ∙ e ∙ z .1);
       next = λ lt. en ∙ v .next lt;
     }
 
--- the next number is given out, to the open that waits or to none
+-- the next number is given out, to the pending open or to none
 given-next : (g : ℕ) (c d : Connection) → suc g < 2 ^ 32 → Shrinks (c .slots) (d .slots) → d .header .«next_local» ≡ nextLocal (c .header .«next_local»)
-    → (d .header .waiting .on ≡ true → d .header .waiting .local .0 ≡ c .header .«next_local») → Given g c → Given (suc g) d
+    → (d .header .pending .on ≡ true → d .header .pending .local .0 ≡ c .header .«next_local») → Given g c → Given (suc g) d
 unfolding Shrinks nextLocal
 given-next g c d small sh en ew v =
     let a = v .le in
     let e : c .header .«next_local» ≡ suc (v .k) = v .next (omega arith) in
-    let w : d .header .waiting .on ≡ true → d .header .waiting .local .0 ≡ suc (v .k) = λ t. ew t ∙ e in
+    let w : d .header .pending .on ≡ true → d .header .pending .local .0 ≡ suc (v .k) = λ t. ew t ∙ e in
     record {
       k = suc (v .k);
       le = omega arith;
       below = λ i f. let s = sh i f in let b = v .below i (s .0) in let q = s .1 in omega arith;
-      waits = λ t. let q = w t in omega arith;
+      pending-open = λ t. let q = w t in omega arith;
       away = λ t i f x. let s = sh i f in let b = v .below i (s .0) in let q = s .1 in let z = w t in omega arith;
       apart = λ i j f q x. let s = sh i f in let z = sh j q in v .apart i j (s .0) (z .0) (sym (s .1) ∙ x ∙ z .1);
       next = λ lt. en ∙ ap (λ (x : ℕ). max ((x + 1) % 0x1_0000_0000) 1) e ∙ (let q : max ((suc (v .k) + 1) % 0x1_0000_0000) 1 ≡ suc (suc (v .k)) = omega arith in q);
     }
 
--- the open that waits fills its slot, and waits no more
-given-fills : (g g' : ℕ) (c d : Connection) (j : ℕ) (t : ChannelSlot) → g ≤ g' → j < length (c .slots) → d .slots ≡ set (c .slots) j t → t .local .0 ≡ c .header .waiting .local .0
-    → d .header .«next_local» ≡ c .header .«next_local» → c .header .waiting .on ≡ true → d .header .waiting .on ≡ false → Given g c → Given g' d
+-- the pending open fills its slot, and is pending no more
+given-fills : (g g' : ℕ) (c d : Connection) (j : ℕ) (t : ChannelSlot) → g ≤ g' → j < length (c .slots) → d .slots ≡ set (c .slots) j t → t .local .0 ≡ c .header .pending .local .0
+    → d .header .«next_local» ≡ c .header .«next_local» → c .header .pending .on ≡ true → d .header .pending .on ≡ false → Given g c → Given g' d
 given-fills g g' c d j t h inside es el en on off v =
     let at : (i : ℕ) → i ≡ j → slotIn (d .slots) i ≡ t = λ i e. ap (λ (x : List ChannelSlot). slotIn x i) es ∙ ap (slotIn (set (c .slots) j t)) e ∙ slot-set-same (c .slots) j t inside in
     let far : (i : ℕ) → (i ≡ j → ⊥) → slotIn (d .slots) i ≡ slotIn (c .slots) i = λ i e. ap (λ (x : List ChannelSlot). slotIn x i) es ∙ slot-set-other (c .slots) j i t e in
-    let own : (i : ℕ) → i ≡ j → slotIn (d .slots) i .local .0 ≡ c .header .waiting .local .0 = λ i e. ap (λ (x : ChannelSlot). x .local .0) (at i e) ∙ el in
+    let own : (i : ℕ) → i ≡ j → slotIn (d .slots) i .local .0 ≡ c .header .pending .local .0 = λ i e. ap (λ (x : ChannelSlot). x .local .0) (at i e) ∙ el in
     let was : (i : ℕ) → (i ≡ j → ⊥) → slotIn (d .slots) i .filled ≡ true → slotIn (c .slots) i .filled ≡ true = λ i e f. sym (ap (λ (x : ChannelSlot). x .filled) (far i e)) ∙ f in
     let same : (i : ℕ) → (i ≡ j → ⊥) → slotIn (d .slots) i .local .0 ≡ slotIn (c .slots) i .local .0 = λ i e. ap (λ (x : ChannelSlot). x .local .0) (far i e) in
     record {
       k = v .k;
       le = let a = v .le in omega arith;
       below = λ i f.
-          by-test (eqb i j) (λ u. subst (λ (x : ℕ). x ≤ v .k) (sym (own i (eqb-true i j u))) (v .waits on))
+          by-test (eqb i j) (λ u. subst (λ (x : ℕ). x ≤ v .k) (sym (own i (eqb-true i j u))) (v .pending-open on))
           (λ u. let ne = eqb-false i j u in subst (λ (x : ℕ). x ≤ v .k) (sym (same i ne)) (v .below i (was i ne f)));
-      waits = λ w. absurd (true≢false (sym w ∙ off));
+      pending-open = λ w. absurd (true≢false (sym w ∙ off));
       away = λ w. absurd (true≢false (sym w ∙ off));
       apart = λ a b f q e.
           by-test (eqb a j)
@@ -193,7 +192,7 @@ module _ (w : World) (r : List ℕ) (rx store : ℕ) where
     close-shrinks ch = pick S (isThere l ch && slotFor l ch .«has_remote») (λ t. empty-shrinks (c .slots) (ch .slot)) (λ t. none-shrinks)
 
     opens-out : (received : List ℕ) (t : Bool) (out : ℕ) (o : Outcome) → Opens l received o → Opens l received (checkedOut t l out o)
-    unfolding checkedOut checked numberOf
+    unfolding checkedOut checked answerNumber
     opens-out received t out o s =
         let O = Opens l received in
         pick O t
@@ -210,13 +209,13 @@ module _ (w : World) (r : List ℕ) (rx store : ℕ) where
     after-slots x s = subst (Shrinks (c .slots)) (sym (slots-by c (x .changes))) s
 
     heads-given : (x : Outcome) (d : ℕ) → Heads l x → S x → Given (g + d) (to x)
-    heads-given x d a s = given-keeps g (g + d) c (to x) (omega arith) (after-slots x s) (a .next) (a .waits) v
+    heads-given x d a s = given-keeps g (g + d) c (to x) (omega arith) (after-slots x s) (a .next) (a .pending-is) v
 
     -- what is seen of a call
     abbrev event : Call → Event
     event x = record { call = x; held = heldOf w x }
 
-    number-seen : (x : Call) → seenOf (event x) .number ≡ numberOf (outcome w x .answer)
+    number-seen : (x : Call) → seenOf (event x) .number ≡ answerNumber (outcome w x .answer)
     number-seen x = ap (λ (o : Seen). o .number) (seen-is m r rx store w h x)
 
     -- an open call that writes an OPEN gives a number out
@@ -232,10 +231,10 @@ module _ (w : World) (r : List ℕ) (rx store : ℕ) where
     -- and one that is refused by 3 for its destination
     skip-one : (out destination received : List ℕ) → outcome w (openCall out destination received) .answer ≡ Refused PayloadTooLarge → maxPayload < length (bytesIn destination)
         → givenBy (openCall out destination received) (seenOf (event (openCall out destination received))) ≡ 1
-    unfolding givenBy numberOf refusalNumber bytesIn
+    unfolding givenBy answerNumber refusalNumber bytesIn
     skip-one out destination received e lt =
         let x = openCall out destination received in
-        let n : seenOf (event x) .number ≡ 3 = number-seen x ∙ ap numberOf e in
+        let n : seenOf (event x) .number ≡ 3 = number-seen x ∙ ap answerNumber e in
         let len : length (bytesIn destination) ≡ length destination = length-map destination _ in
         let t : ltb maxPayload (length destination) ≡ true = ap (ltb maxPayload) (sym len) ∙ lt-ltb maxPayload (length (bytesIn destination)) lt in
         ap (λ (k : ℕ). cond (opensIn (seenOf (event x) .sent) || (eqb k 3 && ltb maxPayload (length destination))) 1 0) n
@@ -250,34 +249,34 @@ module _ (w : World) (r : List ℕ) (rx store : ℕ) where
         (λ t. absurd (true≢false (ap isSome (sym e ∙ cond-false (ltb (placeOf Empty (m .config .channels) (c .slots)) (m .config .channels)) _ NoFree t))))
 
     next-given : (x : Outcome) (d : ℕ) → d ≡ 1 → g + d < 2 ^ 32 → S x → to x .header .«next_local» ≡ nextLocal (c .header .«next_local»)
-        → (to x .header .waiting .on ≡ true → to x .header .waiting .local .0 ≡ c .header .«next_local») → Given (g + d) (to x)
+        → (to x .header .pending .on ≡ true → to x .header .pending .local .0 ≡ c .header .«next_local») → Given (g + d) (to x)
     next-given x d e small s en ew =
         let q : suc g ≡ g + d = omega arith in
         subst (λ (k : ℕ). Given k (to x)) q (given-next g c (to x) (omega arith) (after-slots x s) en ew v)
 
     open-given : (out destination received : List ℕ) → let x = openCall out destination received in g + givenBy x (seenOf (event x)) < 2 ^ 32
         → (o : Outcome) → o ≡ outcome w x → Numbers l (bytesIn destination) o → Opens l (bytesIn received) o → Given (g + givenBy x (seenOf (event x))) (to o)
-    unfolding numberOf
+    unfolding answerNumber
     open-given out destination received small o z (keeps a) (leaves o1 e t) = heads-given o _ a (tame-shrinks (c .slots) (o .changes) t)
     open-given out destination received small o z (keeps a) (fills o1 t k sy e1 e2 e3 e5 on off e4) =
         let ng = subst (Leaves (λ (u : ChannelSlot). Good (policyOf m) (record { credit = 0; reads = false }) u [] _)) e4
-        (new-good (policyOf m) (record { credit = 0; reads = false }) 0 (c .header .waiting .local) (record { 0 = k .arg0 }) (λ d. refl) (bodyOf (bytesIn received) k)) in
-        let p = h .facts .waits on .place in
+        (new-good (policyOf m) (record { credit = 0; reads = false }) 0 (c .header .pending .local) (record { 0 = k .arg0 }) (λ d. refl) (bodyOf (bytesIn received) k)) in
+        let p = h .facts .pending-open on .place in
         let q = h .facts .limits .within .most-channels in
         let y = ok .size in
-        given-fills g _ c (to o) (c .header .waiting .slot) t (omega arith) (omega arith) (slots-by c (o .changes) ∙ e2) (sym (ng .loc)) (a .next) on off v
+        given-fills g _ c (to o) (c .header .pending .slot) t (omega arith) (omega arith) (slots-by c (o .changes) ∙ e2) (sym (ng .loc)) (a .next) on off v
     open-given out destination received small o z (asks ch q e f fr) (leaves o1 e1 t) =
         next-given o _ (open-one out destination received _ (ap (λ (x : Outcome). x .frames) (sym z) ∙ fr) open-told) small (tame-shrinks (c .slots) (o .changes) t)
-        (ap (λ (x : Header). x .«next_local») f) (λ u. ap (λ (x : Header). x .waiting .local .0) f ∙ begun-local ch e)
+        (ap (λ (x : Header). x .«next_local») f) (λ u. ap (λ (x : Header). x .pending .local .0) f ∙ begun-local ch e)
     open-given out destination received small o z (asks ch q e f fr) (fills o1 t k sy e1 e2 e3 e5 on off e4) = absurd (true≢false (sym on ∙ q))
     open-given out destination received small o z (skips q f a lt) (leaves o1 e1 t) =
         next-given o _ (skip-one out destination received (ap (λ (x : Outcome). x .answer) (sym z) ∙ a) lt) small (tame-shrinks (c .slots) (o .changes) t)
-        (ap (λ (x : Header). x .«next_local») f) (λ u. absurd (true≢false (sym u ∙ ap (λ (x : Header). x .waiting .on) f ∙ q)))
+        (ap (λ (x : Header). x .«next_local») f) (λ u. absurd (true≢false (sym u ∙ ap (λ (x : Header). x .pending .on) f ∙ q)))
     open-given out destination received small o z (skips q f a lt) (fills o1 t k sy e1 e2 e3 e5 on off e4) = absurd (true≢false (sym on ∙ q))
 
     -- each call
     call-given : (x : Call) → g + givenBy x (seenOf (event x)) < 2 ^ 32 → Given (g + givenBy x (seenOf (event x))) (to (outcome w x))
-    unfolding outcome openOf dispatchOf settleOf takeOf readOf writeOf closeOf frontCall
+    unfolding outcome openOutcome dispatchOutcome settleOutcome takeOutcome readOutcome writeOutcome closeOutcome takeFrontOutcome
     call-given (openCall out destination received) small =
         open-given out destination received small _ refl (moves w (openCall out destination received)) (opens-out (bytesIn received) (isWhole (w .state)) (length out) _ (opens l ok (bytesIn received) (length out) (bytesIn destination)))
     call-given (dispatchCall out received) small =
@@ -293,7 +292,7 @@ module _ (w : World) (r : List ℕ) (rx store : ℕ) where
     call-given (closeCall out ch) small =
         heads-given _ _ (moves w (closeCall out ch)) (shrinks-out (isWhole (w .state)) (length out) _ (close-shrinks ch))
     call-given frontTaken small =
-        heads-given _ _ (moves w frontTaken) (shrinks-checked (isWhole (w .state)) _ (tame-shrinks (c .slots) (frontStep l .changes) (front-tame l ok)))
+        heads-given _ _ (moves w frontTaken) (shrinks-checked (isWhole (w .state)) _ (tame-shrinks (c .slots) (takeFrontStep l .changes) (front-tame l ok)))
 
     after-given : (x : Call) → g + givenBy x (seenOf (event x)) < 2 ^ 32 → Given (g + givenBy x (seenOf (event x))) (stateOf (after w x .state))
     after-given x small = subst (Given (g + givenBy x (seenOf (event x)))) (sym (state-after m r rx store w h x)) (call-given x small)
@@ -318,12 +317,12 @@ fresh-given : (n : Negotiated) (w : World) → stateOf (w .state) ≡ fresh n �
 unfolding fresh
 fresh-given n w e =
     let f = no-slot n w e in
-    let off : stateOf (w .state) .header .waiting .on ≡ false = ap (λ (d : Connection). d .header .waiting .on) e in
+    let off : stateOf (w .state) .header .pending .on ≡ false = ap (λ (d : Connection). d .header .pending .on) e in
     record {
       k = 0;
       le = omega arith;
       below = λ i t. absurd (true≢false (sym t ∙ f i));
-      waits = λ t. absurd (true≢false (sym t ∙ off));
+      pending-open = λ t. absurd (true≢false (sym t ∙ off));
       away = λ t. absurd (true≢false (sym t ∙ off));
       apart = fresh-far n w e;
       next = λ lt. ap (λ (d : Connection). d .header .«next_local») e;
@@ -338,7 +337,7 @@ apart-8 w far g (x ∷ cs) = (subst Distinct (sym (g x)) far, subst (λ (v : Wor
 pub numbers-apart : NumbersApart
 numbers-apart s cs small =
     by-test (storesFit (s .config) (length (s .rx)) (length (s .store)))
-    (λ t. apart-all (agreedIn s) (drop 4730 (s .state)) (length (s .rx)) (length (s .store)) (fits-long (s .config) (s .version) (s .most) (s .host) (s .device) (length (s .rx)) (length (s .store)) t)
+    (λ t. apart-all (agreedIn s) (drop stateLen (s .state)) (length (s .rx)) (length (s .store)) (fits-long (s .config) (s .version) (s .most) (s .host) (s .device) (length (s .rx)) (length (s .store)) t)
     (begins s) (starts s) 0 (fresh-given (agreedIn s) (begins s) (fresh-start s)) cs (omega arith))
     (λ t. apart-8 (begins s) (fresh-far (agreedIn s) (begins s) (fresh-start s)) (λ x. after-8 s x (always-8 s t (x ∷ []) .0)) cs)
 

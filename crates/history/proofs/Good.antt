@@ -1,7 +1,7 @@
 -- What a channel's book and its slot have in common, and the moves that keep it: a step of a slot beside its entry in the
 -- book. Assumes nothing.
 use mathlib.Core.Path.{_≡_, refl, sym, ap, subst, _∙_}
-use mathlib.Core.Bool.{Bool, true, false, not, cond, _||_, true≢false}
+use mathlib.Core.Bool.{Bool, true, false, cond, _||_, true≢false}
 use mathlib.Core.List.{List, [], _++_, append-assoc, append-nil}
 use Prim.Native.Nat.{ℕ, suc, _+_, _-_, _^_, _≤_, _<_, min}
 use native.Mathlib.Omega.{arith}
@@ -15,15 +15,16 @@ use Rattle.config.proofs.Laws.{and-true}
 use Rattle.saturate.specs.Saturate.{satSum}
 use Rattle.slot.specs.declared.ids.LocalId.{LocalId}
 use Rattle.slot.specs.declared.ids.RemoteId.{RemoteId}
-use Rattle.slot.specs.declared.Credit.{Credit}
-use Rattle.slot.specs.declared.Credit.the-variants.{Of, Short as CreditShort}
+use Rattle.credit.specs.declared.Credit.{Credit}
+use Rattle.credit.specs.declared.Credit.the-variants.{Of, Short as CreditShort}
 use Rattle.slot.specs.declared.Readied.{Readied}
 use Rattle.slot.specs.declared.Readied.the-variants.{Slot, Short}
 use Rattle.slot.specs.declared.ChannelSlot.{ChannelSlot}
 use Rattle.slot.specs.declared.PendingAck.{PendingAck}
 use Rattle.slot.specs.declared.PendingAck.the-variants.{Len, Nothing}
 use Rattle.slot.specs.declared.Settled.{Settled}
-use Rattle.slot.specs.Slot.{takeLen, openingSlot, openedBy, openedOf, creditOf, readyBy, readyOf, spentOf, isOpening, acksNow, wroteOf, withNumbers, withSending, acked, isClosed, heldOf, bufferedWith, someLen, deliveredOf, ackLenOf, settledBy, settledSome, settledOf, tookOf, closedSlot}
+use Rattle.slot.specs.Slot.{takeLen, openingSlot, openedBy, openedOf, readyBy, readyOf, spentOf, isOpening, acksNow, wroteOf, withNumbers, withSending, acked, isClosed, heldOf, bufferedWith, someLen, deliveredOf, ackLenOf, settledBy, settledSome, settledOf, tookOf, closedSlot}
+use Rattle.credit.specs.Credit.{creditOf}
 use Rattle.slot.specs.declared.Wrote.{Wrote}
 use Rattle.slot.proofs.Kept.{pick}
 use Rattle.slot.proofs.Laws.{cond-true, cond-false}

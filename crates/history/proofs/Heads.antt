@@ -8,7 +8,7 @@ use lib.Dec.{eqb, ltb, leb}
 use lib.ListN.{length, set, take}
 use borrow.Author.Tests.{ltb-true}
 use Rattle.config.specs.Config.{storesFit}
-use Rattle.config.specs.Negotiated.{creditOf}
+use Rattle.config.specs.Negotiated.{offeredCredit}
 use Rattle.incoming.specs.declared.Front.{Front}
 use Rattle.incoming.specs.declared.Front.the-variants.{Open as FrontOpen, Nothing as NoFront}
 use Rattle.incoming.specs.declared.Pushed.{Pushed}
@@ -31,16 +31,16 @@ use Rattle.slot.specs.Ids.{closedBy}
 use Rattle.slot.specs.Slot.{isClosed, takenOf, budgetOf, spentOf, readyOf}
 use Rattle.slot.proofs.Kept.{pick}
 use Rattle.state.specs.declared.Header.{Header}
-use Rattle.state.specs.declared.PendingOpen.{PendingOpen}
+use Rattle.state.specs.declared.QueuedOpen.{QueuedOpen}
 use Rattle.state.specs.Change.{Step, Change, slotTo, changedAll}
-use Rattle.state.specs.Valid.{isWhole}
+use Rattle.state_whole.specs.Whole.{isWhole}
 use Rattle.table.specs.declared.Allocated.{Allocated}
 use Rattle.table.specs.declared.Allocated.the-variants.{Channel, NoFree}
 use Rattle.table.specs.declared.ChannelId.{ChannelId}
-use Rattle.table.specs.declared.DispatchOutcome.{DispatchOutcome}
-use Rattle.table.specs.declared.DispatchOutcome.the-variants.{AckWrite, CreditGranted, SlotClosed, DataBuffered, IncomingOpen, CancelPendingOpen, StrayReady, ChannelFault, Unmatched}
+use Rattle.table_dispatch.specs.declared.DispatchOutcome.{DispatchOutcome}
+use Rattle.table_dispatch.specs.declared.DispatchOutcome.the-variants.{AckWrite, CreditGranted, SlotClosed, DataBuffered, IncomingOpen, CancelQueuedOpen, StrayReady, ChannelFault, Unmatched}
 use Rattle.table.specs.Table.{allocated, numbered}
-use Rattle.table.specs.Dispatch.{Dispatched}
+use Rattle.table_dispatch.specs.Dispatch.{Dispatched}
 use Rattle.connection.specs.declared.Answer.{Answer}
 use Rattle.connection.specs.declared.Answer.the-variants.{Done, Waiting, Nothing, Opened, Settled as SettledIs, Read, Written, Front as FrontIs, Refused}
 use Rattle.connection.specs.declared.Received.{Received}
@@ -48,54 +48,54 @@ use Rattle.connection.specs.declared.Received.the-variants.{Packet as PacketIs,
 use Rattle.connection.specs.declared.Refusal.{Refusal}
 use Rattle.connection.specs.declared.Refusal.the-variants.{StoreShort, OutShort, NoFreeChannels, PayloadTooLarge, BrokenState}
 use Rattle.connection.specs.Act.{Acted, pushedBy, actedBy, tableOf, actOn}
-use Rattle.connection.specs.Calls.{Lent, Outcome, Work, begun, then, thenActed, withHeader, ends, untouched, checked, checkedOut, openOf, dispatchOf, settleOf, takeOf, readOf, writeOf, closeOf, frontCall, dropped, waitingFor, policy, bodyOf, frameLen, idsIn, isThere, slotFor, receivedOf, unlessFault, stillWaits, dispatchBy, dispatchStep, settledAs, settleStep, takenBy, takeStep, reread, readSettled, readActed, isDirect, readDirect, readBy, readTaken, readFirst, readStep, sendSome, sendBy, sendAgain, writeReadied, writeActed, writeAct, writeBy, writeFirst, writeOn, writeStep, closeStep, frontBy, frontStep, openOn, openReadied, openActed, openBy, openStep}
+use Rattle.connection.specs.Calls.{Lent, Outcome, Work, begun, then, thenActed, storing, ends, untouched, checked, checkedOut, openOutcome, dispatchOutcome, settleOutcome, takeOutcome, readOutcome, writeOutcome, closeOutcome, takeFrontOutcome, dropped, pendingFor, policy, bodyOf, frameLen, idsIn, isThere, slotFor, receivedOf, unlessFault, stillPending, dispatchBy, dispatchStep, settledAs, settleStep, takenBy, takeStep, reread, readSettled, readActed, isDirect, readDirect, readBy, readTaken, readFirst, readStep, sendSome, sendBy, sendAgain, writeReadied, writeActed, writeAct, writeBy, writeFirst, writeOn, writeStep, closeStep, takeFrontBy, takeFrontStep, openOn, openReadied, openActed, openBy, openStep}
 use Rattle.connection.specs.Frames.{Frame, openFrame, writeFrame, framesBytes}
 use Rattle.history.specs.Run.{bytesIn, Call, openCall, dispatchCall, settleCall, takeCall, readCall, writeCall, closeCall, frontTaken, World, lent, outcome}
 use Rattle.history.proofs.Heard.{openIn}
 use Rattle.history.proofs.Steps.{ends-header}
 
--- ---- `act_on` leaves the waiting open
+-- ---- `act_on` leaves the pending open
 
 abbrev PushWaits : Header → Pushed → Type 0
-PushWaits h (Queued more) = (more .waiting ≡ h .waiting) × (more .«next_local» ≡ h .«next_local»)
+PushWaits h (Queued more) = (more .pending ≡ h .pending) × (more .«next_local» ≡ h .«next_local»)
 PushWaits h Full = Unit {0}
 
 -- and the next number, and writes no OPEN
 record Calm (h : Header) (a : Acted) : Type 0 where
-  waits : a .header .waiting ≡ h .waiting
+  pending-is : a .header .pending ≡ h .pending
   next : a .header .«next_local» ≡ h .«next_local»
-  opens : (n : ℕ) → openIn (a .frames) n ≡ n
+  quiet-opens : (n : ℕ) → openIn (a .frames) n ≡ n
 
-push-waits : (h : Header) (opens : List PendingOpen) (remote : RemoteId) (credit : ℕ) (payload store : List ℕ) → PushWaits h (pushed h opens remote credit payload store .result)
+push-waits : (h : Header) (queue : List QueuedOpen) (remote : RemoteId) (credit : ℕ) (payload store : List ℕ) → PushWaits h (pushed h queue remote credit payload store .result)
 unfolding pushed
-push-waits h opens remote credit payload store =
+push-waits h queue remote credit payload store =
     pick (λ (o : PushOutcome). PushWaits h (o .result)) (leb (h .negotiated .config .channels) (h .queued)) (λ t. tt) (λ t. (refl, refl))
 
-module _ (h : Header) (opens : List PendingOpen) (payload store : List ℕ) (d : Dispatched) where
+module _ (h : Header) (queue : List QueuedOpen) (payload store : List ℕ) (d : Dispatched) where
   calm-pushed : (remote : RemoteId) (o : PushOutcome) (r : Pushed) → PushWaits h r → Calm h (pushedBy h store d remote o r)
   unfolding pushedBy
-  calm-pushed remote o (Queued more) e = record { waits = e .0; next = e .1; opens = λ n. refl }
-  calm-pushed remote o Full e = record { waits = refl; next = refl; opens = λ n. refl }
+  calm-pushed remote o (Queued more) e = record { pending-is = e .0; next = e .1; quiet-opens = λ n. refl }
+  calm-pushed remote o Full e = record { pending-is = refl; next = refl; quiet-opens = λ n. refl }
 
-  calm-acted : (o : DispatchOutcome) → Calm h (actedBy h opens payload store d o)
+  calm-acted : (o : DispatchOutcome) → Calm h (actedBy h queue payload store d o)
   unfolding actedBy withdrawal
-  calm-acted (AckWrite i ids len) = record { waits = refl; next = refl; opens = λ n. refl }
-  calm-acted (CreditGranted i) = record { waits = refl; next = refl; opens = λ n. refl }
-  calm-acted (SlotClosed i) = record { waits = refl; next = refl; opens = λ n. refl }
-  calm-acted (DataBuffered i) = record { waits = refl; next = refl; opens = λ n. refl }
+  calm-acted (AckWrite i ids len) = record { pending-is = refl; next = refl; quiet-opens = λ n. refl }
+  calm-acted (CreditGranted i) = record { pending-is = refl; next = refl; quiet-opens = λ n. refl }
+  calm-acted (SlotClosed i) = record { pending-is = refl; next = refl; quiet-opens = λ n. refl }
+  calm-acted (DataBuffered i) = record { pending-is = refl; next = refl; quiet-opens = λ n. refl }
   calm-acted (IncomingOpen remote credit) =
-      calm-pushed remote (pushed h opens remote credit payload store) (pushed h opens remote credit payload store .result) (push-waits h opens remote credit payload store)
-  calm-acted (CancelPendingOpen remote) = record { waits = refl; next = refl; opens = λ n. refl }
-  calm-acted (StrayReady ids) = record { waits = refl; next = refl; opens = λ n. refl }
-  calm-acted (ChannelFault i ids opening f) = record { waits = refl; next = refl; opens = λ n. refl }
-  calm-acted Unmatched = record { waits = refl; next = refl; opens = λ n. refl }
+      calm-pushed remote (pushed h queue remote credit payload store) (pushed h queue remote credit payload store .result) (push-waits h queue remote credit payload store)
+  calm-acted (CancelQueuedOpen remote) = record { pending-is = refl; next = refl; quiet-opens = λ n. refl }
+  calm-acted (StrayReady ids) = record { pending-is = refl; next = refl; quiet-opens = λ n. refl }
+  calm-acted (ChannelFault i ids opening f) = record { pending-is = refl; next = refl; quiet-opens = λ n. refl }
+  calm-acted Unmatched = record { pending-is = refl; next = refl; quiet-opens = λ n. refl }
 
-calm : (h : Header) (ss : List ChannelSlot) (opens : List PendingOpen) (rx store : List ℕ) (k : Packet) (payload : List ℕ) → Calm h (actOn h ss opens rx store k payload)
+calm : (h : Header) (ss : List ChannelSlot) (queue : List QueuedOpen) (rx store : List ℕ) (k : Packet) (payload : List ℕ) → Calm h (actOn h ss queue rx store k payload)
 unfolding actOn
-calm h ss opens rx store k payload = calm-acted h opens payload store (tableOf h ss rx k payload) (tableOf h ss rx k payload .step .result)
+calm h ss queue rx store k payload = calm-acted h queue payload store (tableOf h ss rx k payload) (tableOf h ss rx k payload .step .result)
 
 abbrev FrontWaits : Header → Front → Type 0
-FrontWaits h (FrontOpen q less) = (less .waiting ≡ h .waiting) × (less .«next_local» ≡ h .«next_local»)
+FrontWaits h (FrontOpen q less) = (less .pending ≡ h .pending) × (less .«next_local» ≡ h .«next_local»)
 FrontWaits h NoFront = Unit {0}
 
 -- ---- the calls
@@ -107,15 +107,15 @@ module _ (l : Lent) where
   abbrev after-header : Outcome → Header
   after-header x = changedAll (l .state) (x .changes) .header
 
-  -- no number is given out; an open that waits did so before, and then no OPEN was written
+  -- no number is given out; a pending open was so before, and then no OPEN was written
   pub record Heads (x : Outcome) : Type 0 where
     pub next : changedAll (l .state) (x .changes) .header .«next_local» ≡ l .state .header .«next_local»
-    pub waits : changedAll (l .state) (x .changes) .header .waiting .on ≡ true → changedAll (l .state) (x .changes) .header .waiting ≡ l .state .header .waiting
-    pub opens : changedAll (l .state) (x .changes) .header .waiting .on ≡ true → (a : ℕ) → openIn (x .frames) a ≡ a
+    pub pending-is : changedAll (l .state) (x .changes) .header .pending .on ≡ true → changedAll (l .state) (x .changes) .header .pending ≡ l .state .header .pending
+    pub quiet-opens : changedAll (l .state) (x .changes) .header .pending .on ≡ true → (a : ℕ) → openIn (x .frames) a ≡ a
 
-  -- a header in which none waits
+  -- a header with no pending open
   abbrev Off : Header → Type 0
-  Off h = (h .waiting .on ≡ false) × (h .«next_local» ≡ l .state .header .«next_local»)
+  Off h = (h .pending .on ≡ false) × (h .«next_local» ≡ l .state .header .«next_local»)
 
   off-by : (h : Header) → h ≡ h0 → Off h
   off-by h e = subst Off (sym e) (refl, refl)
@@ -125,32 +125,32 @@ module _ (l : Lent) where
       let h = ends-header (l .state) w n used bs in
       record {
         next = ap (λ (x : Header). x .«next_local») h ∙ e .1;
-        waits = λ t. absurd (true≢false (sym t ∙ ap (λ (x : Header). x .waiting .on) h ∙ e .0));
-        opens = λ t. absurd (true≢false (sym t ∙ ap (λ (x : Header). x .waiting .on) h ∙ e .0));
+        pending-is = λ t. absurd (true≢false (sym t ∙ ap (λ (x : Header). x .pending .on) h ∙ e .0));
+        quiet-opens = λ t. absurd (true≢false (sym t ∙ ap (λ (x : Header). x .pending .on) h ∙ e .0));
       }
 
-  -- the one that waited still does, and no OPEN was written
-  still : (w : Work) (n : Answer) (used : ℕ) (bs : List ℕ) → w .header .«next_local» ≡ l .state .header .«next_local» → (w .header .waiting .on ≡ true → w .header .waiting ≡ l .state .header .waiting)
+  -- the pending one still is, and no OPEN was written
+  still : (w : Work) (n : Answer) (used : ℕ) (bs : List ℕ) → w .header .«next_local» ≡ l .state .header .«next_local» → (w .header .pending .on ≡ true → w .header .pending ≡ l .state .header .pending)
       → ((m : ℕ) → openIn (w .frames) m ≡ m) → Heads (ends w n used bs)
   unfolding ends
   still w n used bs e f o =
       let h = ends-header (l .state) w n used bs in
       record {
         next = ap (λ (x : Header). x .«next_local») h ∙ e;
-        waits = λ t. ap (λ (x : Header). x .waiting) h ∙ f (sym (ap (λ (x : Header). x .waiting .on) h) ∙ t);
-        opens = λ t. o;
+        pending-is = λ t. ap (λ (x : Header). x .pending) h ∙ f (sym (ap (λ (x : Header). x .pending .on) h) ∙ t);
+        quiet-opens = λ t. o;
       }
 
   pub untouched-heads : (r : Refusal) → Heads (untouched l r)
-  untouched-heads r = record { next = refl; waits = λ t. refl; opens = λ t a. refl }
+  untouched-heads r = record { next = refl; pending-is = λ t. refl; quiet-opens = λ t a. refl }
 
-  act-off : (ss : List ChannelSlot) (k : Packet) (payload : List ℕ) → Off (actOn h0 ss (l .state .opens) (l .rx) (l .store) k payload .header)
-  act-off ss k payload = let c = calm h0 ss (l .state .opens) (l .rx) (l .store) k payload in (ap (λ x. x .on) (c .waits), c .next)
+  act-off : (ss : List ChannelSlot) (k : Packet) (payload : List ℕ) → Off (actOn h0 ss (l .state .queue) (l .rx) (l .store) k payload .header)
+  act-off ss k payload = let c = calm h0 ss (l .state .queue) (l .rx) (l .store) k payload in (ap (λ x. x .on) (c .pending-is), c .next)
 
   dispatch-by : (received : List ℕ) (r : Received) → Heads (dispatchBy l h0 received r)
   unfolding dispatchBy
   dispatch-by received (Stop n used) = off (begun h0 l) n used [] (refl, refl)
-  dispatch-by received (PacketIs k) = off (thenActed (begun h0 l) (actOn h0 (l .state .slots) (l .state .opens) (l .rx) (l .store) k (bodyOf received k))) _ (frameLen k) [] (act-off (l .state .slots) k (bodyOf received k))
+  dispatch-by received (PacketIs k) = off (thenActed (begun h0 l) (actOn h0 (l .state .slots) (l .state .queue) (l .rx) (l .store) k (bodyOf received k))) _ (frameLen k) [] (act-off (l .state .slots) k (bodyOf received k))
 
   pub dispatch-heads : (received : List ℕ) → Heads (dispatchStep l received)
   unfolding dispatchStep
@@ -174,15 +174,15 @@ module _ (l : Lent) where
   unfolding closeStep
   close-heads ch = pick Heads (isThere l ch && slotFor l ch .«has_remote») (λ t. off _ _ 0 [] (refl, refl)) (λ t. off (begun h0 l) _ 0 [] (refl, refl))
 
-  front-by : (xs : List Change) (f : Front) → FrontWaits h0 f → Heads (frontBy l h0 xs f)
-  unfolding frontBy
+  front-by : (xs : List Change) (f : Front) → FrontWaits h0 f → Heads (takeFrontBy l h0 xs f)
+  unfolding takeFrontBy
   front-by xs (FrontOpen q less) e = off (then (begun less l) xs []) _ 0 [] (ap (λ x. x .on) (e .0), e .1)
   front-by xs NoFront e = off (begun h0 l) _ 0 [] (refl, refl)
 
-  pub front-heads : Heads (frontStep l)
-  unfolding frontStep popped
+  pub front-heads : Heads (takeFrontStep l)
+  unfolding takeFrontStep popped
   front-heads =
-      front-by (popped h0 (l .state .opens) .changes) (popped h0 (l .state .opens) .result)
+      front-by (popped h0 (l .state .queue) .changes) (popped h0 (l .state .queue) .result)
       (pick (λ (x : Step Front). FrontWaits h0 (x .result)) (eqb (h0 .queued) 0) (λ t. tt) (λ t. (refl, refl)))
 
   -- ---- read
@@ -204,7 +204,7 @@ module _ (l : Lent) where
       pick Heads (isDirect s room k) (λ t. off _ _ (frameLen k) _ (off-by _ e))
       (λ t. pick Heads (closedBy (idsIn s) k) (λ u. off _ _ (frameLen k) [] (off-by _ e))
       (λ u. acted-heads ch room (frameLen k) _ _
-      (subst (λ (x : Header). Off (actOn x (set (l .state .slots) (ch .slot) s) (l .state .opens) (l .rx) (l .store) k (bodyOf received k) .header)) (sym e) (act-off (set (l .state .slots) (ch .slot) s) k (bodyOf received k)))))
+      (subst (λ (x : Header). Off (actOn x (set (l .state .slots) (ch .slot) s) (l .state .queue) (l .rx) (l .store) k (bodyOf received k) .header)) (sym e) (act-off (set (l .state .slots) (ch .slot) s) k (bodyOf received k)))))
 
   read-taken-heads : (ch : ChannelId) (room : ℕ) (w : Work) (s : ChannelSlot) (received : List ℕ) (y : Taken) → w .header ≡ h0 → Heads (readTaken l ch room w s received y)
   unfolding readTaken
@@ -252,7 +252,7 @@ module _ (l : Lent) where
   write-received-heads ch out bytes s received (PacketIs k) =
       pick Heads (isReady (k .command) && eqb (k .arg1) (s .local .0)) (λ t. readied-heads ch out bytes (frameLen k) s (readyOf s (bodyOf received k) (policy l)))
       (λ t. pick Heads (closedBy (idsIn s) k) (λ u. off _ _ (frameLen k) [] (refl, refl))
-      (λ u. write-acted-heads ch out bytes (frameLen k) (actOn h0 (l .state .slots) (l .state .opens) (l .rx) (l .store) k (bodyOf received k)) _ (act-off (l .state .slots) k (bodyOf received k))))
+      (λ u. write-acted-heads ch out bytes (frameLen k) (actOn h0 (l .state .slots) (l .state .queue) (l .rx) (l .store) k (bodyOf received k)) _ (act-off (l .state .slots) k (bodyOf received k))))
 
   write-first-heads : (ch : ChannelId) (out : ℕ) (bytes : List ℕ) (s : ChannelSlot) (received : List ℕ) (x : Budget) → Heads (writeFirst l ch out bytes received (begun h0 l) s x)
   unfolding writeFirst
@@ -270,16 +270,16 @@ module _ (l : Lent) where
 
   -- ---- open
 
-  -- an open call keeps the number and what waits; begins, with the number given out in its OPEN; or gives it out for nothing,
+  -- an open call keeps the number and the pending open; begins, with the number given out in its OPEN; or gives it out for nothing,
   -- refused by 3 for its destination
   pub data Numbers (destination : List ℕ) (x : Outcome) : Type 0 where
     keeps : Heads x → Numbers destination x
-    asks : (ch : ChannelId) → l .state .header .waiting .on ≡ false → allocated (l .state .header) (l .state .slots) ≡ Channel ch → changedAll (l .state) (x .changes) .header ≡ waitingFor (numbered (l .state .header)) ch
-        → x .frames ≡ openFrame (ch .local) (creditOf (l .state .header .negotiated)) destination ∷ [] → Numbers destination x
-    skips : l .state .header .waiting .on ≡ false → changedAll (l .state) (x .changes) .header ≡ numbered (l .state .header) → x .answer ≡ Refused PayloadTooLarge → maxPayload < length destination
+    asks : (ch : ChannelId) → l .state .header .pending .on ≡ false → allocated (l .state .header) (l .state .slots) ≡ Channel ch → changedAll (l .state) (x .changes) .header ≡ pendingFor (numbered (l .state .header)) ch
+        → x .frames ≡ openFrame (ch .local) (offeredCredit (l .state .header .negotiated)) destination ∷ [] → Numbers destination x
+    skips : l .state .header .pending .on ≡ false → changedAll (l .state) (x .changes) .header ≡ numbered (l .state .header) → x .answer ≡ Refused PayloadTooLarge → maxPayload < length destination
         → Numbers destination x
 
-  on-heads : (out : ℕ) (destination : List ℕ) (x : Allocated) → l .state .header .waiting .on ≡ false → allocated (l .state .header) (l .state .slots) ≡ x → Numbers destination (openOn l out destination x)
+  on-heads : (out : ℕ) (destination : List ℕ) (x : Allocated) → l .state .header .pending .on ≡ false → allocated (l .state .header) (l .state .slots) ≡ x → Numbers destination (openOn l out destination x)
   unfolding openOn ends
   on-heads out destination NoFree f e = keeps (still (begun (l .state .header) l) (Refused NoFreeChannels) 0 [] refl (λ t. refl) (λ n. refl))
   on-heads out destination (Channel ch) f e =
@@ -292,8 +292,8 @@ module _ (l : Lent) where
   open-readied-heads ch remote used (Slot t) = off _ _ used [] (refl, refl)
   open-readied-heads ch remote used Short = off _ _ used [] (refl, refl)
 
-  still-on : (n : Answer) (h : Header) → stillWaits n h .waiting .on ≡ true → stillWaits n h .waiting ≡ h .waiting
-  unfolding stillWaits
+  still-on : (n : Answer) (h : Header) → stillPending n h .pending .on ≡ true → stillPending n h .pending ≡ h .pending
+  unfolding stillPending
   still-on Waiting h t = refl
   still-on Done h t = absurd (true≢false (sym t))
   still-on Nothing h t = absurd (true≢false (sym t))
@@ -304,8 +304,8 @@ module _ (l : Lent) where
   still-on (FrontIs r c p n) h t = absurd (true≢false (sym t))
   still-on (Refused r) h t = absurd (true≢false (sym t))
 
-  still-next : (n : Answer) (h : Header) → stillWaits n h .«next_local» ≡ h .«next_local»
-  unfolding stillWaits
+  still-next : (n : Answer) (h : Header) → stillPending n h .«next_local» ≡ h .«next_local»
+  unfolding stillPending
   still-next Waiting h = refl
   still-next Done h = refl
   still-next Nothing h = refl
@@ -316,19 +316,19 @@ module _ (l : Lent) where
   still-next (FrontIs r c p n) h = refl
   still-next (Refused r) h = refl
 
-  open-acted-heads : (used : ℕ) (k : Packet) (payload : List ℕ) → Heads (openActed l used (actOn (l .state .header) (l .state .slots) (l .state .opens) (l .rx) (l .store) k payload))
+  open-acted-heads : (used : ℕ) (k : Packet) (payload : List ℕ) → Heads (openActed l used (actOn (l .state .header) (l .state .slots) (l .state .queue) (l .rx) (l .store) k payload))
   unfolding openActed
   open-acted-heads used k payload =
       let h = l .state .header in
-      let b = actOn h (l .state .slots) (l .state .opens) (l .rx) (l .store) k payload in
-      let c = calm h (l .state .slots) (l .state .opens) (l .rx) (l .store) k payload in
+      let b = actOn h (l .state .slots) (l .state .queue) (l .rx) (l .store) k payload in
+      let c = calm h (l .state .slots) (l .state .queue) (l .rx) (l .store) k payload in
       let a = unlessFault (b .fault) Waiting in
-      still (withHeader (thenActed (begun h l) b) (stillWaits a (b .header))) _ used []
-      (still-next a (b .header) ∙ c .next) (λ t. still-on a (b .header) t ∙ c .waits) (c .opens)
+      still (storing (thenActed (begun h l) b) (stillPending a (b .header))) _ used []
+      (still-next a (b .header) ∙ c .next) (λ t. still-on a (b .header) t ∙ c .pending-is) (c .quiet-opens)
 
   open-received-heads : (ch : ChannelId) (received : List ℕ) (r : Received) → Heads (openBy l ch received r)
   unfolding openBy
-  open-received-heads ch received (Stop n used) = still (begun (stillWaits n (l .state .header)) l) n used [] (still-next n (l .state .header)) (still-on n (l .state .header)) (λ m. refl)
+  open-received-heads ch received (Stop n used) = still (begun (stillPending n (l .state .header)) l) n used [] (still-next n (l .state .header)) (still-on n (l .state .header)) (λ m. refl)
   open-received-heads ch received (PacketIs k) =
       let mine = eqb (k .arg1) (ch .local .0) in
       pick Heads (isReady (k .command) && mine) (λ t. open-readied-heads ch (k .arg0) (frameLen k) _)
@@ -338,7 +338,7 @@ module _ (l : Lent) where
   pub open-numbers : (out : ℕ) (destination received : List ℕ) → Numbers destination (openStep l out destination received)
   unfolding openStep
   open-numbers out destination received =
-      pick (Numbers destination) (l .state .header .waiting .on) (λ t. keeps (open-received-heads _ received (receivedOf l received)))
+      pick (Numbers destination) (l .state .header .pending .on) (λ t. keeps (open-received-heads _ received (receivedOf l received)))
       (λ t. on-heads out destination (allocated (l .state .header) (l .state .slots)) t refl)
 
 -- ---- the calls, with the refusals ahead of them
@@ -361,7 +361,7 @@ module _ (l : Lent) where
       (λ a. pick N (storesFit (l .state .header .negotiated .config) (length (l .rx)) (length (l .store))) (λ b. pick N (ltb out 56) (λ c. keeps (untouched-heads l OutShort)) (λ c. h)) (λ b. keeps (untouched-heads l StoreShort)))
       (λ a. keeps (untouched-heads l BrokenState))
 
--- what each call does with the next number and the open that waits
+-- what each call does with the next number and the pending open
 abbrev pub Moves : World → Call → Type 0
 Moves w (openCall out destination received) = Numbers (lent w) (bytesIn destination) (outcome w (openCall out destination received))
 Moves w (dispatchCall out received) = Heads (lent w) (outcome w (dispatchCall out received))
@@ -373,7 +373,7 @@ Moves w (closeCall out ch) = Heads (lent w) (outcome w (closeCall out ch))
 Moves w frontTaken = Heads (lent w) (outcome w frontTaken)
 
 pub moves : (w : World) (c : Call) → Moves w c
-unfolding outcome openOf dispatchOf settleOf takeOf readOf writeOf closeOf frontCall
+unfolding outcome openOutcome dispatchOutcome settleOutcome takeOutcome readOutcome writeOutcome closeOutcome takeFrontOutcome
 moves w (openCall out destination received) = numbers-out (lent w) (bytesIn destination) (isWhole (w .state)) (length out) _ (open-numbers (lent w) (length out) (bytesIn destination) (bytesIn received))
 moves w (dispatchCall out received) = heads-out (lent w) (isWhole (w .state)) (length out) _ (dispatch-heads (lent w) (bytesIn received))
 moves w (settleCall out ch want) = heads-out (lent w) (isWhole (w .state)) (length out) _ (settle-heads (lent w) ch want)
@@ -383,18 +383,18 @@ moves w (writeCall out ch bytes received) = heads-out (lent w) (isWhole (w .stat
 moves w (closeCall out ch) = heads-out (lent w) (isWhole (w .state)) (length out) _ (close-heads (lent w) ch)
 moves w frontTaken = heads-checked (lent w) (isWhole (w .state)) _ (front-heads (lent w))
 
--- the credit in the last OPEN written, where an open waits: that of the one that did before, or ours
-module _ (w : World) (a credit : ℕ) (is : credit ≡ creditOf (lent w .state .header .negotiated)) (ask : lent w .state .header .waiting .on ≡ true → a ≡ credit) where
+-- the credit in the last OPEN written, where an open is pending: that of the one that did before, or ours
+module _ (w : World) (a credit : ℕ) (is : credit ≡ offeredCredit (lent w .state .header .negotiated)) (ask : lent w .state .header .pending .on ≡ true → a ≡ credit) where
   abbrev Asked : Outcome → Type 0
-  Asked x = changedAll (lent w .state) (x .changes) .header .waiting .on ≡ true → openIn (x .frames) a ≡ credit
+  Asked x = changedAll (lent w .state) (x .changes) .header .pending .on ≡ true → openIn (x .frames) a ≡ credit
 
   heads-asked : (x : Outcome) → Heads (lent w) x → Asked x
-  heads-asked x h t = h .opens t a ∙ ask (sym (ap (λ y. y .on) (h .waits t)) ∙ t)
+  heads-asked x h t = h .quiet-opens t a ∙ ask (sym (ap (λ y. y .on) (h .pending-is t)) ∙ t)
 
   numbers-asked : (destination : List ℕ) (x : Outcome) → Numbers (lent w) destination x → Asked x
   numbers-asked destination x (keeps h) t = heads-asked x h t
   numbers-asked destination x (asks ch q e f g) t = ap (λ (fs : List Frame). openIn fs a) g ∙ sym is
-  numbers-asked destination x (skips f e r d) t = absurd (true≢false (sym t ∙ ap (λ (h : Header). h .waiting .on) e ∙ f))
+  numbers-asked destination x (skips f e r d) t = absurd (true≢false (sym t ∙ ap (λ (h : Header). h .pending .on) e ∙ f))
 
   moves-asked : (c : Call) → Moves w c → Asked (outcome w c)
   moves-asked (openCall out destination received) m = numbers-asked (bytesIn destination) _ m

@@ -18,17 +18,17 @@ use Rattle.le.proofs.Parts.{by-test, part-put-same}
 use Rattle.slot.proofs.Laws.{cond-true, cond-false}
 use Rattle.config.specs.declared.negotiated.Negotiated.{Negotiated}
 use Rattle.config.specs.declared.negotiated.RxPolicy.{RxPolicy}
-use Rattle.protocol.specs.Checksum.{policyFor}
+use Rattle.checksum.specs.Checksum.{policyFor}
 use Rattle.protocol.specs.Packet.{maxPayload, decodeOf, usedOf, frameFor}
 use Rattle.protocol.proofs.RoundTrip.{Comes-back}
 use Rattle.protocol.specs.Command.{isOpen, isReady, isThe, wordOf, lettersOf}
-use Rattle.state.specs.Rows.{flat}
-use Rattle.state.proofs.RowLaws.{Every}
+use Rattle.le.specs.Rows.{flat}
+use Rattle.le.proofs.RowLaws.{Every}
 use Rattle.wire.specs.Wire.{creditBytes, okayBytes, closeBytes}
 use Rattle.wire.proofs.Laws.{back}
 use Rattle.connection.specs.declared.Answer.{Answer}
 use Rattle.connection.specs.declared.Refusal.the-variants.{StoreShort}
-use Rattle.connection.specs.Answer.{refusalNumber, numberOf, refusalWord, valuesOf}
+use Rattle.connection.specs.Answer.{refusalNumber, answerNumber, refusalWord, answerValues}
 use Rattle.connection.specs.Calls.{Lent, Outcome, writtenBy, untouched}
 use Rattle.connection.specs.Frames.{Frame, okayFrame, closeFrame, openFrame, writeFrame, frameBytes, framesBytes, Sent}
 use Rattle.connection.proofs.Sending.{sentOf, SentFits, FrameFits}
@@ -145,7 +145,7 @@ heardOf n o = sawOf o (map (sentOf n) (o .frames))
 
 -- the bytes that an answer counts
 abbrev pub counted : Call → Answer → ℕ
-counted c a = countOf c (numberOf a) (valuesOf a)
+counted c a = countOf c (answerNumber a) (answerValues a)
 
 module _ (n : Negotiated) (c : Call) (o : Outcome) (h : Writes n (length (outOf c)) (length (bufOf c)) o) (k : counted c (o .answer) ≡ length (o .handed)) where
   -- what the answer says is what was done, where the buffers have room for it
@@ -153,8 +153,8 @@ module _ (n : Negotiated) (c : Call) (o : Outcome) (h : Writes n (length (outOf 
   unfolding seenIn writtenBy
   heard-said =
       λ i. record {
-        number = numberOf (o .answer);
-        values = valuesOf (o .answer);
+        number = answerNumber (o .answer);
+        values = answerValues (o .answer);
         used = o .used;
         sent = (ap (sentIn 2) (taken-back (outOf c) (framesBytes n (o .frames)) (h .written)) ∙ heard n (o .frames) (h .few) (h .each)) i;
         got = (ap (λ (x : ℕ). take x (put (bufOf c) 0 (o .handed))) k ∙ taken-back (bufOf c) (o .handed) (h .handed)) i;
@@ -184,10 +184,10 @@ seen-eight e z =
 
 -- what is seen of a call is what its outcome says; one that answers 8 does nothing
 pub heard-call : (n : Negotiated) (c : Call) (l : Lent) (o : Outcome) → Writes n (length (outOf c)) (length (bufOf c)) o → counted c (o .answer) ≡ length (o .handed)
-    → (numberOf (o .answer) ≡ 8 → o ≡ untouched l StoreShort) → seenOf (record { call = c; held = heldBy n c o }) ≡ heardOf n o
-unfolding saidBy numberOf refusalNumber valuesOf refusalWord
+    → (answerNumber (o .answer) ≡ 8 → o ≡ untouched l StoreShort) → seenOf (record { call = c; held = heldBy n c o }) ≡ heardOf n o
+unfolding saidBy answerNumber refusalNumber answerValues refusalWord
 heard-call n c l o h k e =
-    by-test (eqb (numberOf (o .answer)) 8)
-    (λ t. let z = eqb-true (numberOf (o .answer)) 8 t in
+    by-test (eqb (answerNumber (o .answer)) 8)
+    (λ t. let z = eqb-true (answerNumber (o .answer)) 8 t in
     seen-eight (record { call = c; held = heldBy n c o }) z ∙ sym (ap (heardOf n) (e z)))
-    (λ t. ap (seenIn c) (cond-false (eqb (numberOf (o .answer)) 8) _ _ t) ∙ heard-said n c o h k)
+    (λ t. ap (seenIn c) (cond-false (eqb (answerNumber (o .answer)) 8) _ _ t) ∙ heard-said n c o h k)

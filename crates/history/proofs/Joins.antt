@@ -25,12 +25,13 @@ use Rattle.slot.proofs.Laws.{cond-true, cond-false}
 use Rattle.state.specs.declared.Header.{Header}
 use Rattle.state.specs.Change.{Change}
 use Rattle.table.specs.declared.ChannelId.{ChannelId}
-use Rattle.table.specs.Dispatch.{slotIn, shareOf}
+use Rattle.table.specs.Table.{slotIn}
+use Rattle.rx_store.specs.RxStore.{shareOf}
 use Rattle.connection.specs.declared.Answer.{Answer}
 use Rattle.connection.specs.declared.Answer.the-variants.{Opened, Refused}
 use Rattle.connection.specs.declared.Refusal.{Refusal}
-use Rattle.connection.specs.Answer.{refusalNumber, numberOf, valuesOf}
-use Rattle.connection.specs.Calls.{Lent, Outcome, begun, dropped, ends, untouched, policy, bodyOf, isThere, slotFor, dispatchStep, settleStep, takenBy, takeStep, readStep, writeStep, closeStep, frontBy, frontStep, openStep}
+use Rattle.connection.specs.Answer.{refusalNumber, answerNumber, answerValues}
+use Rattle.connection.specs.Calls.{Lent, Outcome, begun, dropped, ends, untouched, policy, bodyOf, isThere, slotFor, dispatchStep, settleStep, takenBy, takeStep, readStep, writeStep, closeStep, takeFrontBy, takeFrontStep, openStep}
 use Rattle.connection.specs.Frames.{Sent}
 use Rattle.history.specs.Run.{Call, openCall, dispatchCall, settleCall, takeCall, readCall, writeCall, closeCall, frontTaken, bytesIn}
 use Rattle.history.specs.Seen.{Seen}
@@ -104,8 +105,8 @@ module _ (p : RxPolicy) (credit : Terms) (i : ℕ) (ss : List ChannelSlot) (rx :
       }
 
   -- a refusal by 8, 9 or 13
-  early-good : (call : Call) (r : Refusal) (fs : List Sent) → isEarly (numberOf (Refused r)) ≡ true → here b → here (entryOn p books i call (saw (Refused r) 0 fs []) b)
-  unfolding entryOn packetB writeB readB numberOf
+  early-good : (call : Call) (r : Refusal) (fs : List Sent) → isEarly (answerNumber (Refused r)) ≡ true → here b → here (entryOn p books i call (saw (Refused r) 0 fs []) b)
+  unfolding entryOn packetB writeB readB answerNumber
   early-good (openCall out destination received) r fs e g = g
   early-good (dispatchCall out received) r fs e g = g
   early-good (settleCall out ch want) r fs e g =
@@ -119,9 +120,9 @@ module _ (p : RxPolicy) (credit : Terms) (i : ℕ) (ss : List ChannelSlot) (rx :
   early-good frontTaken r fs e g = g
 
   refused-opened : (call : Call) (r : Refusal) (fs : List Sent) (c : Book) → openedB i asked call (saw (Refused r) 0 fs []) c ≡ c
-  unfolding openedB numberOf
+  unfolding openedB answerNumber
   refused-opened (openCall out destination received) r fs c =
-      cond-false _ _ c (ap (λ (t : Bool). t && eqb (getD (valuesOf (Refused r)) 0 0) i) (refused-some r))
+      cond-false _ _ c (ap (λ (t : Bool). t && eqb (getD (answerValues (Refused r)) 0 0) i) (refused-some r))
   refused-opened (dispatchCall out received) r fs c = refl
   refused-opened (settleCall out ch want) r fs c = refl
   refused-opened (takeCall ch buf) r fs c = refl
@@ -130,7 +131,7 @@ module _ (p : RxPolicy) (credit : Terms) (i : ℕ) (ss : List ChannelSlot) (rx :
   refused-opened (closeCall out ch) r fs c = refl
   refused-opened frontTaken r fs c = refl
 
-  pub early-kept : (call : Call) (l : Lent) (r : Refusal) (fs : List Sent) → l .rx ≡ rx → isEarly (numberOf (Refused r)) ≡ true → ((n : ℕ) → acksOf n fs ≡ 0)
+  pub early-kept : (call : Call) (l : Lent) (r : Refusal) (fs : List Sent) → l .rx ≡ rx → isEarly (answerNumber (Refused r)) ≡ true → ((n : ℕ) → acksOf n fs ≡ 0)
       → KeptBy p credit i ss (untouched l r) (bookAfter p books asked call (sawOf (untouched l r) fs) i b)
   early-kept call l r fs er e z =
       plain-kept call (untouched l r) fs tt (refused-opened call r fs)
@@ -141,10 +142,10 @@ module _ (p : RxPolicy) (credit : Terms) (i : ℕ) (ss : List ChannelSlot) (rx :
 
 module _ (credit : Terms) (l : Lent) (ok : TableOk (policy l) (l .state .header .negotiated .config .channels) (l .state .slots) (l .rx))
     (lim : Limits (policy l) credit (l .state .header .negotiated .config .«max_payload»))
-    (apart : l .state .header .waiting .on ≡ true → slotIn (l .state .slots) (l .state .header .waiting .slot) .filled ≡ false)
-    (placed : l .state .header .waiting .on ≡ true → l .state .header .waiting .slot < 64)
+    (apart : l .state .header .pending .on ≡ true → slotIn (l .state .slots) (l .state .header .pending .slot) .filled ≡ false)
+    (placed : l .state .header .pending .on ≡ true → l .state .header .pending .slot < 64)
     (books : List Book) (mk : Marked books (l .state .slots)) (asked : ℕ)
-    (asks : l .state .header .waiting .on ≡ true → policy l .delayed ≡ true → asked ≡ credit .credit)
+    (asks : l .state .header .pending .on ≡ true → policy l .delayed ≡ true → asked ≡ credit .credit)
     (i : ℕ) (b : Book) (k : KeptAt (policy l) credit i (l .state .slots) (l .rx) b) where
   abbrev p : RxPolicy
   p = policy l
@@ -159,7 +160,7 @@ module _ (credit : Terms) (l : Lent) (ok : TableOk (policy l) (l .state .header 
   abbrev pub Follows : Call → Outcome → Type 0
   Follows call x = (fs : List Sent) → Hears x fs → KeptBy p credit i ws x (bookAfter p books asked call (sawOf x fs) i b)
 
-  pub early-follows : (call : Call) (r : Refusal) → isEarly (numberOf (Refused r)) ≡ true → Follows call (untouched l r)
+  pub early-follows : (call : Call) (r : Refusal) → isEarly (answerNumber (Refused r)) ≡ true → Follows call (untouched l r)
   early-follows call r e fs hs = early-kept p credit i ws (l .rx) books asked b k call l r fs refl e hs
 
   pub dispatch-follows : (out received : List ℕ) → Follows (dispatchCall out received) (dispatchStep l (bytesIn received))
@@ -205,17 +206,17 @@ module _ (credit : Terms) (l : Lent) (ok : TableOk (policy l) (l .state .header 
       plain-kept p credit i ws (l .rx) books asked b k (writeCall out ch bytes received) (writeStep l ch (length out) (bytesIn bytes) (bytesIn received)) fs (write-tame l ok ch (length out) (bytesIn bytes) (bytesIn received)) (λ c. refl)
       (λ g f. write-call l credit ok lim i f b g books mk ch (length out) (bytesIn bytes) (bytesIn received) fs (hs (b .local)))
 
-  front-silent : (n : ℕ) (h : Header) (xs : List Change) (f : Front) → acksIn p n (frontBy l h xs f .frames) ≡ 0
-  unfolding frontBy ends
+  front-silent : (n : ℕ) (h : Header) (xs : List Change) (f : Front) → acksIn p n (takeFrontBy l h xs f .frames) ≡ 0
+  unfolding takeFrontBy ends
   front-silent n h xs (FrontOpen q less) = refl
   front-silent n h xs NoFront = refl
 
-  pub front-follows : Follows frontTaken (frontStep l)
-  unfolding openedB entryOn frontStep
+  pub front-follows : Follows frontTaken (takeFrontStep l)
+  unfolding openedB entryOn takeFrontStep
   front-follows fs hs =
-      plain-kept p credit i ws (l .rx) books asked b k frontTaken (frontStep l) fs (front-tame l ok) (λ c. refl)
+      plain-kept p credit i ws (l .rx) books asked b k frontTaken (takeFrontStep l) fs (front-tame l ok) (λ c. refl)
       (λ g f. acked-none p credit _ _ _ (front-call l credit ok lim i f b g books mk) (acksOf (b .local) fs)
-      (hs (b .local) ∙ front-silent (b .local) (dropped (l .state .header)) (popped (dropped (l .state .header)) (l .state .opens) .changes) (popped (dropped (l .state .header)) (l .state .opens) .result)))
+      (hs (b .local) ∙ front-silent (b .local) (dropped (l .state .header)) (popped (dropped (l .state .header)) (l .state .queue) .changes) (popped (dropped (l .state .header)) (l .state .queue) .result)))
 
   -- ---- close
 
@@ -245,14 +246,14 @@ module _ (credit : Terms) (l : Lent) (ok : TableOk (policy l) (l .state .header 
     closeO = sawOf closing fs
 
     -- the channel that is closed has no book any more
-    book-this : here p credit i ws (l .rx) books asked b k b → (isOn i b ch && not (isRefused (numberOf (closing .answer)))) ≡ true → bookAfter p books asked (closeCall out ch) closeO i b ≡ noBook
+    book-this : here p credit i ws (l .rx) books asked b k b → (isOn i b ch && not (isRefused (answerNumber (closing .answer)))) ≡ true → bookAfter p books asked (closeCall out ch) closeO i b ≡ noBook
     unfolding bookAfter openedB entryOn acksB
-    book-this g e = ap (acksB closeO) (cond-true (b .there) _ _ (g .there) ∙ cond-true (isOn i b ch && not (isRefused (numberOf (closing .answer)))) noBook b e)
+    book-this g e = ap (acksB closeO) (cond-true (b .there) _ _ (g .there) ∙ cond-true (isOn i b ch && not (isRefused (answerNumber (closing .answer)))) noBook b e)
 
-    book-else : here p credit i ws (l .rx) books asked b k b → (isOn i b ch && not (isRefused (numberOf (closing .answer)))) ≡ false → bookAfter p books asked (closeCall out ch) closeO i b ≡ ackedB (acksOf (b .local) fs) b
+    book-else : here p credit i ws (l .rx) books asked b k b → (isOn i b ch && not (isRefused (answerNumber (closing .answer)))) ≡ false → bookAfter p books asked (closeCall out ch) closeO i b ≡ ackedB (acksOf (b .local) fs) b
     unfolding bookAfter openedB entryOn
     book-else g e =
-        ap (acksB closeO) (cond-true (b .there) _ _ (g .there) ∙ cond-false (isOn i b ch && not (isRefused (numberOf (closing .answer)))) noBook b e)
+        ap (acksB closeO) (cond-true (b .there) _ _ (g .there) ∙ cond-false (isOn i b ch && not (isRefused (answerNumber (closing .answer)))) noBook b e)
         ∙ acks-there closeO b (b .local) (g .there) refl
 
     unopened : openedB i asked (closeCall out ch) closeO b ≡ b
@@ -268,7 +269,7 @@ module _ (credit : Terms) (l : Lent) (ok : TableOk (policy l) (l .state .header 
               let w = on l credit ok lim i f0 b g books mk ch in
               by-test (isOn i b ch)
               (λ o. absurd (true≢false (sym f ∙ close-this l credit ok lim i f0 b g books mk ch w o .0)))
-              (λ o. good-by p credit _ _ _ _ _ _ refl refl (book-else g (ap (λ (t : Bool). t && not (isRefused (numberOf (closing .answer)))) o))
+              (λ o. good-by p credit _ _ _ _ _ _ refl refl (book-else g (ap (λ (t : Bool). t && not (isRefused (answerNumber (closing .answer)))) o))
               (acked-none p credit _ _ _ (close-else l credit ok lim i f0 b g books mk ch w o) (acksOf (b .local) fs) (hs (b .local) ∙ close-silent (b .local) ch))))
               (λ f0. absurd (true≢false (sym f ∙ close-empty ch f0)));
           none = λ f.
@@ -284,12 +285,12 @@ module _ (credit : Terms) (l : Lent) (ok : TableOk (policy l) (l .state .header 
 
   -- ---- open
 
-  -- a channel in the table is not at the place of the open that waits
-  not-waiting : slotIn ws i .filled ≡ true → l .state .header .waiting .on ≡ true → i ≡ l .state .header .waiting .slot → ⊥
-  not-waiting f t e = true≢false (sym f ∙ ap (λ (z : ℕ). slotIn ws z .filled) e ∙ apart t)
+  -- a channel in the table is not at the place of the pending open
+  not-pending : slotIn ws i .filled ≡ true → l .state .header .pending .on ≡ true → i ≡ l .state .header .pending .slot → ⊥
+  not-pending f t e = true≢false (sym f ∙ ap (λ (z : ℕ). slotIn ws z .filled) e ∙ apart t)
 
-  -- the place of the open that waits is one of the table's
-  own-slot : l .state .header .waiting .on ≡ true → (j : ℕ) (t : ChannelSlot) → j ≡ l .state .header .waiting .slot → j ≡ i → slotIn (set ws j t) i ≡ t
+  -- the place of the pending open is one of the table's
+  own-slot : l .state .header .pending .on ≡ true → (j : ℕ) (t : ChannelSlot) → j ≡ l .state .header .pending .slot → j ≡ i → slotIn (set ws j t) i ≡ t
   own-slot on j t e f =
       let z = ok .size in
       let h = placed on in
@@ -300,22 +301,22 @@ module _ (credit : Terms) (l : Lent) (ok : TableOk (policy l) (l .state .header 
     openE = openCall out destination received
 
     abbrev wslot : ℕ
-    wslot = l .state .header .waiting .slot
+    wslot = l .state .header .pending .slot
 
     abbrev wlocal : ℕ
-    wlocal = l .state .header .waiting .local .0
+    wlocal = l .state .header .pending .local .0
 
     -- an answer that is not done fills none
-    undone-book : (x : Outcome) (c : Book) → eqb (numberOf (x .answer)) 0 ≡ false → openedB i asked openE (sawOf x fs) c ≡ c
+    undone-book : (x : Outcome) (c : Book) → eqb (answerNumber (x .answer)) 0 ≡ false → openedB i asked openE (sawOf x fs) c ≡ c
     unfolding openedB
-    undone-book x c e = cond-false _ _ c (ap (λ (t : Bool). t && eqb (getD (valuesOf (x .answer)) 0 0) i) e)
+    undone-book x c e = cond-false _ _ c (ap (λ (t : Bool). t && eqb (getD (answerValues (x .answer)) 0 0) i) e)
 
     -- one that is done fills the slot that it names
-    filled-book : (x : Outcome) (c : Book) → x .answer ≡ Opened (record { slot = wslot; local = l .state .header .waiting .local })
+    filled-book : (x : Outcome) (c : Book) → x .answer ≡ Opened (record { slot = wslot; local = l .state .header .pending .local })
         → openedB i asked openE (sawOf x fs) c ≡ cond (eqb wslot i) (newBook wlocal (headerAt (bytesIn received) .arg0) asked) c
-    unfolding openedB numberOf valuesOf
+    unfolding openedB answerNumber answerValues
     filled-book x c e =
-        ap (λ (a : Answer). cond (eqb (numberOf a) 0 && eqb (getD (valuesOf a) 0 0) i) (newBook (getD (valuesOf a) 1 0) (headerAt (bytesIn received) .arg0) asked) c) e
+        ap (λ (a : Answer). cond (eqb (answerNumber a) 0 && eqb (getD (answerValues a) 0 0) i) (newBook (getD (answerValues a) 1 0) (headerAt (bytesIn received) .arg0) asked) c) e
 
     -- by what the open did
     open-by : (x : Outcome) → Opens l (bytesIn received) x → Hears x fs
@@ -329,7 +330,7 @@ module _ (credit : Terms) (l : Lent) (ok : TableOk (policy l) (l .state .header 
         let nb = newBook wlocal (headerAt (bytesIn received) .arg0) asked in
         let ng = subst (λ (z : ℕ). Good p credit t [] (newBook wlocal z asked)) (sym a0)
         (subst (Leaves (λ (u : ChannelSlot). Good p credit u [] (newBook wlocal (q .arg0) asked))) e4
-        (new-good p credit asked (l .state .header .waiting .local) (record { 0 = q .arg0 }) (asks on) (bodyOf (bytesIn received) q))) in
+        (new-good p credit asked (l .state .header .pending .local) (record { 0 = q .arg0 }) (asks on) (bodyOf (bytesIn received) q))) in
         let inner : Book = cond (b .there) (entryOn p books i openE o b) b in
         let quiet : (n : ℕ) → acksOf n fs ≡ 0 = λ n. hs n ∙ ap (acksIn p n) e5 in
         record {
@@ -363,4 +364,4 @@ module _ (credit : Terms) (l : Lent) (ok : TableOk (policy l) (l .state .header 
   unfolding entryOn
   open-follows out destination received fs hs =
       open-by out destination received fs (openStep l (length out) (bytesIn destination) (bytesIn received)) (opens l ok (bytesIn received) (length out) (bytesIn destination)) hs
-      (λ g f. open-call l credit ok lim i f b g books mk (bytesIn received) fs (length out) (bytesIn destination) (not-waiting f) (hs (b .local)))
+      (λ g f. open-call l credit ok lim i f b g books mk (bytesIn received) fs (length out) (bytesIn destination) (not-pending f) (hs (b .local)))

@@ -17,7 +17,6 @@ use Rattle.incoming.specs.declared.Pushed.{Pushed}
 use Rattle.incoming.specs.declared.Pushed.the-variants.{Queued, Full}
 use Rattle.incoming.specs.Incoming.{PushOutcome, pushed, withdrawal, popped}
 use Rattle.protocol.specs.declared.command.Command.{Command}
-use Rattle.protocol.specs.declared.command.Command.the-variants.{Sync, Connect, Open, Ready, Close, Write, Auth, StartTls}
 use Rattle.protocol.specs.declared.packet.Packet.{Packet}
 use Rattle.protocol.specs.Command.{isReady}
 use Rattle.slot.specs.declared.ids.LocalId.{LocalId}
@@ -36,29 +35,30 @@ use Rattle.slot.specs.declared.Taken.{Taken}
 use Rattle.slot.specs.declared.Taken.the-variants.{Data, Nothing as NothingTaken, Closed as ClosedTaken}
 use Rattle.slot.specs.Ids.{closedBy}
 use Rattle.slot.specs.Slot.{emptySlot, isOpening, isFailed, isClosed, hasData, settledOf, takenOf, tookOf, takeLen, deliveredOf, closedSlot, spentOf, budgetOf, readyOf, wroteOf}
-use Rattle.slot.proofs.Stays.{Stays, ReadiedStays, ready-stays, wrote-stays, closed-stays, settled-stays, took-stays, delivered-stays, spent-stays}
+use Rattle.slot.proofs.Stays.{ReadiedStays, Stays, closed-stays, delivered-stays, ready-stays, settled-stays, spent-stays, took-stays, wrote-stays}
 use Rattle.slot.proofs.Kept.{pick, settled-sound}
 use Rattle.slot.proofs.Laws.{cond-false}
 use Rattle.state.specs.declared.Header.{Header}
-use Rattle.state.specs.declared.PendingOpen.{PendingOpen}
-use Rattle.state.specs.Change.{Step, Change, slotTo, headerTo, openTo, opensTo, changedAll}
+use Rattle.state.specs.declared.QueuedOpen.{QueuedOpen}
+use Rattle.state.specs.Change.{Step, Change, slotTo, headerTo, queuedTo, queueTo, changedAll}
 use Rattle.table.specs.declared.ChannelId.{ChannelId}
-use Rattle.table.specs.declared.DispatchOutcome.{DispatchOutcome}
-use Rattle.table.specs.declared.DispatchOutcome.the-variants.{AckWrite, CreditGranted, SlotClosed, DataBuffered, IncomingOpen, CancelPendingOpen, StrayReady, ChannelFault, Unmatched}
+use Rattle.table_dispatch.specs.declared.DispatchOutcome.{DispatchOutcome}
+use Rattle.table_dispatch.specs.declared.DispatchOutcome.the-variants.{AckWrite, CreditGranted, SlotClosed, DataBuffered, IncomingOpen, CancelQueuedOpen, StrayReady, ChannelFault, Unmatched}
 use Rattle.table.specs.declared.Want.the-variants.{Local}
-use Rattle.table.specs.Table.{wantedBy, placeOf}
-use Rattle.table.specs.Dispatch.{slotIn, remotePlace, closedAt, closeOf, readiedOf, granted, readyAt, grantOf, Dispatched, wroteBy, wroteAt, writeOf, routeOf, dispatchOf}
+use Rattle.table.specs.Table.{wantedBy, placeOf, slotIn}
+use Rattle.table_dispatch.specs.Dispatch.{remotePlace, closedAt, closeOf, readiedOf, granted, readyAt, grantOf, Dispatched, wroteBy, wroteAt, writeOf, routeOf, dispatchOf}
+use Rattle.table_dispatch.proofs.RouteLaws.{by-route}
 use Rattle.connection.specs.declared.Answer.{Answer}
 use Rattle.connection.specs.declared.Answer.the-variants.{Written}
 use Rattle.connection.specs.declared.Received.{Received}
 use Rattle.connection.specs.declared.Received.the-variants.{Packet as PacketIs, Stop}
 use Rattle.connection.specs.Act.{Acted, pushedBy, actedBy, tableOf, actOn}
-use Rattle.connection.specs.Calls.{Lent, Outcome, Work, begun, then, thenActed, ends, dropped, policy, bodyOf, frameLen, isThere, slotFor, ackFrames, receivedOf, dispatchBy, dispatchStep, settledAs, settleStep, takenBy, takeStep, reread, readSettled, readActed, isDirect, readDirect, readBy, readTaken, readFirst, readStep, sendSome, sendBy, sendAgain, writeReadied, writeActed, writeAct, writeBy, writeFirst, writeOn, writeStep, frontBy, frontStep, idsIn}
+use Rattle.connection.specs.Calls.{Lent, Outcome, Work, begun, then, thenActed, ends, dropped, policy, bodyOf, frameLen, isThere, slotFor, ackFrames, receivedOf, dispatchBy, dispatchStep, settledAs, settleStep, takenBy, takeStep, reread, readSettled, readActed, isDirect, readDirect, readBy, readTaken, readFirst, readStep, sendSome, sendBy, sendAgain, writeReadied, writeActed, writeAct, writeBy, writeFirst, writeOn, writeStep, takeFrontBy, takeFrontStep, idsIn}
 use Rattle.connection.specs.Frames.{Frame, writeFrame, framesBytes}
 use Rattle.history.proofs.Acts.{NoSlot, pushed-slots, withdrawn-slots}
 use Rattle.connection.proofs.Slots.{slotsBy, slots-by}
 use Rattle.history.proofs.Places.{TableOk, found-filled}
-use Rattle.history.proofs.Steps.{settled-alike, table-set}
+use Rattle.history.proofs.Steps.{table-set}
 
 -- whether a slot is filled, and its local number
 pub record Mark : Type 0 where
@@ -73,8 +73,8 @@ abbrev pub Tame : List ChannelSlot → List Change → Type 0
 Tame ss [] = Unit {0}
 Tame ss (slotTo i t ∷ xs) = (markOf t ≡ markOf (slotIn ss i)) × Tame (set ss i t) xs
 Tame ss (headerTo h ∷ xs) = Tame ss xs
-Tame ss (openTo i q ∷ xs) = Tame ss xs
-Tame ss (opensTo qs ∷ xs) = Tame ss xs
+Tame ss (queuedTo i q ∷ xs) = Tame ss xs
+Tame ss (queueTo qs ∷ xs) = Tame ss xs
 
 -- leave the marks
 pub tame-marks : (ss : List ChannelSlot) (xs : List Change) → Tame ss xs → map markOf (slotsBy ss xs) ≡ map markOf ss
@@ -82,15 +82,15 @@ unfolding slotIn
 tame-marks ss [] t = refl
 tame-marks ss (slotTo i s ∷ xs) t = tame-marks (set ss i s) xs (t .1) ∙ map-set-same markOf ss i s emptySlot (t .0)
 tame-marks ss (headerTo h ∷ xs) t = tame-marks ss xs t
-tame-marks ss (openTo i q ∷ xs) t = tame-marks ss xs t
-tame-marks ss (opensTo qs ∷ xs) t = tame-marks ss xs t
+tame-marks ss (queuedTo i q ∷ xs) t = tame-marks ss xs t
+tame-marks ss (queueTo qs ∷ xs) t = tame-marks ss xs t
 
 pub tame-append : (ss : List ChannelSlot) (xs ys : List Change) → Tame ss xs → Tame (slotsBy ss xs) ys → Tame ss (xs ++ ys)
 tame-append ss [] ys t u = u
 tame-append ss (slotTo i s ∷ xs) ys t u = (t .0, tame-append (set ss i s) xs ys (t .1) u)
 tame-append ss (headerTo h ∷ xs) ys t u = tame-append ss xs ys t u
-tame-append ss (openTo i q ∷ xs) ys t u = tame-append ss xs ys t u
-tame-append ss (opensTo qs ∷ xs) ys t u = tame-append ss xs ys t u
+tame-append ss (queuedTo i q ∷ xs) ys t u = tame-append ss xs ys t u
+tame-append ss (queueTo qs ∷ xs) ys t u = tame-append ss xs ys t u
 
 -- so each place is filled as it was, with the number that it had
 pub tame-at : (ss : List ChannelSlot) (xs : List Change) → Tame ss xs → (i : ℕ) → markOf (slotIn (slotsBy ss xs) i) ≡ markOf (slotIn ss i)
@@ -117,8 +117,8 @@ tame-none : (ss : List ChannelSlot) (xs : List Change) → NoSlot xs → Tame ss
 tame-none ss [] n = tt
 tame-none ss (slotTo i s ∷ xs) n = absurd n
 tame-none ss (headerTo h ∷ xs) n = tame-none ss xs n
-tame-none ss (openTo i q ∷ xs) n = tame-none ss xs n
-tame-none ss (opensTo qs ∷ xs) n = tame-none ss xs n
+tame-none ss (queuedTo i q ∷ xs) n = tame-none ss xs n
+tame-none ss (queueTo qs ∷ xs) n = tame-none ss xs n
 
 module _ (p : RxPolicy) (n : ℕ) (ss : List ChannelSlot) (rx : List ℕ) (ok : TableOk p n ss rx) (payload : List ℕ) where
   abbrev tame-step : Step DispatchOutcome → Type 0
@@ -131,7 +131,7 @@ module _ (p : RxPolicy) (n : ℕ) (ss : List ChannelSlot) (rx : List ℕ) (ok : 
   tame-close : (remote : RemoteId) (local : LocalId) → tame-step (closeOf n ss remote local)
   unfolding closeOf
   tame-close remote local =
-      pick tame-step (eqb (local .0) 0) (λ t. tame-closed (remotePlace n ss remote) (CancelPendingOpen remote)) (λ t. tame-closed (placeOf (Local local) n ss) Unmatched)
+      pick tame-step (eqb (local .0) 0) (λ t. tame-closed (remotePlace n ss remote) (CancelQueuedOpen remote)) (λ t. tame-closed (placeOf (Local local) n ss) Unmatched)
 
   tame-granted : (f : ℕ) (remote : RemoteId) (r : Readied) → ReadiedStays (slotIn ss f) r → tame-step (granted f (slotIn ss f) remote r)
   unfolding granted
@@ -164,40 +164,34 @@ module _ (p : RxPolicy) (n : ℕ) (ss : List ChannelSlot) (rx : List ℕ) (ok : 
       pick P (ltb f n) (λ t. pick P (isFailed (slotIn ss f .failed)) (λ u. tt) (λ u. tame-wrote f remote (wroteOf (slotIn ss f) p (length payload) .decision))) (λ t. tt)
 
   tame-route : (c : Command) (a l : ℕ) → Tame ss (routeOf p n ss c a l payload rx .step .changes)
-  unfolding routeOf
-  tame-route Connect a l = tt
-  tame-route Auth a l = tt
-  tame-route StartTls a l = tt
-  tame-route Open a l = tt
-  tame-route Close a l = tame-close (record { 0 = a }) (record { 0 = l })
-  tame-route Write a l = tame-write (record { 0 = a }) (record { 0 = l })
-  tame-route Ready a l = tame-ready (record { 0 = a }) (record { 0 = l })
-  tame-route Sync a l = tt
+  tame-route c a l =
+      by-route p n ss a l payload rx (λ c d. Tame ss (d .step .changes)) (λ c h. tt) tt (tame-close (record { 0 = a }) (record { 0 = l }))
+      (tame-write (record { 0 = a }) (record { 0 = l })) (tame-ready (record { 0 = a }) (record { 0 = l })) c
 
-module _ (ss : List ChannelSlot) (h : Header) (opens : List PendingOpen) (payload store : List ℕ) (d : Dispatched) (t : Tame ss (d .step .changes)) where
+module _ (ss : List ChannelSlot) (h : Header) (queue : List QueuedOpen) (payload store : List ℕ) (d : Dispatched) (t : Tame ss (d .step .changes)) where
   tame-pushed : (remote : RemoteId) (o : PushOutcome) (r : Pushed) → NoSlot (o .changes) → Tame ss (pushedBy h store d remote o r .changes)
   unfolding pushedBy
   tame-pushed remote o (Queued more) e = tame-append ss (d .step .changes) (o .changes) t (tame-none _ (o .changes) e)
   tame-pushed remote o Full e = t
 
-  tame-acted : (o : DispatchOutcome) → Tame ss (actedBy h opens payload store d o .changes)
+  tame-acted : (o : DispatchOutcome) → Tame ss (actedBy h queue payload store d o .changes)
   unfolding actedBy
   tame-acted (AckWrite i ids len) = t
   tame-acted (CreditGranted i) = t
   tame-acted (SlotClosed i) = t
   tame-acted (DataBuffered i) = t
   tame-acted (IncomingOpen remote credit) =
-      tame-pushed remote (pushed h opens remote credit payload store) (pushed h opens remote credit payload store .result) (pushed-slots h opens remote credit payload store)
-  tame-acted (CancelPendingOpen remote) = tame-append ss (d .step .changes) (withdrawal h opens remote .changes) t (tame-none _ (withdrawal h opens remote .changes) (withdrawn-slots h opens remote))
+      tame-pushed remote (pushed h queue remote credit payload store) (pushed h queue remote credit payload store .result) (pushed-slots h queue remote credit payload store)
+  tame-acted (CancelQueuedOpen remote) = tame-append ss (d .step .changes) (withdrawal h queue remote .changes) t (tame-none _ (withdrawal h queue remote .changes) (withdrawn-slots h queue remote))
   tame-acted (StrayReady ids) = t
   tame-acted (ChannelFault i ids opening f) = t
   tame-acted Unmatched = t
 
-pub tame-act : (h : Header) (ss : List ChannelSlot) (opens : List PendingOpen) (rx store : List ℕ) (k : Packet) (payload : List ℕ) → TableOk (policyOf (h .negotiated)) (h .negotiated .config .channels) ss rx
-    → Tame ss (actOn h ss opens rx store k payload .changes)
+pub tame-act : (h : Header) (ss : List ChannelSlot) (queue : List QueuedOpen) (rx store : List ℕ) (k : Packet) (payload : List ℕ) → TableOk (policyOf (h .negotiated)) (h .negotiated .config .channels) ss rx
+    → Tame ss (actOn h ss queue rx store k payload .changes)
 unfolding actOn tableOf dispatchOf
-tame-act h ss opens rx store k payload ok =
-    tame-acted ss h opens payload store (tableOf h ss rx k payload)
+tame-act h ss queue rx store k payload ok =
+    tame-acted ss h queue payload store (tableOf h ss rx k payload)
     (tame-route (policyOf (h .negotiated)) (h .negotiated .config .channels) ss rx ok payload (k .command) (k .arg0) (k .arg1)) (tableOf h ss rx k payload .step .result)
 
 -- what is taken keeps the mark
@@ -239,8 +233,8 @@ module _ (l : Lent) (ok : TableOk (policy l) (l .state .header .negotiated .conf
   unfolding dispatchBy
   dispatch-tame-by h received (Stop a used) e o = tame-plain h a used []
   dispatch-tame-by h received (PacketIs k) e o =
-      let act = actOn h ss (l .state .opens) (l .rx) (l .store) k (bodyOf received k) in
-      tame-ends ss (thenActed (begun h l) act) _ (frameLen k) [] (tame-act h ss (l .state .opens) (l .rx) (l .store) k (bodyOf received k) o)
+      let act = actOn h ss (l .state .queue) (l .rx) (l .store) k (bodyOf received k) in
+      tame-ends ss (thenActed (begun h l) act) _ (frameLen k) [] (tame-act h ss (l .state .queue) (l .rx) (l .store) k (bodyOf received k) o)
 
   pub dispatch-tame : (received : List ℕ) → tame (dispatchStep l received)
   unfolding dispatchStep
@@ -265,15 +259,15 @@ module _ (l : Lent) (ok : TableOk (policy l) (l .state .header .negotiated .conf
       (λ d. pick P (isClosed (s .state)) (λ c. tame-plain h0 _ 0 []) (λ c. tame-plain h0 _ 0 [])))
       (λ t. tame-plain h0 _ 0 [])
 
-  front-tame-by : (h : Header) (xs : List Change) (f : Front) → Tame ss xs → tame (frontBy l h xs f)
-  unfolding frontBy
+  front-tame-by : (h : Header) (xs : List Change) (f : Front) → Tame ss xs → tame (takeFrontBy l h xs f)
+  unfolding takeFrontBy
   front-tame-by h xs (FrontOpen q less) t = tame-ends ss (then (begun less l) xs []) _ 0 [] t
   front-tame-by h xs NoFront t = tame-plain h _ 0 []
 
-  pub front-tame : tame (frontStep l)
-  unfolding frontStep popped
+  pub front-tame : tame (takeFrontStep l)
+  unfolding takeFrontStep popped
   front-tame =
-      front-tame-by h0 (popped h0 (l .state .opens) .changes) (popped h0 (l .state .opens) .result)
+      front-tame-by h0 (popped h0 (l .state .queue) .changes) (popped h0 (l .state .queue) .result)
       (pick (λ (x : Step Front). Tame ss (x .changes)) (eqb (h0 .queued) 0) (λ t. tt) (λ t. tt))
 
   -- ---- read
@@ -300,16 +294,16 @@ module _ (l : Lent) (ok : TableOk (policy l) (l .state .header .negotiated .conf
       ss1 = set ss j s1
 
       ok1 : TableOk p (l .state .header .negotiated .config .channels) ss1 (l .rx)
-      ok1 = table-set p (l .state .header .negotiated .config .channels) ss (l .rx) j s1 ok fill (settled-alike (slotIn ss j) p room (ok .known j fill)) (settled-sound (slotIn ss j) p room (p .«rx_cap») (ok .sound j fill))
+      ok1 = table-set p (l .state .header .negotiated .config .channels) ss (l .rx) j s1 ok fill (settled-stays (slotIn ss j) p room) (settled-sound (slotIn ss j) p room (p .«rx_cap») (ok .sound j fill))
 
       abbrev act : Acted
-      act = actOn h0 ss1 (l .state .opens) (l .rx) (l .store) k (bodyOf received k)
+      act = actOn h0 ss1 (l .state .queue) (l .rx) (l .store) k (bodyOf received k)
 
       abbrev w2 : Work
       w2 = thenActed (then w1 (slotTo j s1 ∷ []) []) act
 
       tame2 : Tame ss (w2 .changes)
-      tame2 = (mark1, tame-act h0 ss1 (l .state .opens) (l .rx) (l .store) k (bodyOf received k) ok1)
+      tame2 = (mark1, tame-act h0 ss1 (l .state .queue) (l .rx) (l .store) k (bodyOf received k) ok1)
 
       abbrev s2 : ChannelSlot
       s2 = slotIn (slotsBy ss1 (act .changes)) j
@@ -402,12 +396,12 @@ module _ (l : Lent) (ok : TableOk (policy l) (l .state .header .negotiated .conf
     readied-tame used (Slot t) x = again-tame used w0 t tt (stays-mark s0 t x)
     readied-tame used Short x = tame-plain h0 _ used []
 
-    fault-tame : (used : ℕ) (k : Packet) (f : Failed) → tame (writeActed l ch out bytes used w0 (actOn h0 ss (l .state .opens) (l .rx) (l .store) k (bodyOf received k)) f)
+    fault-tame : (used : ℕ) (k : Packet) (f : Failed) → tame (writeActed l ch out bytes used w0 (actOn h0 ss (l .state .queue) (l .rx) (l .store) k (bodyOf received k)) f)
     unfolding writeActed
-    fault-tame used k (By f) = tame-ends ss (thenActed w0 (actOn h0 ss (l .state .opens) (l .rx) (l .store) k (bodyOf received k))) _ used [] (tame-act h0 ss (l .state .opens) (l .rx) (l .store) k (bodyOf received k) ok)
+    fault-tame used k (By f) = tame-ends ss (thenActed w0 (actOn h0 ss (l .state .queue) (l .rx) (l .store) k (bodyOf received k))) _ used [] (tame-act h0 ss (l .state .queue) (l .rx) (l .store) k (bodyOf received k) ok)
     fault-tame used k No =
-        let a = actOn h0 ss (l .state .opens) (l .rx) (l .store) k (bodyOf received k) in
-        again-tame used (thenActed w0 a) _ (tame-act h0 ss (l .state .opens) (l .rx) (l .store) k (bodyOf received k) ok) (ap (λ (x : List ChannelSlot). markOf (slotIn x jw)) (slots-by (l .state) (a .changes)))
+        let a = actOn h0 ss (l .state .queue) (l .rx) (l .store) k (bodyOf received k) in
+        again-tame used (thenActed w0 a) _ (tame-act h0 ss (l .state .queue) (l .rx) (l .store) k (bodyOf received k) ok) (ap (λ (x : List ChannelSlot). markOf (slotIn x jw)) (slots-by (l .state) (a .changes)))
 
     write-received-tame : (r : Received) → tame (writeBy l ch out bytes w0 s0 received r)
     unfolding writeBy writeAct
@@ -416,7 +410,7 @@ module _ (l : Lent) (ok : TableOk (policy l) (l .state .header .negotiated .conf
         pick tame (isReady (k .command) && eqb (k .arg1) (s0 .local .0)) (λ t. readied-tame (frameLen k) (readyOf s0 (bodyOf received k) p) (ready-stays s0 (bodyOf received k) p))
         (λ t. pick tame (closedBy (idsIn s0) k)
         (λ u. tame-ends ss (then w0 (slotTo jw (closedSlot s0) ∷ []) []) _ (frameLen k) [] (stays-mark s0 (closedSlot s0) (closed-stays s0), tt))
-        (λ u. fault-tame (frameLen k) k (actOn h0 ss (l .state .opens) (l .rx) (l .store) k (bodyOf received k) .fault)))
+        (λ u. fault-tame (frameLen k) k (actOn h0 ss (l .state .queue) (l .rx) (l .store) k (bodyOf received k) .fault)))
 
     first-tame : (x : Budget) → tame (writeFirst l ch out bytes received w0 s0 x)
     unfolding writeFirst

@@ -11,21 +11,21 @@ use Rattle.config.specs.declared.negotiated.Negotiated.{Negotiated}
 use Rattle.config.specs.Config.{withinLimits, storesFit}
 use Rattle.config.specs.Negotiated.{negotiatedOf}
 use Rattle.config.proofs.Laws.{and-true, within}
-use Rattle.incoming.specs.Incoming.{noOpen}
+use Rattle.incoming.specs.Incoming.{noneQueued}
 use Rattle.slot.specs.Slot.{emptySlot}
 use Rattle.slot.proofs.Laws.{cond-true, cond-false}
 use Rattle.state.specs.Change.{changedAll, putAll}
-use Rattle.state.specs.State.{Connection, layout, stateOf, isState}
-use Rattle.state.specs.Valid.{opensFine, isWhole}
-use Rattle.state.proofs.RowLaws.{Every, never}
+use Rattle.state.specs.State.{stateLen, Connection, layout, stateOf, isState}
+use Rattle.state_whole.specs.Whole.{queueFine, isWhole}
+use Rattle.le.proofs.RowLaws.{Every, never}
 use Rattle.state.proofs.StateLaws.{OpenFits, state-split, state-forth, state-fits, layout-is-state}
 use Rattle.state.proofs.ChangeLaws.{changes-layout}
 use Rattle.connection.specs.declared.Refusal.the-variants.{StoreShort}
-use Rattle.connection.specs.Answer.{refusalNumber, numberOf}
-use Rattle.connection.specs.Calls.{Outcome, untouched, checked, checkedOut, openOf, dispatchOf, settleOf, takeOf, readOf, writeOf, closeOf, frontCall, openStep, dispatchStep, settleStep, takeStep, readStep, writeStep, closeStep, frontStep, fresh, Made, makeOf}
+use Rattle.connection.specs.Answer.{refusalNumber, answerNumber}
+use Rattle.connection.specs.Calls.{Outcome, untouched, checked, checkedOut, openOutcome, dispatchOutcome, settleOutcome, takeOutcome, readOutcome, writeOutcome, closeOutcome, takeFrontOutcome, openStep, dispatchStep, settleStep, takeStep, readStep, writeStep, closeStep, takeFrontStep, fresh, Made, makeOf}
 use Rattle.history.specs.Run.{bytesIn, Call, openCall, dispatchCall, settleCall, takeCall, readCall, writeCall, closeCall, frontTaken, World, lent, outcome, after, afterAll, made, Start, begins, agreedIn}
 use Rattle.history.specs.Never13.{Unbroken, Never13, StaysWhole, Always8}
-use Rattle.state.proofs.WholeLaws.{length-layout, Bounds, SlotWhole, Whole, whole-own, whole-true, whole-full, whole-fits, empty-whole, whole-facts}
+use Rattle.state_whole.proofs.WholeLaws.{length-layout, Bounds, SlotWhole, Whole, whole-own, whole-true, whole-full, whole-fits, empty-whole, whole-facts}
 use Rattle.history.proofs.Bytes.{bytes-in}
 use Rattle.connection.proofs.WholeWork.{negotiated, Kept, checked-kept, checked-out-kept, long}
 use Rattle.connection.proofs.WholeCalls.{settle-kept, take-kept, close-kept, front-kept, dispatch-kept, read-kept, write-kept, open-kept}
@@ -33,9 +33,9 @@ use Rattle.connection.proofs.WholeCalls.{settle-kept, take-kept, close-kept, fr
 -- ---- one call
 
 module _ (w : World) (is : isWhole (w .state) ≡ true)
-    (g : Whole (negotiated (lent w)) (lent w .state .header) (lent w .state .slots) (lent w .state .opens)) where
+    (g : Whole (negotiated (lent w)) (lent w .state .header) (lent w .state .slots) (lent w .state .queue)) where
   pub call-kept : (x : Call) → Kept (lent w) (outcome w x)
-  unfolding outcome openOf dispatchOf settleOf takeOf readOf writeOf closeOf frontCall
+  unfolding outcome openOutcome dispatchOutcome settleOutcome takeOutcome readOutcome writeOutcome closeOutcome takeFrontOutcome
   call-kept (openCall out destination received) =
       subst (λ (t : Bool). Kept (lent w) (checkedOut t (lent w) (length out) (openStep (lent w) (length out) (bytesIn destination) (bytesIn received)))) (sym is)
       (checked-out-kept (lent w) g (length out) _
@@ -60,26 +60,26 @@ module _ (w : World) (is : isWhole (w .state) ≡ true)
       subst (λ (t : Bool). Kept (lent w) (checkedOut t (lent w) (length out) (closeStep (lent w) ch))) (sym is)
       (checked-out-kept (lent w) g (length out) _ (λ t. close-kept (lent w) g ch))
   call-kept frontTaken =
-      subst (λ (t : Bool). Kept (lent w) (checked t (lent w) (frontStep (lent w)))) (sym is) (checked-kept (lent w) g _ (λ t. front-kept (lent w) g))
+      subst (λ (t : Bool). Kept (lent w) (checked t (lent w) (takeFrontStep (lent w)))) (sym is) (checked-kept (lent w) g _ (λ t. front-kept (lent w) g))
 
 -- ---- a list of calls
 
 -- the facts of the state that the bytes stand for, r behind them, and the stores' lengths
 pub record Holds (n : Negotiated) (r : List ℕ) (rx store : ℕ) (w : World) : Type 0 where
   pub is-layout : w .state ≡ layout (stateOf (w .state)) ++ r
-  pub facts : Whole n (stateOf (w .state) .header) (stateOf (w .state) .slots) (stateOf (w .state) .opens)
+  pub facts : Whole n (stateOf (w .state) .header) (stateOf (w .state) .slots) (stateOf (w .state) .queue)
   pub rx-length : length (w .rx) ≡ rx
   pub store-length : length (w .store) ≡ store
 
 module _ (n : Negotiated) (r : List ℕ) (rx store : ℕ) where
   -- bytes that are a layout of a state with these facts
-  pub holds-of : (w : World) (d : Connection) → w .state ≡ layout d ++ r → Whole n (d .header) (d .slots) (d .opens) → length (w .rx) ≡ rx → length (w .store) ≡ store
+  pub holds-of : (w : World) (d : Connection) → w .state ≡ layout d ++ r → Whole n (d .header) (d .slots) (d .queue) → length (w .rx) ≡ rx → length (w .store) ≡ store
       → Holds n r rx store w
   holds-of w d e g a b =
       let z : stateOf (w .state) ≡ d = ap stateOf e ∙ state-forth d r (whole-fits n d g) in
       record {
         is-layout = e ∙ ap (λ (x : Connection). layout x ++ r) (sym z);
-        facts = subst (λ (x : Connection). Whole n (x .header) (x .slots) (x .opens)) (sym z) g;
+        facts = subst (λ (x : Connection). Whole n (x .header) (x .slots) (x .queue)) (sym z) g;
         rx-length = a;
         store-length = b;
       }
@@ -93,7 +93,7 @@ module _ (n : Negotiated) (r : List ℕ) (rx store : ℕ) where
         rw (s, t)
 
     pub holds-kept : (x : Call) → Kept (lent w) (outcome w x)
-    holds-kept x = call-kept w holds-whole (whole-own n (stateOf (w .state) .header) (stateOf (w .state) .slots) (stateOf (w .state) .opens) (h .facts)) x
+    holds-kept x = call-kept w holds-whole (whole-own n (stateOf (w .state) .header) (stateOf (w .state) .slots) (stateOf (w .state) .queue) (h .facts)) x
 
     -- the state after a call
     pub state-after : (x : Call) → stateOf (after w x .state) ≡ changedAll (stateOf (w .state)) (outcome w x .changes)
@@ -104,7 +104,7 @@ module _ (n : Negotiated) (r : List ℕ) (rx store : ℕ) where
         ap stateOf (ap (λ (b : List ℕ). putAll b (outcome w x .changes)) (h .is-layout) ∙ changes-layout c r (outcome w x .changes) (whole-full n c (h .facts)) (k .within))
         ∙ state-forth (changedAll c (outcome w x .changes)) r
         (whole-fits n (changedAll c (outcome w x .changes))
-        (subst (λ (m : Negotiated). Whole m (changedAll c (outcome w x .changes) .header) (changedAll c (outcome w x .changes) .slots) (changedAll c (outcome w x .changes) .opens)) (h .facts .header .negotiated) (k .facts)))
+        (subst (λ (m : Negotiated). Whole m (changedAll c (outcome w x .changes) .header) (changedAll c (outcome w x .changes) .slots) (changedAll c (outcome w x .changes) .queue)) (h .facts .header .negotiated) (k .facts)))
 
     pub holds-after : (x : Call) → Holds n r rx store (after w x)
     unfolding after
@@ -113,7 +113,7 @@ module _ (n : Negotiated) (r : List ℕ) (rx store : ℕ) where
         let c = stateOf (w .state) in
         holds-of _ (changedAll c (outcome w x .changes))
         (ap (λ (b : List ℕ). putAll b (outcome w x .changes)) (h .is-layout) ∙ changes-layout c r (outcome w x .changes) (whole-full n c (h .facts)) (k .within))
-        (subst (λ (m : Negotiated). Whole m (changedAll c (outcome w x .changes) .header) (changedAll c (outcome w x .changes) .slots) (changedAll c (outcome w x .changes) .opens)) (h .facts .header .negotiated) (k .facts))
+        (subst (λ (m : Negotiated). Whole m (changedAll c (outcome w x .changes) .header) (changedAll c (outcome w x .changes) .slots) (changedAll c (outcome w x .changes) .queue)) (h .facts .header .negotiated) (k .facts))
         (k .rx-length ∙ h .rx-length)
         (k .store-length ∙ h .store-length)
 
@@ -137,8 +137,8 @@ limits-of : (c : ConnectionConfig) (a b : ℕ) (host device : Bool) → withinLi
 unfolding negotiatedOf
 limits-of c a b host device e = record { within = within c e; payload = omega arith; version = omega arith }
 
-pub fresh-whole : (n : Negotiated) → Bounds n → Whole n (fresh n .header) (fresh n .slots) (fresh n .opens)
-unfolding fresh opensFine
+pub fresh-whole : (n : Negotiated) → Bounds n → Whole n (fresh n .header) (fresh n .slots) (fresh n .queue)
+unfolding fresh queueFine
 fresh-whole n k =
     record {
       limits = k;
@@ -152,26 +152,26 @@ fresh-whole n k =
             queue-fits = omega arith;
           };
       slots = record { full = length-replicate 64 emptySlot; each = λ i. subst (SlotWhole n i) (sym (in-replicate 64 i emptySlot)) (empty-whole n i) };
-      waits = λ e. never e;
-      opens =
+      pending-open = λ e. never e;
+      queue =
           record {
-            full = length-replicate 64 noOpen;
-            fits = every-replicate OpenFits 64 noOpen (record { remote = omega arith; credit = omega arith; share = omega arith; length = omega arith });
+            full = length-replicate 64 noneQueued;
+            fits = every-replicate OpenFits 64 noneQueued (record { remote = omega arith; credit = omega arith; share = omega arith; length = omega arith });
             fine = refl;
           };
     }
 
-put-start : (state l : List ℕ) → length l ≡ 4730 → put state 0 l ≡ l ++ drop 4730 state
+put-start : (state l : List ℕ) → length l ≡ stateLen → put state 0 l ≡ l ++ drop stateLen state
 unfolding put
-put-start state l e = let z : 0 + length l ≡ 4730 = omega arith in rw z
+put-start state l e = let z : 0 + length l ≡ stateLen = omega arith in rw z
 
 module _ (c : ConnectionConfig) (a b : ℕ) (host device : Bool) (state rx store : List ℕ) (e : withinLimits c ≡ true) where
-  pub made-holds : Holds (negotiatedOf host device a b c) (drop 4730 state) (length rx) (length store) (made c a b host device state rx store)
+  pub made-holds : Holds (negotiatedOf host device a b c) (drop stateLen state) (length rx) (length store) (made c a b host device state rx store)
   unfolding made makeOf
   made-holds =
       let n = negotiatedOf host device a b c in
       let g = fresh-whole n (limits-of c a b host device e) in
-      holds-of n (drop 4730 state) (length rx) (length store) _ (fresh n)
+      holds-of n (drop stateLen state) (length rx) (length store) _ (fresh n)
       (ap (λ (x : Made). x .state) (cond-true (withinLimits c) _ _ e) ∙ put-start state (layout (fresh n)) (length-layout (fresh n) (whole-full n (fresh n) g)))
       g refl refl
 
@@ -182,7 +182,7 @@ module _ (c : ConnectionConfig) (a b : ℕ) (host device : Bool) (state rx store
       let n = negotiatedOf host device a b c in
       let g = fresh-whole n (limits-of c a b host device e) in
       ap stateOf (ap (λ (x : Made). x .state) (cond-true (withinLimits c) _ _ e) ∙ put-start state (layout (fresh n)) (length-layout (fresh n) (whole-full n (fresh n) g)))
-      ∙ state-forth (fresh n) (drop 4730 state) (whole-fits n (fresh n) g)
+      ∙ state-forth (fresh n) (drop stateLen state) (whole-fits n (fresh n) g)
 
   short-made : storesFit c (length rx) (length store) ≡ false
       → storesFit (negotiated (lent (made c a b host device state rx store)) .config) (length (made c a b host device state rx store .rx)) (length (made c a b host device state rx store .store)) ≡ false
@@ -193,9 +193,9 @@ module _ (c : ConnectionConfig) (a b : ℕ) (host device : Bool) (state rx store
       ∙ ap (λ (y : ℕ). storesFit c y (length (made c a b host device state rx store .store))) (k .rx-length)
       ∙ ap (λ (y : ℕ). storesFit c (length rx) y) (k .store-length) ∙ s
 
-unbroken : (n : Negotiated) (state rx store : List ℕ) (w : World) → Holds n (drop 4730 state) (length rx) (length store) w → Unbroken n state rx store w
+unbroken : (n : Negotiated) (state rx store : List ℕ) (w : World) → Holds n (drop stateLen state) (length rx) (length store) w → Unbroken n state rx store w
 unbroken n state rx store w k =
-    let r = drop 4730 state in
+    let r = drop stateLen state in
     record {
       is-whole = holds-whole n r (length rx) (length store) w k;
       is-layout = k .is-layout;
@@ -206,16 +206,16 @@ unbroken n state rx store w k =
     }
 
 -- at a start
-pub starts : (s : Start) → Holds (agreedIn s) (drop 4730 (s .state)) (length (s .rx)) (length (s .store)) (begins s)
+pub starts : (s : Start) → Holds (agreedIn s) (drop stateLen (s .state)) (length (s .rx)) (length (s .store)) (begins s)
 starts s = made-holds (s .config) (s .version) (s .most) (s .host) (s .device) (s .state) (s .rx) (s .store) (s .within)
 
 pub never-13 : Never13
 never-13 s cs =
-    unbroken (agreedIn s) (s .state) (s .rx) (s .store) (afterAll (begins s) cs) (holds-all (agreedIn s) (drop 4730 (s .state)) (length (s .rx)) (length (s .store)) (begins s) (starts s) cs)
+    unbroken (agreedIn s) (s .state) (s .rx) (s .store) (afterAll (begins s) cs) (holds-all (agreedIn s) (drop stateLen (s .state)) (length (s .rx)) (length (s .store)) (begins s) (starts s) cs)
 
 -- ---- any whole state
 
-whole-holds : (w : World) → Bytes (w .state) → isWhole (w .state) ≡ true → Holds (stateOf (w .state) .header .negotiated) (drop 4730 (w .state)) (length (w .rx)) (length (w .store)) w
+whole-holds : (w : World) → Bytes (w .state) → isWhole (w .state) ≡ true → Holds (stateOf (w .state) .header .negotiated) (drop stateLen (w .state)) (length (w .rx)) (length (w .store)) w
 unfolding isWhole
 whole-holds w y e =
     let k = and-true (isState (w .state)) _ e in
@@ -230,7 +230,7 @@ pub stays-whole : StaysWhole
 stays-whole w y e cs =
     let n = stateOf (w .state) .header .negotiated in
     unbroken n (w .state) (w .rx) (w .store) (afterAll w cs)
-    (holds-all n (drop 4730 (w .state)) (length (w .rx)) (length (w .store)) w (whole-holds w y e) cs)
+    (holds-all n (drop stateLen (w .state)) (length (w .rx)) (length (w .store)) w (whole-holds w y e) cs)
 
 -- ---- stores under their lengths
 
@@ -241,7 +241,7 @@ module _ (w : World) (is : isWhole (w .state) ≡ true)
   checked-8 t o e = cond-true t _ _ e ∙ cond-false (storesFit (negotiated (lent w) .config) (length (w .rx)) (length (w .store))) o _ short
 
   call-8 : (x : Call) → outcome w x ≡ untouched (lent w) StoreShort
-  unfolding outcome openOf dispatchOf settleOf takeOf readOf writeOf closeOf frontCall checkedOut
+  unfolding outcome openOutcome dispatchOutcome settleOutcome takeOutcome readOutcome writeOutcome closeOutcome takeFrontOutcome checkedOut
   call-8 (openCall out destination received) = checked-8 (isWhole (w .state)) _ is
   call-8 (dispatchCall out received) = checked-8 (isWhole (w .state)) _ is
   call-8 (settleCall out ch want) = checked-8 (isWhole (w .state)) _ is
@@ -263,14 +263,14 @@ module _ (w : World) (is : isWhole (w .state) ≡ true)
   all-8 [] = refl
   all-8 (x ∷ cs) = ap (λ (y : World). afterAll y cs) (after-8 x) ∙ all-8 cs
 
-  answer-8 : (x : Call) → numberOf (outcome w x .answer) ≡ 8
-  unfolding numberOf refusalNumber
-  answer-8 x = ap (λ (o : Outcome). numberOf (o .answer)) (call-8 x)
+  answer-8 : (x : Call) → answerNumber (outcome w x .answer) ≡ 8
+  unfolding answerNumber refusalNumber
+  answer-8 x = ap (λ (o : Outcome). answerNumber (o .answer)) (call-8 x)
 
 pub always-8 : Always8
 always-8 s f cs =
     let w = begins s in
-    let is = holds-whole (agreedIn s) (drop 4730 (s .state)) (length (s .rx)) (length (s .store)) w (starts s) in
+    let is = holds-whole (agreedIn s) (drop stateLen (s .state)) (length (s .rx)) (length (s .store)) w (starts s) in
     let short = short-made (s .config) (s .version) (s .most) (s .host) (s .device) (s .state) (s .rx) (s .store) (s .within) f in
     let z = all-8 w is short cs in
-    (z, λ x. ap (λ (y : World). numberOf (outcome y x .answer)) z ∙ answer-8 w is short x)
+    (z, λ x. ap (λ (y : World). answerNumber (outcome y x .answer)) z ∙ answer-8 w is short x)

@@ -9,7 +9,7 @@ use lib.ListN.{length, set}
 use borrow.Author.Tests.{ne-eqb, not-true}
 use Rattle.le.proofs.Parts.{by-test}
 use Rattle.config.specs.declared.negotiated.RxPolicy.{RxPolicy}
-use Rattle.config.specs.Negotiated.{creditOf}
+use Rattle.config.specs.Negotiated.{offeredCredit}
 use Rattle.config.proofs.Laws.{and-true}
 use Rattle.protocol.specs.declared.message.Message.{Message}
 use Rattle.protocol.specs.declared.packet.Packet.{Packet}
@@ -29,8 +29,7 @@ use Rattle.state.specs.Change.{slotTo, changedAll}
 use Rattle.table.specs.declared.Allocated.{Allocated}
 use Rattle.table.specs.declared.Allocated.the-variants.{Channel, NoFree}
 use Rattle.table.specs.declared.ChannelId.{ChannelId}
-use Rattle.table.specs.Table.{first, allocated, numbered}
-use Rattle.table.specs.Dispatch.{slotIn}
+use Rattle.table.specs.Table.{first, allocated, numbered, slotIn}
 use Rattle.connection.specs.declared.Answer.{Answer}
 use Rattle.connection.specs.declared.Answer.the-variants.{Waiting, Opened, Refused}
 use Rattle.connection.specs.declared.Received.{Received}
@@ -38,8 +37,8 @@ use Rattle.connection.specs.declared.Received.the-variants.{Packet as PacketIs}
 use Rattle.connection.specs.declared.Refusal.{Refusal}
 use Rattle.connection.specs.declared.Refusal.the-variants.{InvalidCommand, InvalidMagic, PayloadTooLarge, InvalidChecksum, ShortReadyPayload, UnexpectedCommand, BadConfig, StoreShort, OutShort, ChannelClosed, ChannelRxOverflow, NoFreeChannels, BrokenState}
 use Rattle.connection.specs.Act.{Acted, actOn}
-use Rattle.connection.specs.Answer.{refusalNumber, numberOf}
-use Rattle.connection.specs.Calls.{Lent, Outcome, Work, begun, then, thenActed, withHeader, ends, untouched, dropped, waitingFor, policy, bodyOf, frameLen, receivedOf, unlessFault, faultRefusal, stillWaits, openOn, openReadied, openActed, openBy, openStep}
+use Rattle.connection.specs.Answer.{refusalNumber, answerNumber}
+use Rattle.connection.specs.Calls.{Lent, Outcome, Work, begun, then, thenActed, storing, ends, untouched, dropped, pendingFor, policy, bodyOf, frameLen, receivedOf, unlessFault, faultRefusal, stillPending, openOn, openReadied, openActed, openBy, openStep}
 use Rattle.connection.specs.Frames.{closeFrame, openFrame, Sent}
 use Rattle.history.specs.Book.{Book, hasRemote, ackedB, acksOf, packetB, frameB, headerAt, isWrte, isClse, isRefused, endsOpen}
 use Rattle.history.specs.Demand3.{runOf}
@@ -69,10 +68,10 @@ module _ (l : Lent) (credit : Terms) (ok : TableOk (policy l) (l .state .header 
   h = l .state .header
 
   abbrev taken : Answer → ℕ → Book
-  taken a used = packetB books i received (endsOpen (numberOf a)) (saw a used fs []) b
+  taken a used = packetB books i received (endsOpen (answerNumber a)) (saw a used fs []) b
 
   abbrev open-fine : Outcome → Type 0
-  open-fine x = acksOf (b .local) fs ≡ acksIn p (b .local) (x .frames) → Fine p credit ss i x (ackedB (acksOf (b .local) fs) (packetB books i received (endsOpen (numberOf (x .answer))) (sawOf x fs) b))
+  open-fine x = acksOf (b .local) fs ≡ acksIn p (b .local) (x .frames) → Fine p credit ss i x (ackedB (acksOf (b .local) fs) (packetB books i received (endsOpen (answerNumber (x .answer))) (sawOf x fs) b))
 
   abbrev here : Book → Type 0
   here c = Good p credit (slotIn ss i) (runOf (l .rx) (p .«rx_cap») i (slotIn ss i)) c
@@ -96,9 +95,9 @@ module _ (l : Lent) (credit : Terms) (ok : TableOk (policy l) (l .state .header 
       pick open-fine (ltb maxPayload (length destination)) (λ t. open-ends (begun (numbered h) l) (Refused PayloadTooLarge) 0 refl refl refl (unused (Refused PayloadTooLarge)))
       (λ t. pick open-fine (ltb out (24 + length destination))
       (λ u e. acked-none p credit _ _ _ (unused (Refused OutShort)) (acksOf (b .local) fs) e)
-      (λ u. open-ends (then (begun (waitingFor (numbered h) ch) l) [] (openFrame (ch .local) (creditOf (h .negotiated)) destination ∷ [])) Waiting 0 refl refl refl (unused Waiting)))
+      (λ u. open-ends (then (begun (pendingFor (numbered h) ch) l) [] (openFrame (ch .local) (offeredCredit (h .negotiated)) destination ∷ [])) Waiting 0 refl refl refl (unused Waiting)))
 
-  -- the open that waits, at another place
+  -- the pending open, at another place
   module _ (ch : ChannelId) (away : i ≡ ch .slot → ⊥) where
     module _ (k : Packet) (sy : Says received (h .negotiated .config .«max_payload») k) where
       abbrev lim9 : ℕ
@@ -111,24 +110,24 @@ module _ (l : Lent) (credit : Terms) (ok : TableOk (policy l) (l .state .header 
       body = bodyOf received k
 
       -- a packet that is neither a WRTE nor a CLSE
-      okay-taken : (a : Answer) → eqb (numberOf a) 4 ≡ false → isReady (k .command) ≡ true → here (taken a (frameLen k))
+      okay-taken : (a : Answer) → eqb (answerNumber a) 4 ≡ false → isReady (k .command) ≡ true → here (taken a (frameLen k))
       okay-taken a four rd =
           let r = ready-no-write (k .command) rd in
           let ec : isClse m ≡ false = reads-close received lim9 k sy ∙ r .1 in
-          packet-good p credit _ lim _ _ b g books i received (endsOpen (numberOf a)) lim9 k a fs [] _ _ sy four (ap (λ (x : Bool). x && isRefused (numberOf a)) ec)
+          packet-good p credit _ lim _ _ b g books i received (endsOpen (answerNumber a)) lim9 k a fs [] _ _ sy four (ap (λ (x : Bool). x && isRefused (answerNumber a)) ec)
           (good-by p credit _ _ _ _ b _ refl refl
           (frame-none books i (b .acked) m body a b (ap (λ (x : Bool). x && eqb (m .arg1) (b .local)) (reads-write received lim9 k sy ∙ r .0))
           (ap (λ (x : Bool). x && cond (eqb (m .arg1) 0) (not (eqb (m .arg0) 0) && (eqb (first (hasRemote (m .arg0)) books) i)) (eqb (m .arg1) (b .local))) ec)) g)
 
       readied-fine : isReady (k .command) ≡ true → (r : Readied) → open-fine (openReadied l ch (k .arg0) (frameLen k) r)
-      unfolding openReadied numberOf refusalNumber
+      unfolding openReadied answerNumber refusalNumber
       readied-fine rd (Slot t) = open-ends (then (begun (dropped h) l) (slotTo (ch .slot) t ∷ []) []) (Opened ch) (frameLen k) (slot-set-other ss (ch .slot) i t away) refl refl (okay-taken (Opened ch) refl rd)
       readied-fine rd Short =
           open-ends (then (begun (dropped h) l) [] (closeFrame (record { local = ch .local; remote = record { 0 = k .arg0 } }) ∷ [])) (Refused ShortReadyPayload) (frameLen k) refl refl refl (okay-taken (Refused ShortReadyPayload) refl rd)
 
       -- a WRTE too early, whose number a channel may share
       early-fine : isWrite (k .command) ≡ true → open-fine (ends (then (begun (dropped h) l) [] (closeFrame (record { local = ch .local; remote = record { 0 = k .arg0 } }) ∷ [])) (Refused UnexpectedCommand) (frameLen k) [])
-      unfolding numberOf refusalNumber frameB
+      unfolding answerNumber refusalNumber frameB
       early-fine wr =
           let a : Answer = Refused UnexpectedCommand in
           let nc = write-no-close (k .command) wr in
@@ -136,14 +135,14 @@ module _ (l : Lent) (credit : Terms) (ok : TableOk (policy l) (l .state .header 
           let e0 : (isClse m && cond (eqb (m .arg1) 0) (not (eqb (m .arg0) 0) && (eqb (first (hasRemote (m .arg0)) books) i)) (eqb (m .arg1) (b .local))) ≡ false =
           ap (λ (x : Bool). x && cond (eqb (m .arg1) 0) (not (eqb (m .arg0) 0) && (eqb (first (hasRemote (m .arg0)) books) i)) (eqb (m .arg1) (b .local))) ec in
           open-ends (then (begun (dropped h) l) [] (closeFrame (record { local = ch .local; remote = record { 0 = k .arg0 } }) ∷ [])) a (frameLen k) refl refl refl
-          (packet-good p credit _ lim _ _ b g books i received (endsOpen (numberOf a)) lim9 k a fs [] _ _ sy refl (ap (λ (x : Bool). x && true) ec)
+          (packet-good p credit _ lim _ _ b g books i received (endsOpen (answerNumber a)) lim9 k a fs [] _ _ sy refl (ap (λ (x : Bool). x && true) ec)
           (pick here (isWrte m && eqb (m .arg1) (b .local))
           (λ t. quiet-good p credit _ _ _ (sent-good p credit _ _ b g (b .acked) (length body)))
           (λ t. good-by p credit _ _ _ _ b _ refl refl (cond-false _ _ _ e0) g)))
 
       -- a CLSE ends it, and closes no book
       ended-fine : isClose (k .command) ≡ true → open-fine (ends (begun (dropped h) l) (Refused ChannelClosed) (frameLen k) [])
-      unfolding numberOf refusalNumber packetB
+      unfolding answerNumber refusalNumber packetB
       ended-fine cl =
           let ec : (isClse m && true) ≡ true = ap (λ (x : Bool). x && true) (reads-close received lim9 k sy ∙ cl) in
           open-ends (begun (dropped h) l) (Refused ChannelClosed) (frameLen k) refl refl refl
@@ -151,26 +150,26 @@ module _ (l : Lent) (credit : Terms) (ok : TableOk (policy l) (l .state .header 
 
       -- any other packet
       abbrev act : Acted
-      act = actOn h ss (l .state .opens) (l .rx) (l .store) k body
+      act = actOn h ss (l .state .queue) (l .rx) (l .store) k body
 
-      not-ended : endsOpen (numberOf (unlessFault (act .fault) Waiting)) m ≡ false
-      unfolding unlessFault numberOf
+      not-ended : endsOpen (answerNumber (unlessFault (act .fault) Waiting)) m ≡ false
+      unfolding unlessFault answerNumber
       not-ended =
           by-test (isClose (k .command))
-          (λ t. let e = close-fault h ss (l .state .opens) (l .rx) (l .store) k body t in
-          ap (λ (x : Failed). isClse m && isRefused (numberOf (unlessFault x Waiting))) e ∙ and-false (isClse m))
-          (λ t. ap (λ (x : Bool). x && isRefused (numberOf (unlessFault (act .fault) Waiting))) (reads-close received lim9 k sy ∙ t))
+          (λ t. let e = close-fault h ss (l .state .queue) (l .rx) (l .store) k body t in
+          ap (λ (x : Failed). isClse m && isRefused (answerNumber (unlessFault x Waiting))) e ∙ and-false (isClse m))
+          (λ t. ap (λ (x : Bool). x && isRefused (answerNumber (unlessFault (act .fault) Waiting))) (reads-close received lim9 k sy ∙ t))
 
       acted-fine : open-fine (openActed l (frameLen k) act)
-      unfolding openActed ends numberOf
+      unfolding openActed ends answerNumber
       acted-fine e =
           let a = unlessFault (act .fault) Waiting in
           let w = thenActed (begun h l) act in
-          ends-fine p credit ss i (withHeader w (stillWaits a (act .header))) a (frameLen k) [] _
+          ends-fine p credit ss i (storing w (stillPending a (act .header))) a (frameLen k) [] _
           (acked-none p credit _ _ _
-          (packet-good p credit _ lim _ _ b g books i received (endsOpen (numberOf a)) lim9 k a fs [] _ _ sy (not-four (act .fault) Waiting waiting-four) not-ended
-          (acted-good h ss (l .state .opens) (l .rx) (l .store) ok credit lim i there b g books mk received k sy (b .acked) (omega arith) a (tells-fault (mineOf ss i k) (act .fault) Waiting refl)))
-          (acksOf (b .local) fs) (e ∙ acted-acks h ss (l .state .opens) (l .rx) (l .store) k body (b .local)))
+          (packet-good p credit _ lim _ _ b g books i received (endsOpen (answerNumber a)) lim9 k a fs [] _ _ sy (not-four (act .fault) Waiting waiting-four) not-ended
+          (acted-good h ss (l .state .queue) (l .rx) (l .store) ok credit lim i there b g books mk received k sy (b .acked) (omega arith) a (tells-fault (mineOf ss i k) (act .fault) Waiting refl)))
+          (acksOf (b .local) fs) (e ∙ acted-acks h ss (l .state .queue) (l .rx) (l .store) k body (b .local)))
 
       packet-fine : open-fine (openBy l ch received (PacketIs k))
       unfolding openBy
@@ -182,16 +181,16 @@ module _ (l : Lent) (credit : Terms) (ok : TableOk (policy l) (l .state .header 
 
     by-fine : (r : Received) → Got received (h .negotiated .config .«max_payload») r → open-fine (openBy l ch received r)
     unfolding openBy
-    by-fine r (stopped a used st) = open-ends (begun (stillWaits a h) l) a used refl refl refl (stop-good p credit _ lim _ _ b g books i received (endsOpen (numberOf a)) a used fs [] st)
+    by-fine r (stopped a used st) = open-ends (begun (stillPending a h) l) a used refl refl refl (stop-good p credit _ lim _ _ b g books i received (endsOpen (answerNumber a)) a used fs [] st)
     by-fine r (packet k sy) = packet-fine k sy
 
   -- an open beside the book of a channel that is in the table
-  pub open-call : (out : ℕ) (destination : List ℕ) → (h .waiting .on ≡ true → i ≡ h .waiting .slot → ⊥) → open-fine (openStep l out destination received)
+  pub open-call : (out : ℕ) (destination : List ℕ) → (h .pending .on ≡ true → i ≡ h .pending .slot → ⊥) → open-fine (openStep l out destination received)
   unfolding openStep
   open-call out destination away =
-      by-test (h .waiting .on)
-      (λ t. subst open-fine (sym (cond-true (h .waiting .on) _ _ t)) (by-fine (record { slot = h .waiting .slot; local = h .waiting .local }) (away t) (receivedOf l received) (got l received)))
-      (λ t. subst open-fine (sym (cond-false (h .waiting .on) _ _ t)) (on-fine out destination (allocated h ss)))
+      by-test (h .pending .on)
+      (λ t. subst open-fine (sym (cond-true (h .pending .on) _ _ t)) (by-fine (record { slot = h .pending .slot; local = h .pending .local }) (away t) (receivedOf l received) (got l received)))
+      (λ t. subst open-fine (sym (cond-false (h .pending .on) _ _ t)) (on-fine out destination (allocated h ss)))
 
 -- ---- the slot that an open fills
 
@@ -219,11 +218,11 @@ refused-some r = not-true (eqb (refusalNumber r) 0) (and-true (not (eqb (refusal
 -- a slot is filled, or none is
 pub data Opens (l : Lent) (received : List ℕ) : Outcome → Type 0 where
   fills : (x : Outcome) (t : ChannelSlot) (k : Packet) → Says received (l .state .header .negotiated .config .«max_payload») k
-      → x .answer ≡ Opened (record { slot = l .state .header .waiting .slot; local = l .state .header .waiting .local })
-      → slotsBy (l .state .slots) (x .changes) ≡ set (l .state .slots) (l .state .header .waiting .slot) t → x .rx ≡ l .rx → x .frames ≡ [] → l .state .header .waiting .on ≡ true
-      → changedAll (l .state) (x .changes) .header .waiting .on ≡ false
-      → openedOf (openingSlot (l .state .header .waiting .local)) (record { 0 = k .arg0 }) (bodyOf received k) (policy l) ≡ Slot t → Opens l received x
-  leaves : (x : Outcome) → eqb (numberOf (x .answer)) 0 ≡ false → Tame (l .state .slots) (x .changes) → Opens l received x
+      → x .answer ≡ Opened (record { slot = l .state .header .pending .slot; local = l .state .header .pending .local })
+      → slotsBy (l .state .slots) (x .changes) ≡ set (l .state .slots) (l .state .header .pending .slot) t → x .rx ≡ l .rx → x .frames ≡ [] → l .state .header .pending .on ≡ true
+      → changedAll (l .state) (x .changes) .header .pending .on ≡ false
+      → openedOf (openingSlot (l .state .header .pending .local)) (record { 0 = k .arg0 }) (bodyOf received k) (policy l) ≡ Slot t → Opens l received x
+  leaves : (x : Outcome) → eqb (answerNumber (x .answer)) 0 ≡ false → Tame (l .state .slots) (x .changes) → Opens l received x
 
 module _ (l : Lent) (ok : TableOk (policy l) (l .state .header .negotiated .config .channels) (l .state .slots) (l .rx)) (received : List ℕ) where
   abbrev hh : Header
@@ -232,52 +231,52 @@ module _ (l : Lent) (ok : TableOk (policy l) (l .state .header .negotiated .conf
   abbrev ws : List ChannelSlot
   ws = l .state .slots
 
-  plain : (w : Work) (a : Answer) (used : ℕ) → eqb (numberOf a) 0 ≡ false → Tame ws (w .changes) → Opens l received (ends w a used [])
+  plain : (w : Work) (a : Answer) (used : ℕ) → eqb (answerNumber a) 0 ≡ false → Tame ws (w .changes) → Opens l received (ends w a used [])
   unfolding ends
   plain w a used e t = leaves (ends w a used []) e (tame-ends ws w a used [] t)
 
   opens-on : (out : ℕ) (destination : List ℕ) (a : Allocated) → Opens l received (openOn l out destination a)
-  unfolding openOn numberOf refusalNumber
+  unfolding openOn answerNumber refusalNumber
   opens-on out destination NoFree = plain (begun hh l) (Refused NoFreeChannels) 0 refl tt
   opens-on out destination (Channel ch) =
       pick (Opens l received) (ltb maxPayload (length destination)) (λ t. plain (begun (numbered hh) l) (Refused PayloadTooLarge) 0 refl tt)
       (λ t. pick (Opens l received) (ltb out (24 + length destination)) (λ u. leaves (untouched l OutShort) refl tt)
-      (λ u. plain (then (begun (waitingFor (numbered hh) ch) l) [] (openFrame (ch .local) (creditOf (hh .negotiated)) destination ∷ [])) Waiting 0 refl tt))
+      (λ u. plain (then (begun (pendingFor (numbered hh) ch) l) [] (openFrame (ch .local) (offeredCredit (hh .negotiated)) destination ∷ [])) Waiting 0 refl tt))
 
   abbrev wch : ChannelId
-  wch = record { slot = hh .waiting .slot; local = hh .waiting .local }
+  wch = record { slot = hh .pending .slot; local = hh .pending .local }
 
-  opens-readied : hh .waiting .on ≡ true → (k : Packet) → Says received (hh .negotiated .config .«max_payload») k → (r : Readied)
-      → openedOf (openingSlot (hh .waiting .local)) (record { 0 = k .arg0 }) (bodyOf received k) (policy l) ≡ r → Opens l received (openReadied l wch (k .arg0) (frameLen k) r)
-  unfolding openReadied ends numberOf refusalNumber
+  opens-readied : hh .pending .on ≡ true → (k : Packet) → Says received (hh .negotiated .config .«max_payload») k → (r : Readied)
+      → openedOf (openingSlot (hh .pending .local)) (record { 0 = k .arg0 }) (bodyOf received k) (policy l) ≡ r → Opens l received (openReadied l wch (k .arg0) (frameLen k) r)
+  unfolding openReadied ends answerNumber refusalNumber
   opens-readied on k sy (Slot t) e = fills _ t k sy refl refl refl refl on refl e
-  opens-readied on k sy Short e = plain (then (begun (dropped hh) l) [] (closeFrame (record { local = hh .waiting .local; remote = record { 0 = k .arg0 } }) ∷ [])) (Refused ShortReadyPayload) (frameLen k) refl tt
+  opens-readied on k sy Short e = plain (then (begun (dropped hh) l) [] (closeFrame (record { local = hh .pending .local; remote = record { 0 = k .arg0 } }) ∷ [])) (Refused ShortReadyPayload) (frameLen k) refl tt
 
-  not-opened : (f : Failed) → eqb (numberOf (unlessFault f Waiting)) 0 ≡ false
-  unfolding unlessFault numberOf
+  not-opened : (f : Failed) → eqb (answerNumber (unlessFault f Waiting)) 0 ≡ false
+  unfolding unlessFault answerNumber
   not-opened No = refl
   not-opened (By f) = refused-some (faultRefusal f)
 
-  opens-acted : (k : Packet) → Opens l received (openActed l (frameLen k) (actOn hh ws (l .state .opens) (l .rx) (l .store) k (bodyOf received k)))
+  opens-acted : (k : Packet) → Opens l received (openActed l (frameLen k) (actOn hh ws (l .state .queue) (l .rx) (l .store) k (bodyOf received k)))
   unfolding openActed
   opens-acted k =
-      let b = actOn hh ws (l .state .opens) (l .rx) (l .store) k (bodyOf received k) in
+      let b = actOn hh ws (l .state .queue) (l .rx) (l .store) k (bodyOf received k) in
       let a = unlessFault (b .fault) Waiting in
-      plain (withHeader (thenActed (begun hh l) b) (stillWaits a (b .header))) a (frameLen k) (not-opened (b .fault)) (tame-act hh ws (l .state .opens) (l .rx) (l .store) k (bodyOf received k) ok)
+      plain (storing (thenActed (begun hh l) b) (stillPending a (b .header))) a (frameLen k) (not-opened (b .fault)) (tame-act hh ws (l .state .queue) (l .rx) (l .store) k (bodyOf received k) ok)
 
-  opens-by : hh .waiting .on ≡ true → (r : Received) → Got received (hh .negotiated .config .«max_payload») r → Opens l received (openBy l wch received r)
-  unfolding openBy numberOf refusalNumber
-  opens-by on r (stopped a used st) = plain (begun (stillWaits a hh) l) a used (st .undone) tt
+  opens-by : hh .pending .on ≡ true → (r : Received) → Got received (hh .negotiated .config .«max_payload») r → Opens l received (openBy l wch received r)
+  unfolding openBy answerNumber refusalNumber
+  opens-by on r (stopped a used st) = plain (begun (stillPending a hh) l) a used (st .undone) tt
   opens-by on r (packet k sy) =
-      let mine = eqb (k .arg1) (hh .waiting .local .0) in
-      pick (Opens l received) (isReady (k .command) && mine) (λ t. opens-readied on k sy (openedOf (openingSlot (hh .waiting .local)) (record { 0 = k .arg0 }) (bodyOf received k) (policy l)) refl)
+      let mine = eqb (k .arg1) (hh .pending .local .0) in
+      pick (Opens l received) (isReady (k .command) && mine) (λ t. opens-readied on k sy (openedOf (openingSlot (hh .pending .local)) (record { 0 = k .arg0 }) (bodyOf received k) (policy l)) refl)
       (λ t. pick (Opens l received) (isWrite (k .command) && mine)
-      (λ u. plain (then (begun (dropped hh) l) [] (closeFrame (record { local = hh .waiting .local; remote = record { 0 = k .arg0 } }) ∷ [])) (Refused UnexpectedCommand) (frameLen k) refl tt)
+      (λ u. plain (then (begun (dropped hh) l) [] (closeFrame (record { local = hh .pending .local; remote = record { 0 = k .arg0 } }) ∷ [])) (Refused UnexpectedCommand) (frameLen k) refl tt)
       (λ u. pick (Opens l received) (isClose (k .command) && mine) (λ v. plain (begun (dropped hh) l) (Refused ChannelClosed) (frameLen k) refl tt) (λ v. opens-acted k)))
 
   pub opens : (out : ℕ) (destination : List ℕ) → Opens l received (openStep l out destination received)
   unfolding openStep
   opens out destination =
-      by-test (hh .waiting .on)
-      (λ t. subst (Opens l received) (sym (cond-true (hh .waiting .on) _ _ t)) (opens-by t (receivedOf l received) (got l received)))
-      (λ t. subst (Opens l received) (sym (cond-false (hh .waiting .on) _ _ t)) (opens-on out destination (allocated hh ws)))
+      by-test (hh .pending .on)
+      (λ t. subst (Opens l received) (sym (cond-true (hh .pending .on) _ _ t)) (opens-by t (receivedOf l received) (got l received)))
+      (λ t. subst (Opens l received) (sym (cond-false (hh .pending .on) _ _ t)) (opens-on out destination (allocated hh ws)))

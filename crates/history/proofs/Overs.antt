@@ -9,12 +9,12 @@ use lib.ListN.{length, take, set}
 use borrow.Author.Tests.{ltb-true}
 use Rattle.le.specs.Le.{numOf}
 use Rattle.config.specs.declared.negotiated.RxPolicy.{RxPolicy}
-use Rattle.config.specs.Negotiated.{policyOf, creditOf}
+use Rattle.config.specs.Negotiated.{policyOf, offeredCredit}
 use Rattle.incoming.specs.declared.Front.{Front}
 use Rattle.incoming.specs.declared.Front.the-variants.{Open as FrontOpen, Nothing as NoFront}
 use Rattle.incoming.specs.Incoming.{popped}
 use Rattle.protocol.specs.declared.command.Command.{Command}
-use Rattle.protocol.specs.declared.command.Command.the-variants.{Sync, Connect, Open, Ready, Close, Write, Auth, StartTls}
+use Rattle.protocol.specs.declared.command.Command.the-variants.{Write}
 use Rattle.protocol.specs.declared.packet.Packet.{Packet}
 use Rattle.protocol.specs.Packet.{maxPayload}
 use Rattle.protocol.proofs.RoundTrip.{Says}
@@ -39,26 +39,27 @@ use Rattle.state.specs.Change.{Step, Change, slotTo, changedAll}
 use Rattle.table.specs.declared.Allocated.{Allocated}
 use Rattle.table.specs.declared.Allocated.the-variants.{Channel, NoFree}
 use Rattle.table.specs.declared.ChannelId.{ChannelId}
-use Rattle.table.specs.declared.DispatchOutcome.{DispatchOutcome}
-use Rattle.table.specs.declared.DispatchOutcome.the-variants.{CancelPendingOpen, Unmatched}
+use Rattle.table_dispatch.specs.declared.DispatchOutcome.{DispatchOutcome}
+use Rattle.table_dispatch.specs.declared.DispatchOutcome.the-variants.{CancelQueuedOpen, Unmatched}
 use Rattle.table.specs.declared.Want.the-variants.{Local}
-use Rattle.table.specs.Table.{allocated, numbered, placeOf}
-use Rattle.table.specs.Dispatch.{slotIn, remotePlace, closedAt, closeOf, readiedOf, granted, readyAt, strayOf, grantOf, Dispatched, writeOf, routeOf, dispatchOf}
+use Rattle.table.specs.Table.{allocated, numbered, placeOf, slotIn}
+use Rattle.table_dispatch.specs.Dispatch.{remotePlace, closedAt, closeOf, readiedOf, granted, readyAt, strayOf, grantOf, Dispatched, writeOf, routeOf, dispatchOf}
+use Rattle.table_dispatch.proofs.RouteLaws.{by-route}
 use Rattle.connection.specs.declared.Answer.{Answer}
 use Rattle.connection.specs.declared.Answer.the-variants.{Done, Waiting, Opened, Read, Written, Refused}
 use Rattle.connection.specs.declared.Received.{Received}
 use Rattle.connection.specs.declared.Received.the-variants.{Packet as PacketIs}
 use Rattle.connection.specs.declared.Refusal.the-variants.{ChannelClosed, NoFreeChannels, PayloadTooLarge, ShortReadyPayload as ReadyShort, UnexpectedCommand}
 use Rattle.connection.specs.Act.{Acted, tableOf, actOn}
-use Rattle.connection.specs.Answer.{refusalNumber, numberOf}
-use Rattle.connection.specs.Calls.{Lent, Outcome, Work, begun, then, thenActed, ends, dropped, waitingFor, policy, idsIn, isThere, slotFor, faultRefusal, errorRefusal, unlessFault, receivedOf, bodyOf, frameLen, isDirect, dispatchBy, dispatchStep, settledAs, settleStep, takenBy, takeStep, reread, readSettled, readActed, readDirect, readBy, readTaken, readFirst, readStep, sendSome, sendBy, sendAgain, writeReadied, writeActed, writeAct, writeBy, writeFirst, writeOn, writeStep, closeStep, frontBy, frontStep, openOn, stillWaits, openReadied, openActed, openBy, openStep}
+use Rattle.connection.specs.Answer.{refusalNumber, answerNumber}
+use Rattle.connection.specs.Calls.{Lent, Outcome, Work, begun, then, thenActed, ends, dropped, pendingFor, policy, idsIn, isThere, slotFor, faultRefusal, errorRefusal, unlessFault, receivedOf, bodyOf, frameLen, isDirect, dispatchBy, dispatchStep, settledAs, settleStep, takenBy, takeStep, reread, readSettled, readActed, readDirect, readBy, readTaken, readFirst, readStep, sendSome, sendBy, sendAgain, writeReadied, writeActed, writeAct, writeBy, writeFirst, writeOn, writeStep, closeStep, takeFrontBy, takeFrontStep, openOn, stillPending, openReadied, openActed, openBy, openStep}
 use Rattle.connection.specs.Frames.{openFrame, writeFrame, framesBytes}
 use Rattle.connection.proofs.Slots.{slotsBy, slots-by, slot-set-same}
 use Rattle.history.proofs.Acts.{acted-fault, acted-at, at-named}
 use Rattle.history.proofs.Marks.{there-filled}
 use Rattle.history.proofs.Packets.{Got, stopped, packet, got, set-same}
 use Rattle.history.proofs.Places.{TableOk, faultOf, found-filled, found-local}
-use Rattle.history.proofs.Steps.{settled-alike, table-set}
+use Rattle.history.proofs.Steps.{table-set}
 
 -- a fault that is answered by 11
 abbrev pub overIn : Failed → Bool
@@ -85,7 +86,7 @@ module _ (p : RxPolicy) (n : ℕ) (ss : List ChannelSlot) (rx : List ℕ) (ok : 
   calm-close : (remote : RemoteId) (local : LocalId) → Calm (closeOf n ss remote local)
   unfolding closeOf
   calm-close remote local =
-      pick Calm (eqb (local .0) 0) (λ t. calm-closed (remotePlace n ss remote) (CancelPendingOpen remote) refl) (λ t. calm-closed (placeOf (Local local) n ss) Unmatched refl)
+      pick Calm (eqb (local .0) 0) (λ t. calm-closed (remotePlace n ss remote) (CancelQueuedOpen remote) refl) (λ t. calm-closed (placeOf (Local local) n ss) Unmatched refl)
 
   calm-granted : (f : ℕ) (s : ChannelSlot) (remote : RemoteId) (r : Readied) → Calm (granted f s remote r)
   unfolding granted
@@ -114,31 +115,26 @@ module _ (p : RxPolicy) (n : ℕ) (ss : List ChannelSlot) (rx : List ℕ) (ok : 
       (λ t e. absurd (true≢false (sym e)))
 
   over-route : (c : Command) (a l : ℕ) → overIn (faultOf (routeOf p n ss c a l payload rx .step .result)) ≡ true → Over ss c l
-  unfolding routeOf
-  over-route Connect a l e = absurd (true≢false (sym e))
-  over-route Auth a l e = absurd (true≢false (sym e))
-  over-route StartTls a l e = absurd (true≢false (sym e))
-  over-route Open a l e = absurd (true≢false (sym e))
-  over-route Close a l e = absurd (true≢false (sym e ∙ calm-close (record { 0 = a }) (record { 0 = l })))
-  over-route Write a l e = over-write (record { 0 = a }) (record { 0 = l }) e
-  over-route Ready a l e = absurd (true≢false (sym e ∙ calm-ready (record { 0 = a }) (record { 0 = l })))
-  over-route Sync a l e = absurd (true≢false (sym e))
+  over-route c a l =
+      by-route p n ss a l payload rx (λ c d. overIn (faultOf (d .step .result)) ≡ true → Over ss c l) (λ c h e. absurd (true≢false (sym e)))
+      (λ e. absurd (true≢false (sym e))) (λ e. absurd (true≢false (sym e ∙ calm-close (record { 0 = a }) (record { 0 = l }))))
+      (over-write (record { 0 = a }) (record { 0 = l })) (λ e. absurd (true≢false (sym e ∙ calm-ready (record { 0 = a }) (record { 0 = l })))) c
 
 -- what `act_on` refuses so
 over-act : (h : Header) (ss : List ChannelSlot) (l : Lent) (k : Packet) (payload : List ℕ) → TableOk (policyOf (h .negotiated)) (h .negotiated .config .channels) ss (l .rx)
-    → overIn (actOn h ss (l .state .opens) (l .rx) (l .store) k payload .fault) ≡ true → Over ss (k .command) (k .arg1)
+    → overIn (actOn h ss (l .state .queue) (l .rx) (l .store) k payload .fault) ≡ true → Over ss (k .command) (k .arg1)
 unfolding tableOf dispatchOf
 over-act h ss l k payload ok e =
     over-route (policyOf (h .negotiated)) (h .negotiated .config .channels) ss (l .rx) ok payload (k .command) (k .arg0) (k .arg1)
-    (ap overIn (sym (acted-fault h ss (l .state .opens) (l .rx) (l .store) k payload)) ∙ e)
+    (ap overIn (sym (acted-fault h ss (l .state .queue) (l .rx) (l .store) k payload)) ∙ e)
 
 -- ---- answers
 
 abbrev Other : Answer → Type 0
-Other a = numberOf a ≡ 11 → ⊥
+Other a = answerNumber a ≡ 11 → ⊥
 
-unless-over : (f : Failed) (a : Answer) → Other a → numberOf (unlessFault f a) ≡ 11 → overIn f ≡ true
-unfolding unlessFault faultRefusal numberOf refusalNumber
+unless-over : (f : Failed) (a : Answer) → Other a → answerNumber (unlessFault f a) ≡ 11 → overIn f ≡ true
+unfolding unlessFault faultRefusal answerNumber refusalNumber
 unless-over No a h e = absurd (h e)
 unless-over (By RxOverflow) a h e = refl
 unless-over (By ShortReadyPayload) a h e = absurd (omega arith)
@@ -146,7 +142,7 @@ unless-over (By WriteEarly) a h e = absurd (omega arith)
 
 -- a channel that did not fail is closed by 10
 error-other : (f : Failed) → isFailed f ≡ false → Other (Refused (errorRefusal (errorOf f)))
-unfolding isFailed errorOf errorRefusal numberOf refusalNumber
+unfolding isFailed errorOf errorRefusal answerNumber refusalNumber
 error-other No e h = omega arith
 error-other (By f) e h = true≢false e
 
@@ -163,18 +159,18 @@ module _ (l : Lent) (ok : TableOk (policy l) (l .state .header .negotiated .conf
   h0 = dropped (l .state .header)
 
   abbrev Never : Outcome → Type 0
-  Never x = numberOf (x .answer) ≡ 11 → ⊥
+  Never x = answerNumber (x .answer) ≡ 11 → ⊥
 
   never-ends : (w : Work) (a : Answer) (used : ℕ) (bs : List ℕ) → Other a → Never (ends w a used bs)
   unfolding ends
   never-ends w a used bs f = f
 
   pub settle-never : (ch : ChannelId) (want : ℕ) → Never (settleStep l ch want)
-  unfolding settleStep settledAs ends numberOf refusalNumber
+  unfolding settleStep settledAs ends answerNumber refusalNumber
   settle-never ch want = pick Never (isThere l ch) (λ t e. omega arith) (λ t e. omega arith)
 
   pub take-never : (ch : ChannelId) (room : ℕ) → Never (takeStep l ch room)
-  unfolding takeStep takenOf takenBy slotFor ends numberOf refusalNumber
+  unfolding takeStep takenOf takenBy slotFor ends answerNumber refusalNumber
   take-never ch room =
       let s = slotIn ss (ch .slot) in
       let P : Taken → Type 0 = λ y. Never (takenBy l ch s (begun h0 l) y) in
@@ -184,17 +180,17 @@ module _ (l : Lent) (ok : TableOk (policy l) (l .state .header .negotiated .conf
       (λ t e. omega arith)
 
   pub close-never : (ch : ChannelId) → Never (closeStep l ch)
-  unfolding closeStep ends numberOf refusalNumber
+  unfolding closeStep ends answerNumber refusalNumber
   close-never ch = pick Never (isThere l ch && slotFor l ch .«has_remote») (λ t e. omega arith) (λ t e. omega arith)
 
-  front-by : (h : Header) (xs : List Change) (f : Front) → Never (frontBy l h xs f)
-  unfolding frontBy ends numberOf
+  front-by : (h : Header) (xs : List Change) (f : Front) → Never (takeFrontBy l h xs f)
+  unfolding takeFrontBy ends answerNumber
   front-by h xs (FrontOpen q less) e = omega arith
   front-by h xs NoFront e = omega arith
 
-  pub front-never : Never (frontStep l)
-  unfolding frontStep
-  front-never = front-by h0 (popped h0 (l .state .opens) .changes) (popped h0 (l .state .opens) .result)
+  pub front-never : Never (takeFrontStep l)
+  unfolding takeFrontStep
+  front-never = front-by h0 (popped h0 (l .state .queue) .changes) (popped h0 (l .state .queue) .result)
 
   -- ---- calls that are handed received bytes
 
@@ -210,7 +206,7 @@ module _ (l : Lent) (ok : TableOk (policy l) (l .state .header .negotiated .conf
       pub used : x .used ≡ frameLen packet-of
 
     abbrev E : Outcome → Type 0
-    E x = numberOf (x .answer) ≡ 11 → Notes x
+    E x = answerNumber (x .answer) ≡ 11 → Notes x
 
     other : (w : Work) (a : Answer) (used : ℕ) (bs : List ℕ) → Other a → E (ends w a used bs)
     unfolding ends
@@ -222,7 +218,7 @@ module _ (l : Lent) (ok : TableOk (policy l) (l .state .header .negotiated .conf
     acted w f a k bs s o v e = record { packet-of = k; says = s; over = v (unless-over f a o e); used = refl }
 
     dispatch-by : (r : Received) → Got received limit r → E (dispatchBy l h0 received r)
-    unfolding dispatchBy numberOf
+    unfolding dispatchBy answerNumber
     dispatch-by r (stopped a used s) = other (begun h0 l) a used [] (s .under)
     dispatch-by r (packet k s) = acted _ _ Done k [] s (λ e. omega arith) (over-act h0 ss l k (bodyOf received k) ok)
 
@@ -240,7 +236,7 @@ module _ (l : Lent) (ok : TableOk (policy l) (l .state .header .negotiated .conf
       ss1 = set ss (ch .slot) s1
 
       ok1 : TableOk p (l .state .header .negotiated .config .channels) ss1 (l .rx)
-      ok1 = table-set p (l .state .header .negotiated .config .channels) ss (l .rx) (ch .slot) s1 ok fill (settled-alike (slotIn ss (ch .slot)) p room (ok .known (ch .slot) fill)) (settled-sound (slotIn ss (ch .slot)) p room (p .«rx_cap») (ok .sound (ch .slot) fill))
+      ok1 = table-set p (l .state .header .negotiated .config .channels) ss (l .rx) (ch .slot) s1 ok fill (settled-stays (slotIn ss (ch .slot)) p room) (settled-sound (slotIn ss (ch .slot)) p room (p .«rx_cap») (ok .sound (ch .slot) fill))
 
       stays1 : (j : ℕ) → (slotIn ss1 j .filled ≡ slotIn ss j .filled) × (slotIn ss1 j .local .0 ≡ slotIn ss j .local .0)
       stays1 j =
@@ -260,7 +256,7 @@ module _ (l : Lent) (ok : TableOk (policy l) (l .state .header .negotiated .conf
 
       module _ (k : Packet) (s : Says received limit k) where
         abbrev act : Acted
-        act = actOn h0 ss1 (l .state .opens) (l .rx) (l .store) k (bodyOf received k)
+        act = actOn h0 ss1 (l .state .queue) (l .rx) (l .store) k (bodyOf received k)
 
         over1 : overIn (act .fault) ≡ true → Over ss (k .command) (k .arg1)
         over1 e = over-first k (over-act h0 ss1 l k (bodyOf received k) ok1 e)
@@ -269,11 +265,11 @@ module _ (l : Lent) (ok : TableOk (policy l) (l .state .header .negotiated .conf
         fine2 : isFailed (slotIn (slotsBy ss1 (act .changes)) (ch .slot) .failed) ≡ false
         fine2 =
             let there = ap (λ (x : ChannelSlot). x .filled) here1 ∙ settled-stays (slotIn ss (ch .slot)) p room .filled ∙ fill in
-            let a = acted-at h0 ss1 (l .state .opens) (l .rx) (l .store) k (bodyOf received k) ok1 (ch .slot) there in
+            let a = acted-at h0 ss1 (l .state .queue) (l .rx) (l .store) k (bodyOf received k) ok1 (ch .slot) there in
             ap isFailed (at-named p _ _ _ _ _ _ _ _ a .failed ∙ ap (λ (x : ChannelSlot). x .failed) here1) ∙ fine1
 
         reread-notes : (w : Work) (t : ChannelSlot) → isFailed (t .failed) ≡ false → E (reread ch (p .«rx_cap») (frameLen k) (act .fault) w t (takenOf t room))
-        unfolding reread takenOf numberOf
+        unfolding reread takenOf answerNumber
         reread-notes w t f =
             let P : Taken → Type 0 = λ y. E (reread ch (p .«rx_cap») (frameLen k) (act .fault) w t y) in
             pick P (hasData t) (λ d. other (then w (slotTo (ch .slot) (tookOf t (takeLen t room)) ∷ []) []) (Read (takeLen t room)) (frameLen k) _ (λ e. omega arith))
@@ -290,11 +286,11 @@ module _ (l : Lent) (ok : TableOk (policy l) (l .state .header .negotiated .conf
             reread-notes _ (settledOf t p room .slot) (ap isFailed (settled-stays t p room .failed ∙ ap (λ (x : ChannelSlot). x .failed) z) ∙ fine2)
 
         packet-notes : (w : Work) → w .header ≡ h0 → w .changes ≡ [] → E (readBy l ch room w s1 received (PacketIs k))
-        unfolding readBy readDirect numberOf refusalNumber
+        unfolding readBy readDirect answerNumber refusalNumber
         packet-notes w eh e =
             pick E (isDirect s1 room k) (λ t. other _ (Read (length (bodyOf received k))) (frameLen k) (bodyOf received k) (λ e. omega arith))
             (λ t. pick E (closedBy (idsIn s1) k) (λ u. other _ (Refused ChannelClosed) (frameLen k) [] (λ e. omega arith))
-            (λ u. subst (λ (h : Header). E (readActed l ch room (frameLen k) (then w (slotTo (ch .slot) s1 ∷ []) []) (actOn h ss1 (l .state .opens) (l .rx) (l .store) k (bodyOf received k)))) (sym eh)
+            (λ u. subst (λ (h : Header). E (readActed l ch room (frameLen k) (then w (slotTo (ch .slot) s1 ∷ []) []) (actOn h ss1 (l .state .queue) (l .rx) (l .store) k (bodyOf received k)))) (sym eh)
             (acted-notes (then w (slotTo (ch .slot) s1 ∷ []) []) (ap (λ (x : List Change). x ++ slotTo (ch .slot) s1 ∷ []) e))))
 
       received-notes : (w : Work) → w .header ≡ h0 → w .changes ≡ [] → (r : Received) → Got received limit r → E (readBy l ch room w s1 received r)
@@ -303,7 +299,7 @@ module _ (l : Lent) (ok : TableOk (policy l) (l .state .header .negotiated .conf
       received-notes w eh e r (packet k s) = packet-notes k s w eh e
 
       taken-notes : (w : Work) → w .header ≡ h0 → w .changes ≡ [] → E (readTaken l ch room w s1 received (takenOf s1 room))
-      unfolding readTaken takenOf numberOf refusalNumber
+      unfolding readTaken takenOf answerNumber refusalNumber
       taken-notes w eh e =
           let P : Taken → Type 0 = λ y. E (readTaken l ch room w s1 received y) in
           pick P (hasData s1) (λ d. other (then w (slotTo (ch .slot) (tookOf s1 (takeLen s1 room)) ∷ []) []) (Read (takeLen s1 room)) 0 _ (λ e. omega arith))
@@ -311,7 +307,7 @@ module _ (l : Lent) (ok : TableOk (policy l) (l .state .header .negotiated .conf
           (λ c. pick E (s1 .«has_remote») (λ t. received-notes w eh e (receivedOf l received) (got l received)) (λ t. other (then w (slotTo (ch .slot) s1 ∷ []) []) (Refused ChannelClosed) 0 [] (λ e. omega arith))))
 
     pub read-notes : (ch : ChannelId) (room : ℕ) → E (readStep l ch room received)
-    unfolding readStep readFirst slotFor numberOf refusalNumber
+    unfolding readStep readFirst slotFor answerNumber refusalNumber
     read-notes ch room =
         pick E (isThere l ch) (λ t. taken-notes ch room (there-filled l ok ch t) _ refl refl) (λ t. other (begun h0 l) (Refused ChannelClosed) 0 [] (λ e. omega arith))
 
@@ -319,47 +315,47 @@ module _ (l : Lent) (ok : TableOk (policy l) (l .state .header .negotiated .conf
 
     module _ (ch : ChannelId) (out : ℕ) (bytes : List ℕ) where
       some-notes : (used : ℕ) (w : Work) (s : ChannelSlot) (n : ℕ) → E (sendSome l ch out bytes used w s n)
-      unfolding sendSome numberOf refusalNumber
+      unfolding sendSome answerNumber refusalNumber
       some-notes used w s n =
           pick E (ltb out (length (framesBytes (w .header .negotiated) (w .frames)) + 24 + n)) (λ t e. absurd (omega arith))
           (λ t. other (then w (slotTo (ch .slot) (spentOf s p n) ∷ []) (writeFrame (idsIn s) (take n bytes) ∷ [])) (Written n) used [] (λ e. omega arith))
 
       send-notes : (used : ℕ) (w : Work) (s : ChannelSlot) (x : Budget) → E (sendBy l ch out bytes used w s x)
-      unfolding sendBy numberOf
+      unfolding sendBy answerNumber
       send-notes used w s (Bytes most) = some-notes used w s _
       send-notes used w s NoBudget = other (then w (slotTo (ch .slot) s ∷ []) []) Waiting used [] (λ e. omega arith)
 
       again-notes : (used : ℕ) (w : Work) (s : ChannelSlot) → E (sendAgain l ch out bytes used w s)
-      unfolding sendAgain numberOf refusalNumber
+      unfolding sendAgain answerNumber refusalNumber
       again-notes used w s =
           pick E (isClosed (s .state)) (λ t. other (then w (slotTo (ch .slot) s ∷ []) []) (Refused ChannelClosed) used [] (λ e. omega arith)) (λ t. send-notes used w s (budgetOf s p))
 
       readied-notes : (used : ℕ) (w : Work) (s : ChannelSlot) (r : Readied) → E (writeReadied l ch out bytes used w s r)
-      unfolding writeReadied numberOf refusalNumber
+      unfolding writeReadied answerNumber refusalNumber
       readied-notes used w s (Slot t) = again-notes used w t
       readied-notes used w s Short = other w (Refused ReadyShort) used [] (λ e. omega arith)
 
       fault-notes : (k : Packet) → Says received limit k → (w : Work) (a : Acted) (f : Failed) → (overIn f ≡ true → Over ss (k .command) (k .arg1)) → E (writeActed l ch out bytes (frameLen k) w a f)
-      unfolding writeActed unlessFault numberOf
+      unfolding writeActed unlessFault answerNumber
       fault-notes k s w a (By f) v = acted (thenActed w a) (By f) Waiting k [] s (λ e. omega arith) v
       fault-notes k s w a No v = again-notes (frameLen k) (thenActed w a) _
 
       write-received-notes : (s : ChannelSlot) (r : Received) → Got received limit r → E (writeBy l ch out bytes (begun h0 l) s received r)
-      unfolding writeBy writeAct numberOf refusalNumber
+      unfolding writeBy writeAct answerNumber refusalNumber
       write-received-notes s r (stopped a used st) = other (begun h0 l) a used [] (st .under)
       write-received-notes s r (packet k sy) =
           pick E (isReady (k .command) && eqb (k .arg1) (s .local .0)) (λ t. readied-notes (frameLen k) (begun h0 l) s (readyOf s (bodyOf received k) p))
           (λ t. pick E (closedBy (idsIn s) k) (λ u. other _ (Refused ChannelClosed) (frameLen k) [] (λ e. omega arith))
-          (λ u. fault-notes k sy (begun h0 l) (actOn h0 ss (l .state .opens) (l .rx) (l .store) k (bodyOf received k)) _ (over-act h0 ss l k (bodyOf received k) ok)))
+          (λ u. fault-notes k sy (begun h0 l) (actOn h0 ss (l .state .queue) (l .rx) (l .store) k (bodyOf received k)) _ (over-act h0 ss l k (bodyOf received k) ok)))
 
       first-notes : (s : ChannelSlot) (x : Budget) → E (writeFirst l ch out bytes received (begun h0 l) s x)
-      unfolding writeFirst numberOf refusalNumber
+      unfolding writeFirst answerNumber refusalNumber
       first-notes s (Bytes most) = some-notes 0 (begun h0 l) s _
       first-notes s NoBudget =
           pick E (s .«has_remote») (λ t. write-received-notes s (receivedOf l received) (got l received)) (λ t. other (begun h0 l) (Refused ChannelClosed) 0 [] (λ e. omega arith))
 
       pub write-notes : E (writeStep l ch out bytes received)
-      unfolding writeStep writeOn numberOf refusalNumber
+      unfolding writeStep writeOn answerNumber refusalNumber
       write-notes =
           pick E (eqb (length bytes) 0) (λ z. other (begun h0 l) (Written 0) 0 [] (λ e. omega arith))
           (λ z. pick E (isThere l ch)
@@ -369,21 +365,21 @@ module _ (l : Lent) (ok : TableOk (policy l) (l .state .header .negotiated .conf
     -- ---- open
 
     on-notes : (out : ℕ) (destination : List ℕ) (a : Allocated) → E (openOn l out destination a)
-    unfolding openOn numberOf refusalNumber
+    unfolding openOn answerNumber refusalNumber
     on-notes out destination NoFree = other (begun (l .state .header) l) (Refused NoFreeChannels) 0 [] (λ e. omega arith)
     on-notes out destination (Channel ch) =
         pick E (ltb maxPayload (length destination)) (λ t. other (begun (numbered (l .state .header)) l) (Refused PayloadTooLarge) 0 [] (λ e. omega arith))
         (λ t. pick E (ltb out (24 + length destination)) (λ u e. absurd (omega arith))
-        (λ u. other (then (begun (waitingFor (numbered (l .state .header)) ch) l) [] (openFrame (ch .local) (creditOf (l .state .header .negotiated)) destination ∷ [])) Waiting 0 [] (λ e. omega arith)))
+        (λ u. other (then (begun (pendingFor (numbered (l .state .header)) ch) l) [] (openFrame (ch .local) (offeredCredit (l .state .header .negotiated)) destination ∷ [])) Waiting 0 [] (λ e. omega arith)))
 
     open-readied-notes : (ch : ChannelId) (remote used : ℕ) (r : Readied) → E (openReadied l ch remote used r)
-    unfolding openReadied numberOf refusalNumber
+    unfolding openReadied answerNumber refusalNumber
     open-readied-notes ch remote used (Slot t) = other _ (Opened ch) used [] (λ e. omega arith)
     open-readied-notes ch remote used Short = other _ (Refused ReadyShort) used [] (λ e. omega arith)
 
     open-received-notes : (ch : ChannelId) (r : Received) → Got received limit r → E (openBy l ch received r)
-    unfolding openBy openActed numberOf refusalNumber
-    open-received-notes ch r (stopped a used s) = other (begun (stillWaits a (l .state .header)) l) a used [] (s .under)
+    unfolding openBy openActed answerNumber refusalNumber
+    open-received-notes ch r (stopped a used s) = other (begun (stillPending a (l .state .header)) l) a used [] (s .under)
     open-received-notes ch r (packet k s) =
         let mine = eqb (k .arg1) (ch .local .0) in
         pick E (isReady (k .command) && mine) (λ t. open-readied-notes ch (k .arg0) (frameLen k) (openedOf (openingSlot (ch .local)) (record { 0 = k .arg0 }) (bodyOf received k) p))
@@ -394,4 +390,4 @@ module _ (l : Lent) (ok : TableOk (policy l) (l .state .header .negotiated .conf
     pub open-notes : (out : ℕ) (destination : List ℕ) → E (openStep l out destination received)
     unfolding openStep
     open-notes out destination =
-        pick E (l .state .header .waiting .on) (λ t. open-received-notes _ (receivedOf l received) (got l received)) (λ t. on-notes out destination (allocated (l .state .header) ss))
+        pick E (l .state .header .pending .on) (λ t. open-received-notes _ (receivedOf l received) (got l received)) (λ t. on-notes out destination (allocated (l .state .header) ss))

@@ -27,15 +27,14 @@ use Rattle.slot.specs.declared.ids.RemoteId.{RemoteId}
 use Rattle.slot.specs.Ids.{namedBy, closedBy}
 use Rattle.slot.specs.Slot.{emptySlot}
 use Rattle.table.specs.declared.Want.the-variants.{Remote}
-use Rattle.table.specs.Table.{first, wantedBy, placeOf}
-use Rattle.table.specs.Dispatch.{slotIn}
-use Rattle.table.proofs.DispatchLaws.{first-found}
+use Rattle.table.specs.Table.{first, wantedBy, placeOf, slotIn}
+use Rattle.table_dispatch.proofs.DispatchLaws.{first-found}
 use Rattle.connection.specs.declared.Answer.{Answer}
 use Rattle.connection.specs.declared.Answer.the-variants.{Waiting, Refused}
 use Rattle.connection.specs.declared.Received.{Received}
 use Rattle.connection.specs.declared.Received.the-variants.{Packet as PacketIs, Stop}
 use Rattle.connection.specs.declared.Refusal.the-variants.{InvalidCommand, InvalidMagic, PayloadTooLarge, InvalidChecksum}
-use Rattle.connection.specs.Answer.{refusalNumber, numberOf}
+use Rattle.connection.specs.Answer.{refusalNumber, answerNumber}
 use Rattle.connection.specs.Calls.{Lent, receivedBy, receivedOf, bodyOf, frameLen}
 use Rattle.history.specs.Book.{Book, noBook, hasRemote, isWrte, isClse, isEarly, headerAt, payloadAt, closesB, ownEnd}
 use Rattle.history.proofs.Places.{TableOk, first-le, found-there, place-le}
@@ -49,17 +48,17 @@ and-cond false y = refl
 
 -- none: nothing is used, or a damaged frame is
 pub record Stops (a : Answer) (used : ℕ) : Type 0 where
-  pub quiet : eqb (numberOf a) 4 ≡ false → used ≡ 0
-  pub late : isEarly (numberOf a) ≡ false
-  pub undone : eqb (numberOf a) 0 ≡ false
-  pub under : numberOf a ≡ 11 → ⊥
+  pub quiet : eqb (answerNumber a) 4 ≡ false → used ≡ 0
+  pub late : isEarly (answerNumber a) ≡ false
+  pub undone : eqb (answerNumber a) 0 ≡ false
+  pub under : answerNumber a ≡ 11 → ⊥
 
 pub data Got (received : List ℕ) (limit : ℕ) : Received → Type 0 where
   stopped : (a : Answer) (used : ℕ) → Stops a used → Got received limit (Stop a used)
   packet : (k : Packet) → Says received limit k → Got received limit (PacketIs k)
 
 got-by : (received : List ℕ) (limit : ℕ) (d : Decoded) → decodeOf received limit ≡ d → Got received limit (receivedBy d)
-unfolding receivedBy numberOf refusalNumber
+unfolding receivedBy answerNumber refusalNumber
 got-by received limit FrameWaiting e = stopped Waiting 0 (record { quiet = λ n. refl; late = refl; undone = refl; under = λ e. omega arith })
 got-by received limit (WordInvalid word) e = stopped (Refused (InvalidCommand word)) 0 (record { quiet = λ n. refl; late = refl; undone = refl; under = λ e. omega arith })
 got-by received limit MagicInvalid e = stopped (Refused InvalidMagic) 0 (record { quiet = λ n. refl; late = refl; undone = refl; under = λ e. omega arith })

@@ -13,9 +13,8 @@ use Rattle.le.proofs.Parts.{by-test, length-part}
 use Rattle.config.specs.declared.negotiated.RxPolicy.{RxPolicy}
 use Rattle.config.proofs.Laws.{and-true}
 use Rattle.protocol.specs.declared.command.Command.{Command}
-use Rattle.protocol.specs.declared.command.Command.the-variants.{Sync, Connect, Open, Ready, Close, Write, Auth, StartTls}
 use Rattle.protocol.specs.Command.{isClose, isWrite, isThe, wordOf, lettersOf}
-use Rattle.rx_store.specs.RxStore.{Room, appended, appendedHead}
+use Rattle.rx_store.specs.RxStore.{Room, appended, appendedHead, shareOf, bufferedIn}
 use Rattle.rx_store.proofs.Laws.{part-appended}
 use Rattle.slot.specs.declared.ids.LocalId.{LocalId}
 use Rattle.slot.specs.declared.ids.RemoteId.{RemoteId}
@@ -23,25 +22,27 @@ use Rattle.slot.specs.declared.AckDecision.{AckDecision}
 use Rattle.slot.specs.declared.AckDecision.the-variants.{Now, Hold, Overflow, Early}
 use Rattle.slot.specs.declared.ChannelFault.the-variants.{RxOverflow, ShortReadyPayload}
 use Rattle.slot.specs.declared.ChannelSlot.{ChannelSlot}
-use Rattle.slot.specs.declared.Credit.{Credit}
-use Rattle.slot.specs.declared.Credit.the-variants.{Of, Short as CreditShort}
+use Rattle.credit.specs.declared.Credit.{Credit}
+use Rattle.credit.specs.declared.Credit.the-variants.{Of, Short as CreditShort}
 use Rattle.slot.specs.declared.Failed.{Failed}
 use Rattle.slot.specs.declared.Failed.the-variants.{No, By}
 use Rattle.slot.specs.declared.Readied.{Readied}
 use Rattle.slot.specs.declared.Readied.the-variants.{Slot, Short}
 use Rattle.slot.specs.declared.Wrote.{Wrote}
-use Rattle.slot.specs.Slot.{emptySlot, isOpening, isFailed, heldOf, acksNow, bufferedWith, wroteOf, creditOf, readyBy, readyOf, closedSlot, SlotOk}
+use Rattle.slot.specs.Slot.{emptySlot, isOpening, isFailed, heldOf, acksNow, bufferedWith, wroteOf, readyBy, readyOf, closedSlot, SlotOk}
+use Rattle.credit.specs.Credit.{creditOf}
 use Rattle.slot.proofs.Kept.{pick}
 use Rattle.slot.proofs.Laws.{cond-true, cond-false}
 use Rattle.state.specs.Change.{Step}
-use Rattle.table.specs.declared.DispatchOutcome.{DispatchOutcome}
-use Rattle.table.specs.declared.DispatchOutcome.the-variants.{AckWrite, CreditGranted, SlotClosed, DataBuffered, IncomingOpen, CancelPendingOpen, StrayReady, ChannelFault, Unmatched}
+use Rattle.table_dispatch.specs.declared.DispatchOutcome.{DispatchOutcome}
+use Rattle.table_dispatch.specs.declared.DispatchOutcome.the-variants.{AckWrite, CreditGranted, SlotClosed, DataBuffered, IncomingOpen, CancelQueuedOpen, StrayReady, ChannelFault, Unmatched}
 use Rattle.table.specs.declared.Want.{Want}
 use Rattle.table.specs.declared.Want.the-variants.{Local, Remote}
-use Rattle.table.specs.Table.{first, wantedBy, placeOf}
-use Rattle.table.specs.Dispatch.{left, stored, slotIn, faulted, remotePlace, closedAt, closeOf, readiedOf, granted, readyAt, strayOf, grantOf, Dispatched, with, shareOf, bufferedIn, wroteBy, wroteAt, writeOf, routeOf}
-use Rattle.table.proofs.KeepLaws.{place-found}
-use Rattle.table.proofs.DispatchLaws.{share-in, buffered-own, buffered-other}
+use Rattle.table.specs.Table.{first, wantedBy, placeOf, slotIn}
+use Rattle.table_dispatch.specs.Dispatch.{left, stored, faulted, remotePlace, closedAt, closeOf, readiedOf, granted, readyAt, strayOf, grantOf, Dispatched, with, wroteBy, wroteAt, writeOf, routeOf}
+use Rattle.table_dispatch.proofs.KeepLaws.{place-found}
+use Rattle.table_dispatch.proofs.RouteLaws.{by-route}
+use Rattle.rx_store.proofs.ShareLaws.{share-in, buffered-own, buffered-other}
 use Rattle.connection.proofs.Slots.{slotsBy, slot-set-same, slot-set-other}
 use Rattle.history.specs.Demand3.{runOf}
 use Rattle.history.proofs.Good.{Leaves}
@@ -168,7 +169,7 @@ faultOf (CreditGranted i) = No
 faultOf (SlotClosed i) = No
 faultOf (DataBuffered i) = No
 faultOf (IncomingOpen remote credit) = No
-faultOf (CancelPendingOpen remote) = No
+faultOf (CancelQueuedOpen remote) = No
 faultOf (StrayReady ids) = No
 faultOf (ChannelFault i ids opening f) = By f
 faultOf Unmatched = No
@@ -208,16 +209,16 @@ module _ (p : RxPolicy) (n : ℕ) (ss : List ChannelSlot) (rx : List ℕ) (ok : 
 
   -- a payload into another slot's share leaves the run
   run-other : (f : ℕ) (t s : ChannelSlot) → f < n → (i ≡ f → ⊥) → Room (2 * p .«rx_cap») (t .head) (t .buffered) (length payload)
-      → runOf (bufferedIn rx (p .«rx_cap») f t payload) (p .«rx_cap») i s ≡ runOf rx (p .«rx_cap») i s
+      → runOf (bufferedIn rx (p .«rx_cap») f (t .head) (t .buffered) payload) (p .«rx_cap») i s ≡ runOf rx (p .«rx_cap») i s
   unfolding runOf
   run-other f t s h d r =
       ap (λ (l : List ℕ). part l (s .head) (s .buffered))
-      (buffered-other rx (p .«rx_cap») f t payload (share-in f n (2 * p .«rx_cap») (length rx) h (ok .shares)) r i (λ e. d (sym e)))
+      (buffered-other rx (p .«rx_cap») f (t .head) (t .buffered) payload (share-in f n (2 * p .«rx_cap») (length rx) h (ok .shares)) r i (λ e. d (sym e)))
 
   -- into its own, it stands behind the run
   run-own : (s : ChannelSlot) (head more : ℕ) → i < n → Room (2 * p .«rx_cap») (s .head) (s .buffered) (length payload)
       → head ≡ appendedHead (2 * p .«rx_cap») (s .head) (s .buffered) (length payload) → more ≡ s .buffered + length payload
-      → part (shareOf (bufferedIn rx (p .«rx_cap») i s payload) (p .«rx_cap») i) head more ≡ runOf rx (p .«rx_cap») i s ++ payload
+      → part (shareOf (bufferedIn rx (p .«rx_cap») i (s .head) (s .buffered) payload) (p .«rx_cap») i) head more ≡ runOf rx (p .«rx_cap») i s ++ payload
   unfolding runOf shareOf
   run-own s head more h r e e2 =
       let cap = p .«rx_cap» in
@@ -225,7 +226,7 @@ module _ (p : RxPolicy) (n : ℕ) (ss : List ChannelSlot) (rx : List ℕ) (ok : 
       let share = part rx (i * (2 * cap)) (2 * cap) in
       let l : length share ≡ 2 * cap = length-part rx (i * (2 * cap)) (2 * cap) sh in
       let r2 : Room (length share) (s .head) (s .buffered) (length payload) = subst (λ (x : ℕ). Room x (s .head) (s .buffered) (length payload)) (sym l) r in
-      ap (λ (x : List ℕ). part x head more) (buffered-own rx cap i s payload sh r)
+      ap (λ (x : List ℕ). part x head more) (buffered-own rx cap i (s .head) (s .buffered) payload sh r)
       ∙ ap (λ (x : ℕ). part (appended share (s .head) (s .buffered) payload) x more) (e ∙ ap (λ (x : ℕ). appendedHead x (s .head) (s .buffered) (length payload)) (sym l))
       ∙ ap (part (appended share (s .head) (s .buffered) payload) (appendedHead (length share) (s .head) (s .buffered) (length payload))) e2
       ∙ part-appended share (s .head) (s .buffered) payload r2
@@ -239,13 +240,13 @@ module _ (p : RxPolicy) (n : ℕ) (ss : List ChannelSlot) (rx : List ℕ) (ok : 
       let z = own-is t in
       let r = room-for s p (length payload) (ok .sound i there) h in
       let g = grown s p (length payload) (ok .opened i there) h in
-      wrote refl h (z ∙ w) (ap (runOf (bufferedIn rx (p .«rx_cap») i s payload) (p .«rx_cap») i) z ∙ run-own s (t .head) (t .buffered) (ok .below i there) r (ap (λ (x : ChannelSlot). x .head) w ∙ g .head) (ap (λ (x : ChannelSlot). x .buffered) w ∙ g .more)) refl
+      wrote refl h (z ∙ w) (ap (runOf (bufferedIn rx (p .«rx_cap») i (s .head) (s .buffered) payload) (p .«rx_cap») i) z ∙ run-own s (t .head) (t .buffered) (ok .below i there) r (ap (λ (x : ChannelSlot). x .head) w ∙ g .head) (ap (λ (x : ChannelSlot). x .buffered) w ∙ g .more)) refl
   at-own remote t Hold ends (buffers e h) w =
       let s = slotIn ss i in
       let z = own-is t in
       let r = room-for s p (length payload) (ok .sound i there) h in
       let g = grown s p (length payload) (ok .opened i there) h in
-      wrote refl h (z ∙ w) (ap (runOf (bufferedIn rx (p .«rx_cap») i s payload) (p .«rx_cap») i) z ∙ run-own s (t .head) (t .buffered) (ok .below i there) r (ap (λ (x : ChannelSlot). x .head) w ∙ g .head) (ap (λ (x : ChannelSlot). x .buffered) w ∙ g .more)) refl
+      wrote refl h (z ∙ w) (ap (runOf (bufferedIn rx (p .«rx_cap») i (s .head) (s .buffered) payload) (p .«rx_cap») i) z ∙ run-own s (t .head) (t .buffered) (ok .below i there) r (ap (λ (x : ChannelSlot). x .head) w ∙ g .head) (ap (λ (x : ChannelSlot). x .buffered) w ∙ g .more)) refl
   at-own remote t Overflow ends (buffers e h) w = absurd (true≢false (sym e))
   at-own remote t Early ends (buffers e h) w = absurd (true≢false (sym e))
   at-own remote t d ends (overflows e h) w = subst (λ (x : AckDecision). AtPlace p ss rx i payload true ends (wroteBy p i (slotIn ss i) remote payload rx t x)) (sym e) (over refl h refl refl refl)
@@ -257,11 +258,11 @@ module _ (p : RxPolicy) (n : ℕ) (ss : List ChannelSlot) (rx : List ℕ) (ok : 
   at-else f remote t (Now len) ends h ne sound (buffers e k) x =
       let z = slot-set-other ss f i t ne in
       let r = room-for (slotIn ss f) p (length payload) sound k in
-      apart refl x z (ap (runOf (bufferedIn rx (p .«rx_cap») f (slotIn ss f) payload) (p .«rx_cap») i) z ∙ run-other f (slotIn ss f) (slotIn ss i) h ne r)
+      apart refl x z (ap (runOf (bufferedIn rx (p .«rx_cap») f (slotIn ss f .head) (slotIn ss f .buffered) payload) (p .«rx_cap») i) z ∙ run-other f (slotIn ss f) (slotIn ss i) h ne r)
   at-else f remote t Hold ends h ne sound (buffers e k) x =
       let z = slot-set-other ss f i t ne in
       let r = room-for (slotIn ss f) p (length payload) sound k in
-      apart refl x z (ap (runOf (bufferedIn rx (p .«rx_cap») f (slotIn ss f) payload) (p .«rx_cap») i) z ∙ run-other f (slotIn ss f) (slotIn ss i) h ne r)
+      apart refl x z (ap (runOf (bufferedIn rx (p .«rx_cap») f (slotIn ss f .head) (slotIn ss f .buffered) payload) (p .«rx_cap») i) z ∙ run-other f (slotIn ss f) (slotIn ss i) h ne r)
   at-else f remote t Overflow ends h ne sound (buffers e k) x = absurd (true≢false (sym e))
   at-else f remote t Early ends h ne sound (buffers e k) x = absurd (true≢false (sym e))
   at-else f remote t d ends h ne sound (overflows e k) x =
@@ -353,13 +354,13 @@ module _ (p : RxPolicy) (n : ℕ) (ss : List ChannelSlot) (rx : List ℕ) (ok : 
       let K : Bool → Step DispatchOutcome → Type 0 = λ ends x. AtPlace p ss rx i payload false ends (with x rx) in
       let b = ok .below i there in
       by-test (eqb (local .0) 0)
-      (λ z. subst (λ (x : Bool). K (cond x (not (eqb (remote .0) 0) && eqb f i) (eqb (local .0) (slotIn ss i .local .0))) (cond x (closedAt (cond (eqb (remote .0) 0) n f) n ss (CancelPendingOpen remote)) (closedAt g n ss Unmatched))) (sym z)
+      (λ z. subst (λ (x : Bool). K (cond x (not (eqb (remote .0) 0) && eqb f i) (eqb (local .0) (slotIn ss i .local .0))) (cond x (closedAt (cond (eqb (remote .0) 0) n f) n ss (CancelQueuedOpen remote)) (closedAt g n ss Unmatched))) (sym z)
       (by-test (eqb (remote .0) 0)
-      (λ y. subst (λ (x : Bool). K (not x && eqb f i) (closedAt (cond x n f) n ss (CancelPendingOpen remote))) (sym y)
-      (at-closed n (CancelPendingOpen remote) false (λ e. absurd (true≢false (sym e))) (λ e d. omega arith)))
-      (λ y. subst (λ (x : Bool). K (not x && eqb f i) (closedAt (cond x n f) n ss (CancelPendingOpen remote))) (sym y)
-      (at-closed f (CancelPendingOpen remote) (eqb f i) (λ e. eqb-true f i e) (λ e d. eqb-false f i e (sym d))))))
-      (λ z. subst (λ (x : Bool). K (cond x (not (eqb (remote .0) 0) && eqb f i) (eqb (local .0) (slotIn ss i .local .0))) (cond x (closedAt (cond (eqb (remote .0) 0) n f) n ss (CancelPendingOpen remote)) (closedAt g n ss Unmatched))) (sym z)
+      (λ y. subst (λ (x : Bool). K (not x && eqb f i) (closedAt (cond x n f) n ss (CancelQueuedOpen remote))) (sym y)
+      (at-closed n (CancelQueuedOpen remote) false (λ e. absurd (true≢false (sym e))) (λ e d. omega arith)))
+      (λ y. subst (λ (x : Bool). K (not x && eqb f i) (closedAt (cond x n f) n ss (CancelQueuedOpen remote))) (sym y)
+      (at-closed f (CancelQueuedOpen remote) (eqb f i) (λ e. eqb-true f i e) (λ e d. eqb-false f i e (sym d))))))
+      (λ z. subst (λ (x : Bool). K (cond x (not (eqb (remote .0) 0) && eqb f i) (eqb (local .0) (slotIn ss i .local .0))) (cond x (closedAt (cond (eqb (remote .0) 0) n f) n ss (CancelQueuedOpen remote)) (closedAt g n ss Unmatched))) (sym z)
       (at-closed g Unmatched (eqb (local .0) (slotIn ss i .local .0))
       (λ e. own-place p n ss rx ok i local there (sym (eqb-true _ _ e)))
       (λ e d. eqb-false _ _ e (sym (ap (λ (x : ℕ). slotIn ss x .local .0) d ∙ found-local p n ss rx ok local (omega arith))))))
@@ -367,12 +368,9 @@ module _ (p : RxPolicy) (n : ℕ) (ss : List ChannelSlot) (rx : List ℕ) (ok : 
   -- any packet
   pub at-route : (c : Command) (a l : ℕ)
       → AtPlace p ss rx i payload (isWrite c && eqb l (slotIn ss i .local .0)) (isClose c && closes (record { 0 = a }) (record { 0 = l })) (routeOf p n ss c a l payload rx)
-  unfolding routeOf isWrite isClose isThe wordOf lettersOf numOf
-  at-route Connect a l = at-left Unmatched false false refl refl
-  at-route Auth a l = at-left Unmatched false false refl refl
-  at-route StartTls a l = at-left Unmatched false false refl refl
-  at-route Open a l = at-left (IncomingOpen (record { 0 = a }) l) false false refl refl
-  at-route Close a l = at-close (record { 0 = a }) (record { 0 = l })
-  at-route Write a l = at-write (record { 0 = a }) (record { 0 = l })
-  at-route Ready a l = at-ready (record { 0 = a }) (record { 0 = l })
-  at-route Sync a l = at-left Unmatched false false refl refl
+  unfolding isWrite isClose isThe wordOf lettersOf numOf
+  at-route c a l =
+      by-route p n ss a l payload rx
+      (λ c d. AtPlace p ss rx i payload (isWrite c && eqb l (slotIn ss i .local .0)) (isClose c && closes (record { 0 = a }) (record { 0 = l })) d)
+      (λ c h. rw (h .no-write, h .no-close) (at-left Unmatched false false refl refl)) (at-left (IncomingOpen (record { 0 = a }) l) false false refl refl)
+      (at-close (record { 0 = a }) (record { 0 = l })) (at-write (record { 0 = a }) (record { 0 = l })) (at-ready (record { 0 = a }) (record { 0 = l })) c

@@ -1,4 +1,4 @@
--- The opens that wait change as the Rust's IncomingQueue does. Assumes nothing.
+-- The queued opens change as the Rust's IncomingQueue does. Assumes nothing.
 use mathlib.Core.Path.{_≡_, refl, sym, ap, subst, _∙_}
 use mathlib.Core.Bool.{Bool, true, false, cond, _&&_, _||_}
 use mathlib.Core.List.{List, [], _∷_, _++_}
@@ -17,8 +17,8 @@ use Rattle.config.proofs.Laws.{and-true}
 use Rattle.rx_store.proofs.Laws.{share-before}
 use Rattle.incoming.specs.declared.Front.{Front}
 use Rattle.incoming.specs.declared.Front.the-variants.{Open as FrontOpen, Nothing as NoFront}
-use Rattle.incoming.specs.Incoming.{Incoming, waitsAs, waits, withdrawn, withQueued, noOpen, PushOutcome, nextShare, pushed, withdrawal, popped}
-use Rattle.incoming.proofs.WaitLaws.{push-waits, withdrawal-waits, popped-waits}
+use Rattle.incoming.specs.Incoming.{Incoming, queuedAs, queuedOpens, withdrawn, withQueued, noneQueued, PushOutcome, nextShare, pushed, withdrawal, popped}
+use Rattle.incoming.proofs.ListLaws.{push-waits, withdrawal-waits, popped-waits}
 use Rattle.protocol.specs.declared.command.Command.{Command}
 use Rattle.protocol.specs.declared.command.Command.the-variants.{Sync, Connect, Open, Ready, Close, Write, Auth, StartTls}
 use Rattle.protocol.specs.declared.packet.Packet.{Packet}
@@ -41,24 +41,25 @@ use Rattle.slot.specs.declared.ids.LocalId.{LocalId}
 use Rattle.slot.specs.declared.ids.RemoteId.{RemoteId}
 use Rattle.slot.proofs.Kept.{pick}
 use Rattle.slot.proofs.Laws.{cond-true, cond-false}
+use Rattle.slot.proofs.Stays.{Stays, settled-stays}
 use Rattle.state.specs.declared.Header.{Header}
-use Rattle.state.specs.declared.PendingOpen.{PendingOpen}
-use Rattle.state.specs.Change.{Step, slotTo, headerTo, openTo, changedAll}
-use Rattle.state.specs.State.{Connection, stateOf, withSlot}
-use Rattle.state.specs.Valid.{openFine, opensFine, isWhole}
-use Rattle.state.proofs.RowLaws.{walk-here, never}
+use Rattle.state.specs.declared.QueuedOpen.{QueuedOpen}
+use Rattle.state.specs.Change.{Step, slotTo, headerTo, queuedTo, changedAll}
+use Rattle.state.specs.State.{stateLen, Connection, stateOf, withSlot}
+use Rattle.state_whole.specs.Whole.{queuedFine, queueFine, isWhole}
+use Rattle.le.proofs.RowLaws.{walk-here, never}
 use Rattle.state.proofs.ChangeLaws.{changes-append}
-use Rattle.state.proofs.WholeLaws.{Live, Whole, whole-own}
-use Rattle.state.proofs.LiveLaws.{settled-live}
+use Rattle.state_whole.proofs.WholeLaws.{Live, Whole, whole-own}
+use Rattle.state_whole.proofs.LiveLaws.{settled-live}
 use Rattle.table.specs.declared.Allocated.{Allocated}
 use Rattle.table.specs.declared.Allocated.the-variants.{Channel, NoFree}
 use Rattle.table.specs.declared.ChannelId.{ChannelId}
-use Rattle.table.specs.declared.DispatchOutcome.{DispatchOutcome}
-use Rattle.table.specs.declared.DispatchOutcome.the-variants.{AckWrite, CreditGranted, SlotClosed, DataBuffered, IncomingOpen, CancelPendingOpen, StrayReady, ChannelFault, Unmatched}
+use Rattle.table_dispatch.specs.declared.DispatchOutcome.{DispatchOutcome}
+use Rattle.table_dispatch.specs.declared.DispatchOutcome.the-variants.{AckWrite, CreditGranted, SlotClosed, DataBuffered, IncomingOpen, CancelQueuedOpen, StrayReady, ChannelFault, Unmatched}
 use Rattle.table.specs.declared.Want.the-variants.{Local, Remote}
-use Rattle.table.specs.Table.{first, wantedBy, placeOf}
-use Rattle.table.specs.Dispatch.{slotIn, remotePlace, closedAt, closeOf as tableClose, granted, readyAt, strayOf, grantOf, Dispatched, wroteBy, wroteAt, writeOf as tableWrite, routeOf, dispatchOf as tableDispatch}
-use Rattle.table.proofs.KeepLaws.{dispatch-keeps}
+use Rattle.table.specs.Table.{first, wantedBy, placeOf, slotIn}
+use Rattle.table_dispatch.specs.Dispatch.{remotePlace, closedAt, closeOf as tableClose, granted, readyAt, strayOf, grantOf, Dispatched, wroteBy, wroteAt, writeOf as tableWrite, routeOf, dispatchOf as tableDispatch}
+use Rattle.table_dispatch.proofs.KeepLaws.{dispatch-keeps}
 use Rattle.connection.specs.declared.Answer.{Answer}
 use Rattle.connection.specs.declared.Answer.the-variants.{Done, Waiting, Nothing, Opened, Settled, Read, Written, Front as FrontIs, Refused}
 use Rattle.connection.specs.declared.Received.{Received}
@@ -66,23 +67,21 @@ use Rattle.connection.specs.declared.Received.the-variants.{Packet as PacketIs,
 use Rattle.connection.specs.declared.Refusal.{Refusal}
 use Rattle.connection.specs.Frames.{Frame, framesBytes}
 use Rattle.connection.specs.declared.Refusal.the-variants.{StoreShort, OutShort, ChannelClosed, BrokenState}
-use Rattle.connection.specs.Calls.{Lent, Outcome, Work, begun, then, thenActed, ends, dropped, untouched, checked, checkedOut, policy, idsIn, isThere, slotFor, ackFrames, unlessFault, receivedOf, bodyOf, frameLen, dispatchBy, dispatchStep, settledAs, settleStep, takenBy, takeStep, reread, readSettled, readActed, isDirect, readDirect, readBy, readTaken, readFirst, readStep, sendLen, sendSome, sendBy, sendAgain, writeReadied, writeActed, writeAct, writeBy, writeFirst, writeOn, writeStep, closeStep, frontBy, frontStep, openOn, stillWaits, openReadied, openActed, openBy, openStep, fresh, openOf, dispatchOf, settleOf, takeOf, readOf, writeOf, closeOf, frontCall}
-use Rattle.connection.specs.Act.{Acted, pushedBy, actedBy, tableOf, actOn}
+use Rattle.connection.specs.Calls.{Lent, Outcome, Work, begun, then, thenActed, ends, dropped, untouched, checked, checkedOut, policy, idsIn, isThere, slotFor, ackFrames, unlessFault, receivedOf, bodyOf, frameLen, dispatchBy, dispatchStep, settledAs, settleStep, takenBy, takeStep, reread, readSettled, readActed, isDirect, readDirect, readBy, readTaken, readFirst, readStep, sendLen, sendSome, sendBy, sendAgain, writeReadied, writeActed, writeAct, writeBy, writeFirst, writeOn, writeStep, closeStep, takeFrontBy, takeFrontStep, openOn, stillPending, openReadied, openActed, openBy, openStep, fresh, openOutcome, dispatchOutcome, settleOutcome, takeOutcome, readOutcome, writeOutcome, closeOutcome, takeFrontOutcome}
+use Rattle.connection.specs.Act.{Acted, pushedBy, actedBy, tableOf, actOn, PacketFits}
 use Rattle.history.specs.Queue.{QueueMove, stays, pushes, withdraws, pops, moved, commandMove, usedMove, queueOf, packetMove, Hands, takesNone, openTakes, readTakes, writeTakes, moveOf, queueIn, Queues, QueueIsRusts}
 use Rattle.history.specs.Run.{bytesIn, Call, openCall, dispatchCall, settleCall, takeCall, readCall, writeCall, closeCall, frontTaken, World, lent, outcome, after, afterAll, Start, begins, agreedIn}
-use Rattle.history.proofs.Steps.{Alike, settled-alike}
-use Rattle.connection.specs.Act.{PacketFits}
 use Rattle.connection.proofs.WholeWork.{negotiated, At, at-frames, at-slot, there-live, there-at, Long, long, drop-whole}
 use Rattle.history.proofs.Bytes.{bytes-in}
 use Rattle.connection.proofs.Decoding.{ReceivedFits, received-fits}
 use Rattle.history.proofs.Never13.{Holds, holds-whole, holds-kept, holds-all, state-after, made-state, starts}
 
-length-waits : (payload : ℕ) (store : List ℕ) (qs : List PendingOpen) → length (waits payload store qs) ≡ length qs
-unfolding waits
+length-waits : (payload : ℕ) (store : List ℕ) (qs : List QueuedOpen) → length (queuedOpens payload store qs) ≡ length qs
+unfolding queuedOpens
 length-waits payload store [] = refl
 length-waits payload store (q ∷ qs) = ap suc (length-waits payload store qs)
 
-length-queue : (payload : ℕ) (store : List ℕ) (n : ℕ) (qs : List PendingOpen) → n ≤ length qs → length (waits payload store (take n qs)) ≡ n
+length-queue : (payload : ℕ) (store : List ℕ) (n : ℕ) (qs : List QueuedOpen) → n ≤ length qs → length (queuedOpens payload store (take n qs)) ≡ n
 length-queue payload store n qs h = length-waits payload store (take n qs) ∙ simp length-take (omega arith)
 
 -- ---- what the table answers, and what a packet does
@@ -94,7 +93,7 @@ moveBy payload (CreditGranted i) = stays
 moveBy payload (SlotClosed i) = stays
 moveBy payload (DataBuffered i) = stays
 moveBy payload (IncomingOpen remote credit) = pushes (record { remote = remote; credit = credit; destination = payload })
-moveBy payload (CancelPendingOpen remote) = withdraws remote
+moveBy payload (CancelQueuedOpen remote) = withdraws remote
 moveBy payload (StrayReady ids) = stays
 moveBy payload (ChannelFault i ids opening f) = stays
 moveBy payload Unmatched = stays
@@ -165,7 +164,7 @@ first-set p (suc n) (x ∷ xs) zero t d e = rw e
 first-set p (suc n) (x ∷ xs) (suc i) t d e = rw (first-set p n xs i t d e)
 
 -- settling a channel changes no packet's move
-command-set : (n : ℕ) (ss : List ChannelSlot) (i : ℕ) (t : ChannelSlot) → Alike (slotIn ss i) t → (c : Command) (a b : ℕ) (payload : List ℕ)
+command-set : (n : ℕ) (ss : List ChannelSlot) (i : ℕ) (t : ChannelSlot) → Stays (slotIn ss i) t → (c : Command) (a b : ℕ) (payload : List ℕ)
     → commandMove n (set ss i t) c a b payload ≡ commandMove n ss c a b payload
 unfolding commandMove remotePlace placeOf wantedBy slotIn
 command-set n ss i t k Sync a b payload = refl
@@ -184,69 +183,69 @@ command-set n ss i t k StartTls a b payload = refl
 
 -- ---- what acting on a packet does to those that wait
 
-module _ (h : Header) (c : Connection) (rx store : List ℕ) (g : Whole (h .negotiated) h (c .slots) (c .opens)) where
+module _ (h : Header) (c : Connection) (rx store : List ℕ) (g : Whole (h .negotiated) h (c .slots) (c .queue)) where
   abbrev most : ℕ
   most = h .negotiated .config .channels
 
   abbrev payload-max : ℕ
   payload-max = h .negotiated .config .«max_payload»
 
-  abbrev waiting : List Incoming
-  waiting = waits payload-max store (take (h .queued) (c .opens))
+  abbrev queued-now : List Incoming
+  queued-now = queuedOpens payload-max store (take (h .queued) (c .queue))
 
   abbrev ActMoves : QueueMove → Acted → Type 0
-  ActMoves m a = waits payload-max (a .store) (take (a .header .queued) (changedAll c (a .changes) .opens)) ≡ moved most m waiting
+  ActMoves m a = queuedOpens payload-max (a .store) (take (a .header .queued) (changedAll c (a .changes) .queue)) ≡ moved most m queued-now
 
-  waiting-length : length waiting ≡ h .queued
-  waiting-length =
+  queued-length : length queued-now ≡ h .queued
+  queued-length =
       let k = g .header .queue-fits in
       let z = g .limits .within .most-channels in
-      let full = g .opens .full in
-      length-queue payload-max store (h .queued) (c .opens) (omega arith)
+      let full = g .queue .full in
+      length-queue payload-max store (h .queued) (c .queue) (omega arith)
 
-  module _ (d : Dispatched) (e : changedAll c (d .step .changes) .opens ≡ c .opens) where
-    still : waits payload-max store (take (h .queued) (changedAll c (d .step .changes) .opens)) ≡ waiting
-    still = ap (λ (x : List PendingOpen). waits payload-max store (take (h .queued) x)) e
+  module _ (d : Dispatched) (e : changedAll c (d .step .changes) .queue ≡ c .queue) where
+    still : queuedOpens payload-max store (take (h .queued) (changedAll c (d .step .changes) .queue)) ≡ queued-now
+    still = ap (λ (x : List QueuedOpen). queuedOpens payload-max store (take (h .queued) x)) e
 
     push-moves : (payload : List ℕ) → length payload ≤ payload-max → most * payload-max ≤ length store → (remote : RemoteId) (credit : ℕ)
         → ActMoves (pushes (record { remote = remote; credit = credit; destination = payload }))
-        (pushedBy h store d remote (pushed h (c .opens) remote credit payload store) (pushed h (c .opens) remote credit payload store .result))
+        (pushedBy h store d remote (pushed h (c .queue) remote credit payload store) (pushed h (c .queue) remote credit payload store .result))
     unfolding pushed nextShare pushedBy moved
     push-moves payload k long remote credit =
         let x : Incoming = record { remote = remote; credit = credit; destination = payload } in
-        let new : PendingOpen = record { remote = remote; credit = credit; share = nextShare h (c .opens); length = length payload } in
-        let n = waiting-length in
+        let new : QueuedOpen = record { remote = remote; credit = credit; share = nextShare h (c .queue); length = length payload } in
+        let n = queued-length in
         let fit = g .header .queue-fits in
         let z = g .limits .within .most-channels in
-        let full = g .opens .full in
+        let full = g .queue .full in
         pick (λ (o : PushOutcome). ActMoves (pushes x) (pushedBy h store d remote o (o .result))) (leb most (h .queued))
         (λ t. let b = leb-true most (h .queued) t in
-        let u : ltb (length waiting) most ≡ false = le-ltb (length waiting) most (omega arith) in
-        still ∙ sym (ap (λ (v : Bool). cond v (waiting ++ x ∷ []) waiting) u))
+        let u : ltb (length queued-now) most ≡ false = le-ltb (length queued-now) most (omega arith) in
+        still ∙ sym (ap (λ (v : Bool). cond v (queued-now ++ x ∷ []) queued-now) u))
         (λ t. let b = leb-false most (h .queued) t in
-        let u : ltb (length waiting) most ≡ true = lt-ltb (length waiting) most (omega arith) in
-        ap (λ (y : Connection). waits payload-max (put store (nextShare h (c .opens) * payload-max) payload) (take (h .queued + 1) (y .opens))) (changes-append c (d .step .changes) (openTo (h .queued) new ∷ []))
-        ∙ ap (λ (y : List PendingOpen). waits payload-max (put store (nextShare h (c .opens) * payload-max) payload) (take (h .queued + 1) (set y (h .queued) new))) e
-        ∙ push-waits most payload-max (h .queued) (c .opens) store payload remote credit b long k (omega arith) (g .opens .fine)
-        ∙ sym (ap (λ (v : Bool). cond v (waiting ++ x ∷ []) waiting) u))
+        let u : ltb (length queued-now) most ≡ true = lt-ltb (length queued-now) most (omega arith) in
+        ap (λ (y : Connection). queuedOpens payload-max (put store (nextShare h (c .queue) * payload-max) payload) (take (h .queued + 1) (y .queue))) (changes-append c (d .step .changes) (queuedTo (h .queued) new ∷ []))
+        ∙ ap (λ (y : List QueuedOpen). queuedOpens payload-max (put store (nextShare h (c .queue) * payload-max) payload) (take (h .queued + 1) (set y (h .queued) new))) e
+        ∙ push-waits most payload-max (h .queued) (c .queue) store payload remote credit b long k (omega arith) (g .queue .fine)
+        ∙ sym (ap (λ (v : Bool). cond v (queued-now ++ x ∷ []) queued-now) u))
 
     withdraw-moves : (remote : RemoteId)
-        → waits payload-max store (take (withdrawal h (c .opens) remote .result .queued) (changedAll c (d .step .changes ++ withdrawal h (c .opens) remote .changes) .opens))
-        ≡ withdrawn remote waiting
+        → queuedOpens payload-max store (take (withdrawal h (c .queue) remote .result .queued) (changedAll c (d .step .changes ++ withdrawal h (c .queue) remote .changes) .queue))
+        ≡ withdrawn remote queued-now
     withdraw-moves remote =
         let m = changedAll c (d .step .changes) in
-        ap (λ (y : Connection). waits payload-max store (take (withdrawal h (c .opens) remote .result .queued) (y .opens))) (changes-append c (d .step .changes) (withdrawal h (c .opens) remote .changes))
-        ∙ subst (λ (os : List PendingOpen). waits payload-max store (take (withdrawal h os remote .result .queued) (changedAll m (withdrawal h os remote .changes) .opens)) ≡ withdrawn remote (waits payload-max store (take (h .queued) os))) e
+        ap (λ (y : Connection). queuedOpens payload-max store (take (withdrawal h (c .queue) remote .result .queued) (y .queue))) (changes-append c (d .step .changes) (withdrawal h (c .queue) remote .changes))
+        ∙ subst (λ (os : List QueuedOpen). queuedOpens payload-max store (take (withdrawal h os remote .result .queued) (changedAll m (withdrawal h os remote .changes) .queue)) ≡ withdrawn remote (queuedOpens payload-max store (take (h .queued) os))) e
         (withdrawal-waits m h store remote)
 
-    acted-by-moves : (payload : List ℕ) → length payload ≤ payload-max → most * payload-max ≤ length store → (o : DispatchOutcome) → ActMoves (moveBy payload o) (actedBy h (c .opens) payload store d o)
+    acted-by-moves : (payload : List ℕ) → length payload ≤ payload-max → most * payload-max ≤ length store → (o : DispatchOutcome) → ActMoves (moveBy payload o) (actedBy h (c .queue) payload store d o)
     unfolding actedBy moveBy moved
     acted-by-moves payload k long (AckWrite i ids len) = still
     acted-by-moves payload k long (CreditGranted i) = still
     acted-by-moves payload k long (SlotClosed i) = still
     acted-by-moves payload k long (DataBuffered i) = still
     acted-by-moves payload k long (IncomingOpen remote credit) = push-moves payload k long remote credit
-    acted-by-moves payload k long (CancelPendingOpen remote) = withdraw-moves remote
+    acted-by-moves payload k long (CancelQueuedOpen remote) = withdraw-moves remote
     acted-by-moves payload k long (StrayReady ids) = still
     acted-by-moves payload k long (ChannelFault i ids opening f) = still
     acted-by-moves payload k long Unmatched = still
@@ -254,11 +253,11 @@ module _ (h : Header) (c : Connection) (rx store : List ℕ) (g : Whole (h .nego
   -- the queue moves by what the table answers
   act-moves : most * (2 * policyOf (h .negotiated) .«rx_cap») ≤ length rx → most * payload-max ≤ length store
       → (p : Packet) (payload : List ℕ) → PacketFits (h .negotiated) p payload
-      → ActMoves (moveBy payload (tableOf h (c .slots) rx p payload .step .result)) (actOn h (c .slots) (c .opens) rx store p payload)
+      → ActMoves (moveBy payload (tableOf h (c .slots) rx p payload .step .result)) (actOn h (c .slots) (c .queue) rx store p payload)
   unfolding actOn tableOf
   act-moves rl sl p payload k =
       let t = dispatch-keeps (h .negotiated) h c rx g rl p payload (k .arg0) (k .arg1) in
-      acted-by-moves (tableOf h (c .slots) rx p payload) (t .opens) payload (k .small) sl (tableOf h (c .slots) rx p payload .step .result)
+      acted-by-moves (tableOf h (c .slots) rx p payload) (t .queue) payload (k .small) sl (tableOf h (c .slots) rx p payload .step .result)
 
 -- ---- what a call has done so far, and its end
 
@@ -271,10 +270,10 @@ module _ (l : Lent) where
 
   -- those that wait, once the header is stored
   abbrev queueW : Work → List Incoming
-  queueW w = waits cap (w .store) (take (w .header .queued) (changedAll (l .state) (w .changes) .opens))
+  queueW w = queuedOpens cap (w .store) (take (w .header .queued) (changedAll (l .state) (w .changes) .queue))
 
   abbrev queueO : Outcome → List Incoming
-  queueO o = waits cap (o .store) (take (changedAll (l .state) (o .changes) .header .queued) (changedAll (l .state) (o .changes) .opens))
+  queueO o = queuedOpens cap (o .store) (take (changedAll (l .state) (o .changes) .header .queued) (changedAll (l .state) (o .changes) .queue))
 
   -- an outcome that moves the queue by m, where it uses received bytes
   abbrev Moves : QueueMove → Outcome → Type 0
@@ -287,7 +286,7 @@ module _ (l : Lent) where
   ends-queue : (w : Work) (a : Answer) (used : ℕ) (handed : List ℕ) → queueO (ends w a used handed) ≡ queueW w
   unfolding ends
   ends-queue w a used handed =
-      ap (λ (x : Connection). waits cap (w .store) (take (x .header .queued) (x .opens))) (changes-append (l .state) (w .changes) (headerTo (w .header) ∷ []))
+      ap (λ (x : Connection). queuedOpens cap (w .store) (take (x .header .queued) (x .queue))) (changes-append (l .state) (w .changes) (headerTo (w .header) ∷ []))
 
   used-stays : (used : ℕ) → usedMove used stays ≡ stays
   unfolding usedMove
@@ -321,20 +320,20 @@ module _ (l : Lent) where
 
   -- frames, a slot
   queue-frames : (w : Work) → queueW (then w [] []) ≡ queueW w
-  queue-frames w = ap (λ (x : Connection). waits cap (w .store) (take (w .header .queued) (x .opens))) (changes-append (l .state) (w .changes) [])
+  queue-frames w = ap (λ (x : Connection). queuedOpens cap (w .store) (take (w .header .queued) (x .queue))) (changes-append (l .state) (w .changes) [])
 
   queue-slot : (w : Work) (i : ℕ) (t : ChannelSlot) → queueW (then w (slotTo i t ∷ []) []) ≡ queueW w
-  queue-slot w i t = ap (λ (x : Connection). waits cap (w .store) (take (w .header .queued) (x .opens))) (changes-append (l .state) (w .changes) (slotTo i t ∷ []))
+  queue-slot w i t = ap (λ (x : Connection). queuedOpens cap (w .store) (take (w .header .queued) (x .queue))) (changes-append (l .state) (w .changes) (slotTo i t ∷ []))
 
   -- a packet acted on
   queue-act : (w : Work) (a : Acted) (q : List Incoming)
-      → waits cap (a .store) (take (a .header .queued) (changedAll (changedAll (l .state) (w .changes)) (a .changes) .opens)) ≡ q → queueW (thenActed w a) ≡ q
-  queue-act w a q e = ap (λ (x : Connection). waits cap (a .store) (take (a .header .queued) (x .opens))) (changes-append (l .state) (w .changes) (a .changes)) ∙ e
+      → queuedOpens cap (a .store) (take (a .header .queued) (changedAll (changedAll (l .state) (w .changes)) (a .changes) .queue)) ≡ q → queueW (thenActed w a) ≡ q
+  queue-act w a q e = ap (λ (x : Connection). queuedOpens cap (a .store) (take (a .header .queued) (x .queue))) (changes-append (l .state) (w .changes) (a .changes)) ∙ e
 
   -- a header that keeps their count
   begun-still : (h : Header) → h .queued ≡ l .state .header .queued → Still (begun h l)
   unfolding queueOf
-  begun-still h e = ap (λ (x : ℕ). waits cap (l .store) (take x (l .state .opens))) e
+  begun-still h e = ap (λ (x : ℕ). queuedOpens cap (l .store) (take x (l .state .queue))) e
 
   untouched-still : (m : QueueMove) (r : Refusal) → Moves m (untouched l r)
   unfolding usedMove moved queueOf
@@ -348,7 +347,7 @@ or-right a b e = rw e
 
 -- ---- the calls
 
-module _ (l : Lent) (g : Whole (negotiated l) (l .state .header) (l .state .slots) (l .state .opens)) where
+module _ (l : Lent) (g : Whole (negotiated l) (l .state .header) (l .state .slots) (l .state .queue)) where
   abbrev b0 : Work
   b0 = begun (dropped (l .state .header)) l
 
@@ -399,15 +398,15 @@ module _ (l : Lent) (g : Whole (negotiated l) (l .state .header) (l .state .slot
       unfolding packetMove
       other-moves p e = cond-false (takes p) _ _ e
 
-    -- acting on it, with the state as it was lent, the open that waits dropped or not
-    gd : Whole (negotiated l) (dropped (l .state .header)) (l .state .slots) (l .state .opens)
+    -- acting on it, with the state as it was lent, the pending open dropped or not
+    gd : Whole (negotiated l) (dropped (l .state .header)) (l .state .slots) (l .state .queue)
     gd = drop-whole (negotiated l) (l .state .header) (l .state) g
 
     abbrev actD : Packet → Acted
-    actD p = actOn (dropped (l .state .header)) (l .state .slots) (l .state .opens) (l .rx) (l .store) p (bodyOf received p)
+    actD p = actOn (dropped (l .state .header)) (l .state .slots) (l .state .queue) (l .rx) (l .store) p (bodyOf received p)
 
     abbrev actH : Packet → Acted
-    actH p = actOn (l .state .header) (l .state .slots) (l .state .opens) (l .rx) (l .store) p (bodyOf received p)
+    actH p = actOn (l .state .header) (l .state .slots) (l .state .queue) (l .rx) (l .store) p (bodyOf received p)
 
     acted-dropped : (takes : Packet → Bool) (p : Packet) → PacketFits (negotiated l) p (bodyOf received p) → takes p ≡ false
         → queueW l (thenActed b0 (actD p)) ≡ moved (negotiated l .config .channels) (lentMove takes (PacketIs p)) (queueOf l)
@@ -451,7 +450,7 @@ module _ (l : Lent) (g : Whole (negotiated l) (l .state .header) (l .state .slot
         read-acted used w a k = reread-moves used (a .fault) _ _ (queue-frames l (thenActed w a) ∙ k) _
 
       -- what a read has done before it looks at a packet: an OKAY may be written
-      module _ (fs : List Frame) (start : At l (ch .slot) (then b0 [] fs)) (s : ChannelSlot) (v : Live (negotiated l) (ch .slot) s) (like : Alike (slotFor l ch) s) where
+      module _ (fs : List Frame) (start : At l (ch .slot) (then b0 [] fs)) (s : ChannelSlot) (v : Live (negotiated l) (ch .slot) s) (like : Stays (slotFor l ch) s) where
         abbrev w1 : Work
         w1 = then b0 [] fs
 
@@ -469,7 +468,7 @@ module _ (l : Lent) (g : Whole (negotiated l) (l .state .header) (l .state .slot
         read-move r = lentMove (readTakes l ch room) r
 
         abbrev actS : Packet → Acted
-        actS p = actOn (dropped (l .state .header)) (set (l .state .slots) (ch .slot) s) (l .state .opens) (l .rx) (l .store) p (bodyOf received p)
+        actS p = actOn (dropped (l .state .header)) (set (l .state .slots) (ch .slot) s) (l .state .queue) (l .rx) (l .store) p (bodyOf received p)
 
         acted-stored : (p : Packet) → PacketFits (negotiated l) p (bodyOf received p) → reads p ≡ false
             → queueW l (thenActed (then w1 (slotTo (ch .slot) s ∷ []) []) (actS p)) ≡ moved (negotiated l .config .channels) (read-move (PacketIs p)) (queueOf l)
@@ -507,7 +506,7 @@ module _ (l : Lent) (g : Whole (negotiated l) (l .state .header) (l .state .slot
           (λ t. let r = settledOf (slotFor l ch) (policy l) room in
           let v = there-live l g ch t in
           read-taken (ackFrames (r .slot) (r .ack)) (at-frames l (ch .slot) _ (there-at l g ch t) _) (r .slot) (settled-live (negotiated l) (ch .slot) (slotFor l ch) v room)
-          (settled-alike (slotFor l ch) (policy l) room (v .remote)) y _)
+          (settled-stays (slotFor l ch) (policy l) room) y _)
           (λ t. gone-moves _)
 
     -- ---- write
@@ -571,8 +570,8 @@ module _ (l : Lent) (g : Whole (negotiated l) (l .state .header) (l .state .slot
 
     -- ---- open
 
-    still-queued : (a : Answer) (h : Header) → stillWaits a h .queued ≡ h .queued
-    unfolding stillWaits
+    still-queued : (a : Answer) (h : Header) → stillPending a h .queued ≡ h .queued
+    unfolding stillPending
     still-queued Done h = refl
     still-queued Waiting h = refl
     still-queued Nothing h = refl
@@ -590,28 +589,28 @@ module _ (l : Lent) (g : Whole (negotiated l) (l .state .header) (l .state .slot
     unfolding openActed
     open-acted m used a k =
         ends-left l m _ _ used []
-        (ap (λ (n : ℕ). waits (negotiated l .config .«max_payload») (a .store) (take n (changedAll (l .state) (a .changes) .opens))) (still-queued (unlessFault (a .fault) Waiting) (a .header)) ∙ k)
+        (ap (λ (n : ℕ). queuedOpens (negotiated l .config .«max_payload») (a .store) (take n (changedAll (l .state) (a .changes) .queue))) (still-queued (unlessFault (a .fault) Waiting) (a .header)) ∙ k)
 
     open-readied : (m : QueueMove) (ch : ChannelId) (remote used : ℕ) (r : Readied) → Left l m used b0 → Moves l m (openReadied l ch remote used r)
     unfolding openReadied
     open-readied m ch remote used (Slot t) k = ends-left l m _ _ used [] k
     open-readied m ch remote used Short k = ends-left l m _ _ used [] k
 
-    abbrev waitingId : ChannelId
-    waitingId = record { slot = l .state .header .waiting .slot; local = l .state .header .waiting .local }
+    abbrev pendingId : ChannelId
+    pendingId = record { slot = l .state .header .pending .slot; local = l .state .header .pending .local }
 
-    open-by : (r : Received) → ReceivedFits (negotiated l) received r → Moves l (open-move r) (openBy l waitingId received r)
+    open-by : (r : Received) → ReceivedFits (negotiated l) received r → Moves l (open-move r) (openBy l pendingId received r)
     unfolding openBy openTakes
     open-by (Stop a used) k =
-        ends-left l _ _ a used [] (left-own l _ used (begun (stillWaits a (l .state .header)) l) (begun-still l (stillWaits a (l .state .header)) (still-queued a (l .state .header))) (stop-stays (openTakes l) a used))
+        ends-left l _ _ a used [] (left-own l _ used (begun (stillPending a (l .state .header)) l) (begun-still l (stillPending a (l .state .header)) (still-queued a (l .state .header))) (stop-stays (openTakes l) a used))
     open-by (PacketIs p) k =
         let P = Moves l (open-move (PacketIs p)) in
-        let mine = eqb (p .arg1) (l .state .header .waiting .local .0) in
+        let mine = eqb (p .arg1) (l .state .header .pending .local .0) in
         let r = isReady (p .command) && mine in
         let w = isWrite (p .command) && mine in
         let c = isClose (p .command) && mine in
         pick P r
-        (λ t. open-readied _ waitingId (p .arg0) (frameLen p) _ (left-own l _ (frameLen p) b0 still0 (own-stays (openTakes l) p (or-left r (w || c) t))))
+        (λ t. open-readied _ pendingId (p .arg0) (frameLen p) _ (left-own l _ (frameLen p) b0 still0 (own-stays (openTakes l) p (or-left r (w || c) t))))
         (λ t. pick P w
         (λ u. ends-left l _ _ _ (frameLen p) [] (left-own l _ (frameLen p) b0 still0 (own-stays (openTakes l) p (or-right r (w || c) t ∙ or-left w c u))))
         (λ u. pick P c
@@ -629,71 +628,71 @@ module _ (l : Lent) (g : Whole (negotiated l) (l .state .header) (l .state .slot
     open-moves : (out : ℕ) (destination : List ℕ) → Bytes received → Moves l (open-move (receivedOf l received)) (openStep l out destination received)
     unfolding openStep
     open-moves out destination y =
-        pick (Moves l (open-move (receivedOf l received))) (l .state .header .waiting .on) (λ t. open-by (receivedOf l received) (received-fits l received y))
+        pick (Moves l (open-move (receivedOf l received))) (l .state .header .pending .on) (λ t. open-by (receivedOf l received) (received-fits l received y))
         (λ t. open-on _ out destination _)
 
 -- ---- take_front
 
-module _ (l : Lent) (g : Whole (negotiated l) (l .state .header) (l .state .slots) (l .state .opens)) where
+module _ (l : Lent) (g : Whole (negotiated l) (l .state .header) (l .state .slots) (l .state .queue)) where
   abbrev hd : Header
   hd = dropped (l .state .header)
 
-  -- none is answered where none waits
-  nothing-waits : popped hd (l .state .opens) .result ≡ NoFront → l .state .header .queued ≡ 0
+  -- none is answered where none is queued
+  nothing-waits : popped hd (l .state .queue) .result ≡ NoFront → l .state .header .queued ≡ 0
   unfolding popped
   nothing-waits e =
       by-test (eqb (l .state .header .queued) 0) (λ t. eqb-true (l .state .header .queued) 0 t)
-      (λ t. let x : FrontOpen (getD (l .state .opens) 0 noOpen) (withQueued hd (l .state .header .queued - 1)) ≡ NoFront = rw t at e in
+      (λ t. let x : FrontOpen (getD (l .state .queue) 0 noneQueued) (withQueued hd (l .state .header .queued - 1)) ≡ NoFront = rw t at e in
       let z : true ≡ false = cc in never (sym z))
 
-  places : l .state .header .queued ≤ length (l .state .opens)
+  places : l .state .header .queued ≤ length (l .state .queue)
   places =
       let k = g .header .queue-fits in
       let z = g .limits .within .most-channels in
-      let full = g .opens .full in
+      let full = g .queue .full in
       omega arith
 
   empty-queue : l .state .header .queued ≡ 0 → queueOf l ≡ []
-  unfolding queueOf waits
-  empty-queue e = ap (λ (n : ℕ). waits (negotiated l .config .«max_payload») (l .store) (take n (l .state .opens))) e
+  unfolding queueOf queuedOpens
+  empty-queue e = ap (λ (n : ℕ). queuedOpens (negotiated l .config .«max_payload») (l .store) (take n (l .state .queue))) e
 
-  front-queue : (q : PendingOpen) (less : Header) → popped hd (l .state .opens) .result ≡ FrontOpen q less
-      → queueOf l ≡ waitsAs (negotiated l .config .«max_payload») (l .store) q
-      ∷ waits (negotiated l .config .«max_payload») (l .store) (take (less .queued) (changedAll (l .state) (popped hd (l .state .opens) .changes) .opens))
+  front-queue : (q : QueuedOpen) (less : Header) → popped hd (l .state .queue) .result ≡ FrontOpen q less
+      → queueOf l ≡ queuedAs (negotiated l .config .«max_payload») (l .store) q
+      ∷ queuedOpens (negotiated l .config .«max_payload») (l .store) (take (less .queued) (changedAll (l .state) (popped hd (l .state .queue) .changes) .queue))
   unfolding queueOf
   front-queue q less e = popped-waits (l .state) hd (l .store) q less e places
 
-  front-by : (f : Front) → popped hd (l .state .opens) .result ≡ f → queueO l (frontBy l hd (popped hd (l .state .opens) .changes) f) ≡ drop 1 (queueOf l)
-  unfolding frontBy ends
+  front-by : (f : Front) → popped hd (l .state .queue) .result ≡ f → queueO l (takeFrontBy l hd (popped hd (l .state .queue) .changes) f) ≡ drop 1 (queueOf l)
+  unfolding takeFrontBy ends
   front-by (FrontOpen q less) e =
-      ends-queue l (then (begun less l) (popped hd (l .state .opens) .changes) []) (FrontIs (q .remote) (q .credit) (q .share * hd .negotiated .config .«max_payload») (q .length)) 0 []
+      ends-queue l (then (begun less l) (popped hd (l .state .queue) .changes) []) (FrontIs (q .remote) (q .credit) (q .share * hd .negotiated .config .«max_payload») (q .length)) 0 []
       ∙ sym (ap (drop 1) (front-queue q less e))
   front-by NoFront e =
       let z = empty-queue (nothing-waits e) in
       ends-queue l (begun hd l) Nothing 0 [] ∙ begun-still l hd refl ∙ z ∙ sym (ap (drop 1) z)
 
-  front-moves : queueO l (frontStep l) ≡ drop 1 (queueOf l)
-  unfolding frontStep
-  front-moves = front-by (popped hd (l .state .opens) .result) refl
+  front-moves : queueO l (takeFrontStep l) ≡ drop 1 (queueOf l)
+  unfolding takeFrontStep
+  front-moves = front-by (popped hd (l .state .queue) .result) refl
 
   -- the entry that is answered lies within its share
-  front-fine : (q : PendingOpen) (less : Header) → popped hd (l .state .opens) .result ≡ FrontOpen q less
-      → openFine (negotiated l .config .channels) (negotiated l .config .«max_payload») q ≡ true
-  unfolding popped opensFine
+  front-fine : (q : QueuedOpen) (less : Header) → popped hd (l .state .queue) .result ≡ FrontOpen q less
+      → queuedFine (negotiated l .config .channels) (negotiated l .config .«max_payload») q ≡ true
+  unfolding popped queueFine
   front-fine q less e =
       by-test (eqb (l .state .header .queued) 0)
       (λ t. let x : NoFront ≡ FrontOpen q less = rw t at e in let z : true ≡ false = cc in never (sym z))
       (λ t. let d = eqb-false (l .state .header .queued) 0 t in
-      let x : FrontOpen (getD (l .state .opens) 0 noOpen) (withQueued hd (l .state .header .queued - 1)) ≡ FrontOpen q less = rw t at e in
-      let a : getD (l .state .opens) 0 noOpen ≡ q = cc in
-      let f : opensFine (negotiated l .config .channels) (negotiated l .config .«max_payload») (q ∷ drop 1 (take (l .state .header .queued) (l .state .opens))) ≡ true
-      = ap (opensFine (negotiated l .config .channels) (negotiated l .config .«max_payload»)) (sym (walk-here (l .state .opens) (l .state .header .queued) 0 noOpen q (omega arith) places a)) ∙ g .opens .fine in
+      let x : FrontOpen (getD (l .state .queue) 0 noneQueued) (withQueued hd (l .state .header .queued - 1)) ≡ FrontOpen q less = rw t at e in
+      let a : getD (l .state .queue) 0 noneQueued ≡ q = cc in
+      let f : queueFine (negotiated l .config .channels) (negotiated l .config .«max_payload») (q ∷ drop 1 (take (l .state .header .queued) (l .state .queue))) ≡ true
+      = ap (queueFine (negotiated l .config .channels) (negotiated l .config .«max_payload»)) (sym (walk-here (l .state .queue) (l .state .header .queued) 0 noneQueued q (omega arith) places a)) ∙ g .queue .fine in
       and-true _ _ f .0)
 
   module _ (long : negotiated l .config .channels * negotiated l .config .«max_payload» ≤ length (l .store)) where
-    hands-by : (f : Front) → popped hd (l .state .opens) .result ≡ f → (x : Incoming) (xs : List Incoming) → queueOf l ≡ x ∷ xs
-        → Hands x (frontBy l hd (popped hd (l .state .opens) .changes) f .store) (frontBy l hd (popped hd (l .state .opens) .changes) f .answer)
-    unfolding frontBy ends waitsAs openFine
+    hands-by : (f : Front) → popped hd (l .state .queue) .result ≡ f → (x : Incoming) (xs : List Incoming) → queueOf l ≡ x ∷ xs
+        → Hands x (takeFrontBy l hd (popped hd (l .state .queue) .changes) f .store) (takeFrontBy l hd (popped hd (l .state .queue) .changes) f .answer)
+    unfolding takeFrontBy ends queuedAs queuedFine
     hands-by (FrontOpen q less) e x xs w =
         let payload = negotiated l .config .«max_payload» in
         let f = and-true (leb (q .length) payload) (ltb (q .share) (negotiated l .config .channels)) (front-fine q less e) in
@@ -702,7 +701,7 @@ module _ (l : Lent) (g : Whole (negotiated l) (l .state .header) (l .state .slot
         let s = share-before (q .share) (negotiated l .config .channels) payload (omega arith) in
         let n : length (part (l .store) (q .share * payload) (q .length)) ≡ q .length = length-part (l .store) (q .share * payload) (q .length) (omega arith) in
         let y = sym (front-queue q less e) ∙ w in
-        let z : waitsAs payload (l .store) q ≡ x = cc in
+        let z : queuedAs payload (l .store) q ≡ x = cc in
         subst (λ (v : Incoming). Hands v (l .store) (FrontIs (q .remote) (q .credit) (q .share * payload) (q .length))) z
         (record {
           place = q .share * payload;
@@ -711,18 +710,18 @@ module _ (l : Lent) (g : Whole (negotiated l) (l .state .header) (l .state .slot
         })
     hands-by NoFront e x xs w = let z : [] ≡ x ∷ xs = sym (empty-queue (nothing-waits e)) ∙ w in let v : true ≡ false = cc in never (sym v)
 
-    front-hands : (x : Incoming) (xs : List Incoming) → queueOf l ≡ x ∷ xs → Hands x (frontStep l .store) (frontStep l .answer)
-    unfolding frontStep
-    front-hands x xs w = hands-by (popped hd (l .state .opens) .result) refl x xs w
+    front-hands : (x : Incoming) (xs : List Incoming) → queueOf l ≡ x ∷ xs → Hands x (takeFrontStep l .store) (takeFrontStep l .answer)
+    unfolding takeFrontStep
+    front-hands x xs w = hands-by (popped hd (l .state .queue) .result) refl x xs w
 
-  none-by : (f : Front) → popped hd (l .state .opens) .result ≡ f → queueOf l ≡ [] → frontBy l hd (popped hd (l .state .opens) .changes) f .answer ≡ Nothing
-  unfolding frontBy ends
+  none-by : (f : Front) → popped hd (l .state .queue) .result ≡ f → queueOf l ≡ [] → takeFrontBy l hd (popped hd (l .state .queue) .changes) f .answer ≡ Nothing
+  unfolding takeFrontBy ends
   none-by (FrontOpen q less) e w = let z = sym (front-queue q less e) ∙ w in let v : true ≡ false = cc in never (sym v)
   none-by NoFront e w = refl
 
-  front-none : queueOf l ≡ [] → frontStep l .answer ≡ Nothing
-  unfolding frontStep
-  front-none w = none-by (popped hd (l .state .opens) .result) refl w
+  front-none : queueOf l ≡ [] → takeFrontStep l .answer ≡ Nothing
+  unfolding takeFrontStep
+  front-none w = none-by (popped hd (l .state .queue) .result) refl w
 
 -- ---- one call
 
@@ -738,23 +737,23 @@ unfolding checkedOut
 out-moves l m t out o k = checked-moves l m t _ (pick (Moves l m) (ltb out 56) (λ e. untouched-still l m OutShort) (λ e. k))
 
 module _ (w : World) (is : isWhole (w .state) ≡ true) (fit : storesFit (negotiated (lent w) .config) (length (w .rx)) (length (w .store)) ≡ true)
-    (g : Whole (negotiated (lent w)) (lent w .state .header) (lent w .state .slots) (lent w .state .opens)) where
+    (g : Whole (negotiated (lent w)) (lent w .state .header) (lent w .state .slots) (lent w .state .queue)) where
   far : Long (negotiated (lent w)) (length (w .rx)) (length (w .store))
   far = long (negotiated (lent w)) (length (w .rx)) (length (w .store)) fit
 
   leaves : (o : Outcome) → Moves (lent w) stays o → queueO (lent w) o ≡ moved (negotiated (lent w) .config .channels) stays (queueIn w)
   leaves o k = k ∙ ap (λ (m : QueueMove). moved (negotiated (lent w) .config .channels) m (queueIn w)) (used-stays (lent w) (o .used))
 
-  front-is : outcome w frontTaken ≡ frontStep (lent w)
-  unfolding outcome frontCall checked
+  front-is : outcome w frontTaken ≡ takeFrontStep (lent w)
+  unfolding outcome takeFrontOutcome checked
   front-is = cond-true (isWhole (w .state)) _ _ is ∙ cond-true (storesFit (negotiated (lent w) .config) (length (w .rx)) (length (w .store))) _ _ fit
 
-  front-taken : queueO (lent w) (frontStep (lent w)) ≡ moved (negotiated (lent w) .config .channels) pops (queueIn w)
+  front-taken : queueO (lent w) (takeFrontStep (lent w)) ≡ moved (negotiated (lent w) .config .channels) pops (queueIn w)
   unfolding moved
   front-taken = front-moves (lent w) g
 
   call-moves : (x : Call) → queueO (lent w) (outcome w x) ≡ moved (negotiated (lent w) .config .channels) (moveOf w x) (queueIn w)
-  unfolding outcome openOf dispatchOf settleOf takeOf readOf writeOf closeOf moveOf
+  unfolding outcome openOutcome dispatchOutcome settleOutcome takeOutcome readOutcome writeOutcome closeOutcome moveOf
   call-moves (openCall out destination received) =
       out-moves (lent w) _ (isWhole (w .state)) (length out) _ (open-moves (lent w) g far (bytesIn received) (length out) (bytesIn destination) (bytes-in received))
   call-moves (dispatchCall out received) = out-moves (lent w) _ (isWhole (w .state)) (length out) _ (dispatch-moves (lent w) g far (bytesIn received) (bytes-in received))
@@ -778,8 +777,8 @@ module _ (n : Negotiated) (r : List ℕ) (rx store : ℕ) (fit : storesFit (n .c
       ap (λ (m : Negotiated). storesFit (m .config) (length (w .rx)) (length (w .store))) same ∙ ap (λ (y : ℕ). storesFit (n .config) y (length (w .store))) (h .rx-length)
       ∙ ap (storesFit (n .config) rx) (h .store-length) ∙ fit
 
-  whole-here : Whole (negotiated (lent w)) (lent w .state .header) (lent w .state .slots) (lent w .state .opens)
-  whole-here = whole-own n (stateOf (w .state) .header) (stateOf (w .state) .slots) (stateOf (w .state) .opens) (h .facts)
+  whole-here : Whole (negotiated (lent w)) (lent w .state .header) (lent w .state .slots) (lent w .state .queue)
+  whole-here = whole-own n (stateOf (w .state) .header) (stateOf (w .state) .slots) (stateOf (w .state) .queue) (h .facts)
 
   is-here : isWhole (w .state) ≡ true
   is-here = holds-whole n r rx store w h
@@ -791,16 +790,16 @@ module _ (n : Negotiated) (r : List ℕ) (rx store : ℕ) (fit : storesFit (n .c
       let o = outcome w x in
       let d = changedAll (stateOf (w .state)) (o .changes) in
       let e : d .header .negotiated ≡ negotiated (lent w) = holds-kept n r rx store w h x .facts .header .negotiated in
-      ap (λ (y : Connection). waits (y .header .negotiated .config .«max_payload») (o .store) (take (y .header .queued) (y .opens))) (state-after n r rx store w h x)
-      ∙ ap (λ (m : Negotiated). waits (m .config .«max_payload») (o .store) (take (d .header .queued) (d .opens))) e
+      ap (λ (y : Connection). queuedOpens (y .header .negotiated .config .«max_payload») (o .store) (take (y .header .queued) (y .queue))) (state-after n r rx store w h x)
+      ∙ ap (λ (m : Negotiated). queuedOpens (m .config .«max_payload») (o .store) (take (d .header .queued) (d .queue))) e
 
   queue-length : length (queueIn w) ≤ n .config .channels
   unfolding queueOf
   queue-length =
       let k = h .facts .header .queue-fits in
       let z = h .facts .limits .within .most-channels in
-      let full = h .facts .opens .full in
-      let e = length-queue (negotiated (lent w) .config .«max_payload») (w .store) (lent w .state .header .queued) (lent w .state .opens) (omega arith) in
+      let full = h .facts .queue .full in
+      let e = length-queue (negotiated (lent w) .config .«max_payload») (w .store) (lent w .state .header .queued) (lent w .state .queue) (omega arith) in
       omega arith
 
   hands : (x : Incoming) (xs : List Incoming) → queueIn w ≡ x ∷ xs → Hands x (after w frontTaken .store) (outcome w frontTaken .answer)
@@ -819,14 +818,14 @@ module _ (n : Negotiated) (r : List ℕ) (rx store : ℕ) (fit : storesFit (n .c
       }
 
 start-empty : (s : Start) → queueIn (begins s) ≡ []
-unfolding queueOf fresh waits
+unfolding queueOf fresh queuedOpens
 start-empty s =
-    ap (λ (y : Connection). waits (y .header .negotiated .config .«max_payload») (begins s .store) (take (y .header .queued) (y .opens)))
+    ap (λ (y : Connection). queuedOpens (y .header .negotiated .config .«max_payload») (begins s .store) (take (y .header .queued) (y .queue)))
     (made-state (s .config) (s .version) (s .most) (s .host) (s .device) (s .state) (s .rx) (s .store) (s .within))
 
 pub queue-is-rusts : QueueIsRusts
 unfolding negotiatedOf
 queue-is-rusts s fit =
     let n = agreedIn s in
-    let r = drop 4730 (s .state) in
+    let r = drop stateLen (s .state) in
     (start-empty s, λ cs. queues n r (length (s .rx)) (length (s .store)) fit (afterAll (begins s) cs) (holds-all n r (length (s .rx)) (length (s .store)) (begins s) (starts s) cs))

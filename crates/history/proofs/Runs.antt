@@ -12,29 +12,30 @@ use Rattle.config.specs.declared.negotiated.RxPolicy.{RxPolicy}
 use Rattle.table.specs.declared.ChannelId.{ChannelId}
 use Rattle.le.specs.Le.{numOf, bytesOf, signed, unsigned, part, put}
 use Rattle.saturate.specs.Saturate.{clamp, satSum, positivePart}
-use Rattle.rx_store.specs.RxStore.{slid, fitsBehind, appendedHead, appended, takenHead}
+use Rattle.rx_store.specs.RxStore.{slid, fitsBehind, appendedHead, appended, takenHead, shareOf, bufferedIn, frontOf}
 use Rattle.config.specs.Config.{withinLimits, capOf, ceilingOf, watermarkOf, openingCredit, rxStoreLen, openStoreLen, storesFit}
-use Rattle.config.specs.Negotiated.{both, negotiatedOf, policyOf, creditOf as creditOf-config}
-use Rattle.protocol.specs.Checksum.{total, sumOf, policyFor, checkFor}
+use Rattle.config.specs.Negotiated.{both, negotiatedOf, policyOf, offeredCredit as creditOf-config}
+use Rattle.checksum.specs.Checksum.{total, sumOf, policyFor, checkFor}
 use Rattle.protocol.specs.Command.{lettersOf, wordOf, magicOf, commands, amongOf, commandOf, isOpen, isReady, isClose, isWrite, isThe}
-use Rattle.protocol.specs.Message.{messageOf, headerBytes as headerBytes-protocol}
-use Rattle.protocol.specs.Packet.{payloadOf, checkPasses, packetOf, knownOf, namedOf, decodeOf, usedOf, messageFor, frameBytes as frameBytes-protocol}
+use Rattle.protocol.specs.Message.{messageOf, headerBytes}
+use Rattle.protocol.specs.Packet.{payloadOf, checkPasses, packetOf, knownOf, namedOf, decodeOf, usedOf, messageFor, packetBytes as frameBytes-protocol}
 use Rattle.slot.specs.Ids.{namedBy, closedBy}
-use Rattle.slot.specs.Slot.{creditOf as creditOf-slot, openingSlot, emptySlot, isOpening, isClosed, isFailed, openedBy, openedOf, readyOf, heldOf as heldOf-slot, acksNow, bufferedWith, wroteOf, someLen, deliveredOf, ackLenOf, hasData, settledBy, settledSome, settledOf, takeLen, tookOf, takenOf, someBudget, budgetOf, spentOf, closedSlot, slotOk}
+use Rattle.credit.specs.Credit.{creditOf}
+use Rattle.slot.specs.Slot.{openingSlot, emptySlot, isOpening, isClosed, isFailed, openedBy, openedOf, readyOf, heldOf as heldOf-slot, acksNow, bufferedWith, wroteOf, someLen, deliveredOf, ackLenOf, hasData, settledBy, settledSome, settledOf, takeLen, tookOf, takenOf, someBudget, budgetOf, spentOf, closedSlot, slotOk}
 use Rattle.wire.specs.Wire.{creditBytes, okayBytes, closeBytes}
-use Rattle.state.specs.Rows.{flat, rows, allIs}
-use Rattle.state.specs.State.{slotNumbers, tagOf, slotBytes, slotOf as slotOf-state, isTag, isSlot, openBytes, headerSizes, headerWords, headerTags, headerBytes as headerBytes-state, headerOf, layout, stateOf, isState, putSlot, putHeader}
-use Rattle.state.specs.Valid.{filledOk, slotFine, slotsFine, opensFine, waitingFine, headerFine, filledAt, whole, isWhole}
-use Rattle.table.specs.Table.{first, wantedBy, placeOf, nextLocal, allocated}
-use Rattle.table.specs.Dispatch.{slotIn, remotePlace, closedAt, closeOf as closeOf-table, shareOf, bufferedIn, wroteBy, wroteAt, writeOf as writeOf-table, routeOf, dispatchOf as dispatchOf-table}
-use Rattle.connection.specs.Frames.{frameBytes as frameBytes-connection, framesBytes}
+use Rattle.le.specs.Rows.{flat, rows, allIs}
+use Rattle.state.specs.State.{stateLen, slotNumbers, tagOf, slotBytes, slotOf, isTag, isSlot, queuedBytes, headerSizes, headerWords, headerTags, stateHeader as headerBytes-state, headerOf, layout, stateOf, isState, putSlot, putHeader}
+use Rattle.state_whole.specs.Whole.{filledOk, slotFine, slotsFine, queueFine, pendingFine, headerFine, filledAt, whole, isWhole}
+use Rattle.table.specs.Table.{first, wantedBy, placeOf, nextLocal, allocated, slotIn}
+use Rattle.table_dispatch.specs.Dispatch.{remotePlace, closedAt, closeOf, wroteBy, wroteAt, writeOf, routeOf, dispatchOf}
+use Rattle.connection.specs.Frames.{frameBytes, framesBytes}
 use Rattle.connection.specs.Act.{actedBy, tableOf, actOn}
-use Rattle.connection.specs.Answer.{refusalNumber, numberOf, ackLength, refusalWord, valuesOf}
-use Rattle.connection.specs.Calls.{writtenBy, ends, checked, checkedOut, isThere, slotFor, ackFrames, faultRefusal, unlessFault, receivedBy, receivedOf, fresh, makeOf, dispatchBy, dispatchStep, settledAs, settleStep, frontOf, takenBy, takeStep, reread, readSettled, readActed, isDirect, readDirect, readBy, readTaken, readFirst, readStep, sendLen, sendSome, sendBy, sendAgain, writeReadied, writeActed, writeAct, writeBy, writeFirst, writeOn, writeStep, closeStep, openOn, stillWaits, openReadied, openActed, openBy, openStep, openOf, dispatchOf, settleOf, takeOf, readOf, writeOf, closeOf}
+use Rattle.connection.specs.Answer.{refusalNumber, answerNumber, ackLength, refusalWord, answerValues}
+use Rattle.connection.specs.Calls.{writtenBy, ends, checked, checkedOut, isThere, slotFor, ackFrames, faultRefusal, unlessFault, receivedBy, receivedOf, fresh, makeOf, dispatchBy, dispatchStep, settledAs, settleStep, takenBy, takeStep, reread, readSettled, readActed, isDirect, readDirect, readBy, readTaken, readFirst, readStep, sendLen, sendSome, sendBy, sendAgain, writeReadied, writeActed, writeAct, writeBy, writeFirst, writeOn, writeStep, closeStep, openOn, stillPending, openReadied, openActed, openBy, openStep, openOutcome, dispatchOutcome, settleOutcome, takeOutcome, readOutcome, writeOutcome, closeOutcome}
 use Rattle.history.specs.Run.{World, Call, openCall, dispatchCall, settleCall, takeCall, readCall, writeCall, closeCall, Start, begins, policyIn, bytesIn, outOf, bufOf, outcome, after, afterAll, made}
 use Rattle.history.specs.Seen.{Event, seenOf, heldOf, saidBy, countOf, sentBy, sentIn, seenIn, eventsOf}
 use Rattle.history.specs.Book.{Book, Ledger, noBook, clean, bookAt, bookSlot, newAside, creditIn, acksOf, lastOpen, frameB, damagedB, packetB, readUsedB, readB, writeB, entryOn, openedB, acksB, bookAfter, eachPlace, entry, ledgerOf}
-use Rattle.history.specs.Demand3.{slotOf, runOf}
+use Rattle.history.specs.Demand3.{placeSlot, runOf}
 use Rattle.history.specs.Numbers.{opensIn, givenBy, givenIn}
 
 -- ---- runs, and what is told of them
@@ -76,7 +77,7 @@ abbrev slot : ℕ → ℕ → List ℕ → List (List ℕ)
 slot unacked settled buffered = (unacked ∷ settled ∷ []) ∷ buffered ∷ []
 
 abbrev slotAt : RxPolicy → World → ℕ → List (List ℕ)
-slotAt p w i = slot (slotOf w i .unacked) (slotOf w i .settled) (runOf (w .rx) (p .«rx_cap») i (slotOf w i))
+slotAt p w i = slot (placeSlot w i .unacked) (placeSlot w i .settled) (runOf (w .rx) (p .«rx_cap») i (placeSlot w i))
 
 abbrev givesBy : RxPolicy → List Event → World → Gives
 givesBy p es w =
@@ -99,8 +100,8 @@ pub limits-kept : withinLimits limits ≡ true
 unfolding withinLimits
 limits-kept = refl
 
-pub state-long : 4730 ≤ length (some 4730)
-state-long = le-refl 4730
+pub state-long : stateLen ≤ length (some stateLen)
+state-long = le-refl stateLen
 
 -- host: whether we list delayed acknowledgement, as the device does; most: the longest payload that the device takes
 abbrev starts : Bool → ℕ → Start
@@ -111,7 +112,7 @@ starts host most =
       most = most;
       host = host;
       device = true;
-      state = some 4730;
+      state = some stateLen;
       rx = some 64;
       store = some 16;
       within = limits-kept;
@@ -279,7 +280,7 @@ plainBook =
 
 -- to unfold this is to unfold all that a run computes with
 computing : ℕ
-unfolding numOf bytesOf signed unsigned part put clamp satSum positivePart slid fitsBehind appendedHead appended takenHead withinLimits capOf ceilingOf watermarkOf openingCredit rxStoreLen openStoreLen storesFit both negotiatedOf policyOf creditOf-config total sumOf policyFor checkFor lettersOf wordOf magicOf commands amongOf commandOf messageOf headerBytes-protocol payloadOf checkPasses packetOf knownOf namedOf decodeOf usedOf messageFor frameBytes-protocol isClose namedBy closedBy creditOf-slot openingSlot emptySlot isOpening isClosed isFailed openedBy openedOf readyOf heldOf-slot acksNow bufferedWith wroteOf someLen deliveredOf ackLenOf hasData settledBy settledSome settledOf takeLen tookOf takenOf someBudget budgetOf spentOf closedSlot slotOk creditBytes okayBytes closeBytes flat rows allIs slotNumbers tagOf slotBytes slotOf-state isTag isSlot openBytes headerSizes headerWords headerTags headerBytes-state headerOf layout stateOf isState putSlot putHeader filledOk slotFine slotsFine opensFine waitingFine headerFine filledAt whole isWhole first wantedBy placeOf nextLocal allocated slotIn remotePlace closedAt closeOf-table shareOf bufferedIn wroteBy wroteAt writeOf-table routeOf dispatchOf-table frameBytes-connection framesBytes actedBy tableOf actOn refusalNumber numberOf ackLength refusalWord valuesOf writtenBy ends checked checkedOut isThere slotFor ackFrames faultRefusal unlessFault receivedBy receivedOf isWrite isReady fresh makeOf dispatchBy dispatchStep settledAs settleStep frontOf takenBy takeStep reread readSettled readActed isDirect readDirect readBy readTaken readFirst readStep sendLen sendSome sendBy sendAgain writeReadied writeActed writeAct writeBy writeFirst writeOn writeStep closeStep openOn stillWaits openReadied openActed openBy openStep openOf dispatchOf settleOf takeOf readOf writeOf closeOf bytesIn outOf bufOf outcome after afterAll made heldOf saidBy countOf sentBy sentIn seenIn eventsOf bookSlot newAside creditIn acksOf lastOpen frameB damagedB packetB readUsedB readB writeB entryOn openedB acksB bookAfter eachPlace entry ledgerOf runOf opensIn givenBy givenIn isThe isOpen
+unfolding numOf bytesOf signed unsigned part put clamp satSum positivePart slid fitsBehind appendedHead appended takenHead withinLimits capOf ceilingOf watermarkOf openingCredit rxStoreLen openStoreLen storesFit both negotiatedOf policyOf creditOf-config total sumOf policyFor checkFor lettersOf wordOf magicOf commands amongOf commandOf messageOf headerBytes payloadOf checkPasses packetOf knownOf namedOf decodeOf usedOf messageFor frameBytes-protocol isClose namedBy closedBy creditOf openingSlot emptySlot isOpening isClosed isFailed openedBy openedOf readyOf heldOf-slot acksNow bufferedWith wroteOf someLen deliveredOf ackLenOf hasData settledBy settledSome settledOf takeLen tookOf takenOf someBudget budgetOf spentOf closedSlot slotOk creditBytes okayBytes closeBytes flat rows allIs slotNumbers tagOf slotBytes slotOf isTag isSlot queuedBytes headerSizes headerWords headerTags headerBytes-state headerOf layout stateOf isState putSlot putHeader filledOk slotFine slotsFine queueFine pendingFine headerFine filledAt whole isWhole first wantedBy placeOf nextLocal allocated slotIn remotePlace closedAt closeOf shareOf bufferedIn wroteBy wroteAt writeOf routeOf dispatchOf frameBytes framesBytes actedBy tableOf actOn refusalNumber answerNumber ackLength refusalWord answerValues writtenBy ends checked checkedOut isThere slotFor ackFrames faultRefusal unlessFault receivedBy receivedOf isWrite isReady fresh makeOf dispatchBy dispatchStep settledAs settleStep frontOf takenBy takeStep reread readSettled readActed isDirect readDirect readBy readTaken readFirst readStep sendLen sendSome sendBy sendAgain writeReadied writeActed writeAct writeBy writeFirst writeOn writeStep closeStep openOn stillPending openReadied openActed openBy openStep openOutcome dispatchOutcome settleOutcome takeOutcome readOutcome writeOutcome closeOutcome bytesIn outOf bufOf outcome after afterAll made heldOf saidBy countOf sentBy sentIn seenIn eventsOf bookSlot newAside creditIn acksOf lastOpen frameB damagedB packetB readUsedB readB writeB entryOn openedB acksB bookAfter eachPlace entry ledgerOf runOf opensIn givenBy givenIn isThe isOpen
 computing = 0
 
 -- handed over and buffered is accepted, and set aside is the slot's number; in delayed mode, where the channel is not closed,

@@ -25,15 +25,16 @@ use Rattle.slot.specs.declared.Settled.{Settled}
 use Rattle.slot.specs.Slot.{acked, isOpening, isFailed, spentOf, deliveredOf, settledOf, SlotOk}
 use Rattle.slot.proofs.Kept.{pick}
 use Rattle.slot.proofs.Laws.{cond-false}
+use Rattle.slot.proofs.Stays.{Stays}
 use Rattle.state.specs.Change.{Change, headerTo, changed, changedAll}
 use Rattle.state.specs.State.{Connection}
 use Rattle.state.specs.declared.Header.{Header}
-use Rattle.state.specs.declared.PendingOpen.{PendingOpen}
-use Rattle.table.specs.Dispatch.{slotIn}
+use Rattle.state.specs.declared.QueuedOpen.{QueuedOpen}
+use Rattle.table.specs.Table.{slotIn}
 use Rattle.connection.specs.declared.Answer.{Answer}
 use Rattle.connection.specs.declared.Answer.the-variants.{Waiting, Refused}
 use Rattle.connection.specs.Act.{actOn}
-use Rattle.connection.specs.Answer.{refusalNumber, numberOf, valuesOf}
+use Rattle.connection.specs.Answer.{refusalNumber, answerNumber, answerValues}
 use Rattle.connection.specs.Calls.{Outcome, Work, ends, bodyOf, frameLen, unlessFault, errorRefusal, faultRefusal}
 use Rattle.connection.specs.Frames.{Sent}
 use Rattle.history.specs.Seen.{Seen}
@@ -49,7 +50,7 @@ use Rattle.history.proofs.Places.{SameRun, TableOk}
 
 -- with these frames in the outgoing buffer and these bytes in the reader's
 abbrev pub saw : Answer → ℕ → List Sent → List ℕ → Seen
-saw a used fs got = record { number = numberOf a; values = valuesOf a; used = used; sent = fs; got = got }
+saw a used fs got = record { number = answerNumber a; values = answerValues a; used = used; sent = fs; got = got }
 
 -- what an outcome says is seen
 abbrev pub sawOf : Outcome → List Sent → Seen
@@ -68,24 +69,7 @@ pub ends-header : (c : Connection) (w : Work) (a : Answer) (used : ℕ) (bs : Li
 unfolding ends
 ends-header c w a used bs = last-header c (w .changes) (w .header)
 
--- ---- slots that are the same channel
-
-pub record Alike (s t : ChannelSlot) : Type 0 where
-  pub filled : t .filled ≡ s .filled
-  pub local : t .local ≡ s .local
-  pub remote : t .remote ≡ s .remote
-  pub known : t .«has_remote» ≡ s .«has_remote»
-  pub state : t .state ≡ s .state
-  pub failed : t .failed ≡ s .failed
-
-alike-by : (s : ChannelSlot) (p : RxPolicy) (n : ℕ) (r : Settled) → Settles s p n r → Alike s (r .slot)
-alike-by s p n r (already z e) = subst (λ (x : Settled). Alike s (x .slot)) (sym e) (record { filled = refl; local = refl; remote = refl; known = refl; state = refl; failed = refl })
-alike-by s p n r (not-due z f e) = subst (λ (x : Settled). Alike s (x .slot)) (sym e) (record { filled = refl; local = refl; remote = refl; known = refl; state = refl; failed = refl })
-alike-by s p n r (due k z f e) = subst (λ (x : Settled). Alike s (x .slot)) (sym e) (record { filled = refl; local = refl; remote = refl; known = refl; state = refl; failed = refl })
-
--- a settling leaves the channel, and its run
-pub settled-alike : (s : ChannelSlot) (p : RxPolicy) (want : ℕ) → s .«has_remote» ≡ true → Alike s (settledOf s p want .slot)
-settled-alike s p want k = alike-by s p (min want (s .buffered)) (settledOf s p want) (settles s p want k)
+-- ---- a settling leaves the run
 
 run-by : (s : ChannelSlot) (p : RxPolicy) (n : ℕ) (r : Settled) → Settles s p n r → SameRun s (r .slot)
 run-by s p n r (already z e) = subst (λ (x : Settled). SameRun s (x .slot)) (sym e) (record { head = refl; more = refl })
@@ -111,7 +95,7 @@ delivered-same s p n =
 
 -- a table stays one where a channel's slot changes in its numbers
 pub table-set : (p : RxPolicy) (n : ℕ) (ss : List ChannelSlot) (rx : List ℕ) (j : ℕ) (t : ChannelSlot) → TableOk p n ss rx → slotIn ss j .filled ≡ true
-    → Alike (slotIn ss j) t → SlotOk t (p .«rx_cap») → TableOk p n (set ss j t) rx
+    → Stays (slotIn ss j) t → SlotOk t (p .«rx_cap») → TableOk p n (set ss j t) rx
 table-set p n ss rx j t ok there a sound =
     record {
       size = length-set ss j t ∙ ok .size;
@@ -121,7 +105,7 @@ table-set p n ss rx j t ok there a sound =
       below = λ k f. at k (λ (s : ChannelSlot). s .filled ≡ true → k < n) (λ e f. subst (λ (x : ℕ). x < n) (sym e) (ok .below j there)) (ok .below k) f;
       sound = λ k f. at k (λ (s : ChannelSlot). s .filled ≡ true → SlotOk s (p .«rx_cap»)) (λ e f. sound) (ok .sound k) f;
       unfailed = λ k f. at k (λ (s : ChannelSlot). s .filled ≡ true → isFailed (s .failed) ≡ false) (λ e f. ap isFailed (a .failed) ∙ ok .unfailed j there) (ok .unfailed k) f;
-      opened = λ k f. at k (λ (s : ChannelSlot). s .filled ≡ true → isOpening (s .state) ≡ false) (λ e f. ap isOpening (a .state) ∙ ok .opened j there) (ok .opened k) f;
+      opened = λ k f. at k (λ (s : ChannelSlot). s .filled ≡ true → isOpening (s .state) ≡ false) (λ e f. a .opening (ok .opened j there)) (ok .opened k) f;
       known = λ k f. at k (λ (s : ChannelSlot). s .filled ≡ true → s .«has_remote» ≡ true) (λ e f. a .known ∙ ok .known j there) (ok .known k) f;
       apart = λ x y f g e. ok .apart x y (sym (same-filled x) ∙ f) (sym (same-filled y) ∙ g) (sym (same-local x) ∙ e ∙ same-local y);
     }
@@ -155,39 +139,39 @@ module _ (p : RxPolicy) (credit : Terms) (most : ℕ) (lim : Limits p credit mos
   unfolding packetB
   stop-good a used fs got st =
       pick (Good p credit s q) (eqb used 0) (λ t. g)
-      (λ t. pick (Good p credit s q) (eqb (numberOf a) 4) (λ u. damaged-good (b .acked) (headerAt received) (payloadAt received used))
+      (λ t. pick (Good p credit s q) (eqb (answerNumber a) 4) (λ u. damaged-good (b .acked) (headerAt received) (payloadAt received used))
       (λ u. absurd (eqb-false used 0 t (st .quiet u))))
 
   -- one that was dispatched
-  pub packet-good : (limit : ℕ) (k : Packet) (a : Answer) (fs : List Sent) (got : List ℕ) (t : ChannelSlot) (r : List ℕ) → Says received limit k → eqb (numberOf a) 4 ≡ false → mine (headerAt received) ≡ false
-      → Good p credit t r (frameB d i (b .acked) (headerAt received) (bodyOf received k) (numberOf a) b)
+  pub packet-good : (limit : ℕ) (k : Packet) (a : Answer) (fs : List Sent) (got : List ℕ) (t : ChannelSlot) (r : List ℕ) → Says received limit k → eqb (answerNumber a) 4 ≡ false → mine (headerAt received) ≡ false
+      → Good p credit t r (frameB d i (b .acked) (headerAt received) (bodyOf received k) (answerNumber a) b)
       → Good p credit t r (packetB d i received mine (saw a (frameLen k) fs got) b)
   unfolding packetB
   packet-good limit k a fs got t r sy four other h =
       good-by p credit t t r r _ _ refl refl
-      (cond-false (eqb (frameLen k) 0) _ _ (ne-eqb (frameLen k) 0 (λ e. omega arith)) ∙ cond-false (eqb (numberOf a) 4) _ _ four ∙ cond-false (mine (headerAt received)) _ _ other
-      ∙ ap (λ (x : List ℕ). frameB d i (b .acked) (headerAt received) x (numberOf a) b) (reads-payload received limit k sy)) h
+      (cond-false (eqb (frameLen k) 0) _ _ (ne-eqb (frameLen k) 0 (λ e. omega arith)) ∙ cond-false (eqb (answerNumber a) 4) _ _ four ∙ cond-false (mine (headerAt received)) _ _ other
+      ∙ ap (λ (x : List ℕ). frameB d i (b .acked) (headerAt received) x (answerNumber a) b) (reads-payload received limit k sy)) h
 
 -- an answer after dispatching: 11 where a WRTE did not fit
-pub not-four : (fault : Failed) (a : Answer) → eqb (numberOf a) 4 ≡ false → eqb (numberOf (unlessFault fault a)) 4 ≡ false
-unfolding unlessFault faultRefusal numberOf refusalNumber
+pub not-four : (fault : Failed) (a : Answer) → eqb (answerNumber a) 4 ≡ false → eqb (answerNumber (unlessFault fault a)) 4 ≡ false
+unfolding unlessFault faultRefusal answerNumber refusalNumber
 not-four No a e = e
 not-four (By RxOverflow) a e = refl
 not-four (By ShortReadyPayload) a e = refl
 not-four (By UnexpectedCommand) a e = refl
 
-pub tells-fault : (mine : Bool) (fault : Failed) (a : Answer) → isRefused (numberOf a) ≡ false → Tells mine fault (unlessFault fault a)
-unfolding unlessFault faultRefusal numberOf refusalNumber
+pub tells-fault : (mine : Bool) (fault : Failed) (a : Answer) → isRefused (answerNumber a) ≡ false → Tells mine fault (unlessFault fault a)
+unfolding unlessFault faultRefusal answerNumber refusalNumber
 tells-fault mine fault a e =
     record {
-      taken = λ m f. ap (λ (x : Failed). isRefused (numberOf (unlessFault x a))) f ∙ e;
-      over = λ m f. (ap (λ (x : Failed). isRefused (numberOf (unlessFault x a))) f, ap (λ (x : Failed). eqb (numberOf (unlessFault x a)) 11) f);
+      taken = λ m f. ap (λ (x : Failed). isRefused (answerNumber (unlessFault x a))) f ∙ e;
+      over = λ m f. (ap (λ (x : Failed). isRefused (answerNumber (unlessFault x a))) f, ap (λ (x : Failed). eqb (answerNumber (unlessFault x a)) 11) f);
     }
 
 -- the other half of it, whatever else the answer would be
-pub over-told : (fault : Failed) (a : Answer) → fault ≡ By RxOverflow → (isRefused (numberOf (unlessFault fault a)) ≡ true) × (eqb (numberOf (unlessFault fault a)) 11 ≡ true)
-unfolding unlessFault faultRefusal numberOf refusalNumber
-over-told fault a e = (ap (λ (x : Failed). isRefused (numberOf (unlessFault x a))) e, ap (λ (x : Failed). eqb (numberOf (unlessFault x a)) 11) e)
+pub over-told : (fault : Failed) (a : Answer) → fault ≡ By RxOverflow → (isRefused (answerNumber (unlessFault fault a)) ≡ true) × (eqb (answerNumber (unlessFault fault a)) 11 ≡ true)
+unfolding unlessFault faultRefusal answerNumber refusalNumber
+over-told fault a e = (ap (λ (x : Failed). isRefused (answerNumber (unlessFault x a))) e, ap (λ (x : Failed). eqb (answerNumber (unlessFault x a)) 11) e)
 
 pub fault-apart : No ≡ By RxOverflow → ⊥
 fault-apart e = true≢false (sym (ap faulty e))
@@ -196,27 +180,27 @@ pub unless-is : (fault : Failed) (f : ChannelFault) → fault ≡ By f → unles
 unfolding unlessFault
 unless-is fault f e = ap (λ (x : Failed). unlessFault x Waiting) e
 
-pub waiting-four : eqb (numberOf Waiting) 4 ≡ false
-unfolding numberOf
+pub waiting-four : eqb (answerNumber Waiting) 4 ≡ false
+unfolding answerNumber
 waiting-four = refl
 
 -- these answers are none of 8, 9 and 13, nor 4
-pub late-error : (e : ChannelError) → isEarly (numberOf (Refused (errorRefusal e))) ≡ false
-unfolding numberOf refusalNumber errorRefusal faultRefusal
+pub late-error : (e : ChannelError) → isEarly (answerNumber (Refused (errorRefusal e))) ≡ false
+unfolding answerNumber refusalNumber errorRefusal faultRefusal
 late-error ErrorClosed = refl
 late-error (Fault RxOverflow) = refl
 late-error (Fault ShortReadyPayload) = refl
 late-error (Fault UnexpectedCommand) = refl
 
-pub late-unless : (f : Failed) (a : Answer) → isEarly (numberOf a) ≡ false → isEarly (numberOf (unlessFault f a)) ≡ false
-unfolding unlessFault faultRefusal numberOf refusalNumber
+pub late-unless : (f : Failed) (a : Answer) → isEarly (answerNumber a) ≡ false → isEarly (answerNumber (unlessFault f a)) ≡ false
+unfolding unlessFault faultRefusal answerNumber refusalNumber
 late-unless No a e = e
 late-unless (By RxOverflow) a e = refl
 late-unless (By ShortReadyPayload) a e = refl
 late-unless (By UnexpectedCommand) a e = refl
 
-pub four-error : (x : ChannelError) → eqb (numberOf (Refused (errorRefusal x))) 4 ≡ false
-unfolding numberOf refusalNumber errorRefusal faultRefusal
+pub four-error : (x : ChannelError) → eqb (answerNumber (Refused (errorRefusal x))) 4 ≡ false
+unfolding answerNumber refusalNumber errorRefusal faultRefusal
 four-error ErrorClosed = refl
 four-error (Fault RxOverflow) = refl
 four-error (Fault ShortReadyPayload) = refl
@@ -237,21 +221,21 @@ ends-fine p credit ss i w a used handed b g =
     good-by p credit _ _ _ _ b b (ap (λ (x : List ChannelSlot). slotIn x i) e) (ap (λ (x : List ChannelSlot). runOf (w .rx) (p .«rx_cap») i (slotIn x i)) e) refl g
 
 -- a packet that is dispatched: the slot at place i, and its book
-module _ (h : Header) (ss : List ChannelSlot) (opens : List PendingOpen) (rx store : List ℕ) (ok : TableOk (policyOf (h .negotiated)) (h .negotiated .config .channels) ss rx)
+module _ (h : Header) (ss : List ChannelSlot) (queue : List QueuedOpen) (rx store : List ℕ) (ok : TableOk (policyOf (h .negotiated)) (h .negotiated .config .channels) ss rx)
     (credit : Terms) (lim : Limits (policyOf (h .negotiated)) credit (h .negotiated .config .«max_payload»)) (i : ℕ) (there : slotIn ss i .filled ≡ true)
     (b : Book) (g : Good (policyOf (h .negotiated)) credit (slotIn ss i) (runOf rx (policyOf (h .negotiated) .«rx_cap») i (slotIn ss i)) b) where
   pub acted-good : (d : List Book) → Marked d ss → (received : List ℕ) (k : Packet) → Says received (h .negotiated .config .«max_payload») k → (before : ℕ) → before ≤ b .acked → (a : Answer)
-      → Tells (mineOf ss i k) (actOn h ss opens rx store k (bodyOf received k) .fault) a
-      → Good (policyOf (h .negotiated)) credit (slotIn (slotsBy ss (actOn h ss opens rx store k (bodyOf received k) .changes)) i)
-      (runOf (actOn h ss opens rx store k (bodyOf received k) .rx) (policyOf (h .negotiated) .«rx_cap») i (slotIn (slotsBy ss (actOn h ss opens rx store k (bodyOf received k) .changes)) i))
-      (frameB d i before (headerAt received) (bodyOf received k) (numberOf a) b)
+      → Tells (mineOf ss i k) (actOn h ss queue rx store k (bodyOf received k) .fault) a
+      → Good (policyOf (h .negotiated)) credit (slotIn (slotsBy ss (actOn h ss queue rx store k (bodyOf received k) .changes)) i)
+      (runOf (actOn h ss queue rx store k (bodyOf received k) .rx) (policyOf (h .negotiated) .«rx_cap») i (slotIn (slotsBy ss (actOn h ss queue rx store k (bodyOf received k) .changes)) i))
+      (frameB d i before (headerAt received) (bodyOf received k) (answerNumber a) b)
   acted-good d mk received k sy before early a tells =
       let limit = h .negotiated .config .«max_payload» in
       let n = h .negotiated .config .channels in
       let p = policyOf (h .negotiated) in
       let m = headerAt received in
       at-good p credit limit lim (slotIn ss i) (runOf rx (p .«rx_cap») i (slotIn ss i)) b g (ok .opened i there) (bodyOf received k) (body-small received limit k sy) before early d i m a
-      (mineOf ss i k) (endsOf n ss i k) _ _ _ (acted-at h ss opens rx store k (bodyOf received k) ok i there) tells
+      (mineOf ss i k) (endsOf n ss i k) _ _ _ (acted-at h ss queue rx store k (bodyOf received k) ok i there) tells
       (ap (λ (x : Bool). x && eqb (m .arg1) (b .local)) (reads-write received limit k sy)
       ∙ ap (λ (x : ℕ). isWrite (k .command) && eqb x (b .local)) (reads-arg1 received limit k sy)
       ∙ ap (λ (x : ℕ). isWrite (k .command) && eqb (k .arg1) x) (g .loc))

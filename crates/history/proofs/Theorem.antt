@@ -13,24 +13,24 @@ use Rattle.config.specs.declared.ConnectionConfig.{ConnectionConfig}
 use Rattle.config.specs.declared.negotiated.Negotiated.{Negotiated}
 use Rattle.config.specs.declared.negotiated.RxPolicy.{RxPolicy}
 use Rattle.config.specs.Config.{storesFit, rxStoreLen, openStoreLen, capOf, openingCredit}
-use Rattle.config.specs.Negotiated.{negotiatedOf, policyOf, creditOf}
+use Rattle.config.specs.Negotiated.{negotiatedOf, policyOf, offeredCredit}
 use Rattle.config.proofs.Laws.{and-true, sound}
 use Rattle.slot.specs.declared.ChannelSlot.{ChannelSlot}
 use Rattle.slot.specs.Slot.{emptySlot}
 use Rattle.slot.proofs.Kept.{pick}
 use Rattle.slot.proofs.Laws.{cond-true, cond-false}
-use Rattle.state.specs.State.{Connection, stateOf}
-use Rattle.state.specs.Valid.{isWhole}
-use Rattle.table.specs.Dispatch.{slotIn}
+use Rattle.state.specs.State.{stateLen, Connection, stateOf}
+use Rattle.state_whole.specs.Whole.{isWhole}
+use Rattle.table.specs.Table.{slotIn}
 use Rattle.connection.specs.declared.Refusal.the-variants.{StoreShort, OutShort, BrokenState}
-use Rattle.connection.specs.Answer.{numberOf, refusalNumber}
-use Rattle.connection.specs.Calls.{Lent, Outcome, checked, checkedOut, fresh, openOf, dispatchOf, settleOf, takeOf, readOf, writeOf, closeOf, frontCall}
+use Rattle.connection.specs.Answer.{answerNumber, refusalNumber}
+use Rattle.connection.specs.Calls.{Lent, Outcome, checked, checkedOut, fresh, openOutcome, dispatchOutcome, settleOutcome, takeOutcome, readOutcome, writeOutcome, closeOutcome, takeFrontOutcome}
 use Rattle.connection.proofs.Slots.{slots-by}
 use Rattle.history.specs.Run.{Call, openCall, dispatchCall, settleCall, takeCall, readCall, writeCall, closeCall, frontTaken, receivedIn, bytesIn, World, lent, outcome, after, afterAll, Start, begins, agreedIn, policyIn}
 use Rattle.history.specs.Seen.{heldOf, Seen, Event, seenOf, eventsOf}
 use Rattle.history.specs.Book.{Book, noBook, headerAt, isWrte, bookAfter, eachPlace, Ledger, clean, bookAt, entry, ledgerOf}
 use Rattle.history.specs.NoLeak.{NoTake, ReadOnly, NoLeak}
-use Rattle.history.specs.Demand3.{slotOf, runOf, Distinct, Apart, Claim, Place, Noted, Told, AllTold, Demand3}
+use Rattle.history.specs.Demand3.{placeSlot, runOf, Distinct, Apart, Claim, Place, Noted, Told, AllTold, Demand3}
 use Rattle.history.proofs.Good.{Terms, Good, Limits}
 use Rattle.history.proofs.Heads.{call-asked}
 use Rattle.history.proofs.Heard.{seen-eight}
@@ -76,11 +76,11 @@ book-size p c o y = each-length (bookAfter p (y .books) (y .asked) c o) 0 (y .bo
 
 -- reads: the places that are read by reads alone
 abbrev terms : Bool → Negotiated → Terms
-terms reads n = record { credit = creditOf n; reads = reads }
+terms reads n = record { credit = offeredCredit n; reads = reads }
 
 record Kept (reads : ℕ → Bool) (n : Negotiated) (w : World) (y : Ledger) : Type 0 where
   size : length (y .books) ≡ 64
-  asks : stateOf (w .state) .header .waiting .on ≡ true → y .asked ≡ creditOf n
+  asks : stateOf (w .state) .header .pending .on ≡ true → y .asked ≡ offeredCredit n
   each : (i : ℕ) → KeptAt (policyOf n) (terms (reads i) n) i (stateOf (w .state) .slots) (w .rx) (bookAt y i)
 
 -- the books tell what the slots are
@@ -124,7 +124,7 @@ module _ (reads : ℕ → Bool) (w : World) (r : List ℕ) (rx store : ℕ) wher
         }
 
     limits : (t : Bool) → Limits (policyOf m) (terms t m) (m .config .«max_payload»)
-    unfolding policyOf creditOf
+    unfolding policyOf offeredCredit
     limits t =
         let s = sound (m .config) (h .facts .limits .within) in
         record {
@@ -135,12 +135,12 @@ module _ (reads : ℕ → Bool) (w : World) (r : List ℕ) (rx store : ℕ) wher
           small = s .cap-small;
         }
 
-    empty : c .header .waiting .on ≡ true → slotIn (c .slots) (c .header .waiting .slot) .filled ≡ false
+    empty : c .header .pending .on ≡ true → slotIn (c .slots) (c .header .pending .slot) .filled ≡ false
     unfolding slotIn
-    empty t = h .facts .waits t .empty
+    empty t = h .facts .pending-open t .empty
 
-    placed : c .header .waiting .on ≡ true → c .header .waiting .slot < 64
-    placed t = let a = h .facts .waits t .place in let b = h .facts .limits .within .most-channels in omega arith
+    placed : c .header .pending .on ≡ true → c .header .pending .slot < 64
+    placed t = let a = h .facts .pending-open t .place in let b = h .facts .limits .within .most-channels in omega arith
 
     module _ (y : Ledger) (k : Kept reads m w y) where
       mark : Marked (y .books) (c .slots)
@@ -153,7 +153,7 @@ module _ (reads : ℕ → Bool) (w : World) (r : List ℕ) (rx store : ℕ) wher
 
         -- the refusals ahead of a call
         follows-checked : (x : Call) (t : Bool) (o : Outcome) → follows x o → follows x (checked t l o)
-        unfolding checked numberOf refusalNumber
+        unfolding checked answerNumber refusalNumber
         follows-checked x t o f =
             pick (follows x) t
             (λ a. pick (follows x) (storesFit (m .config) (length (w .rx)) (length (w .store))) (λ b. f)
@@ -161,13 +161,13 @@ module _ (reads : ℕ → Bool) (w : World) (r : List ℕ) (rx store : ℕ) wher
             (λ a. early-follows (terms (reads i) m) l table (limits (reads i)) empty placed (y .books) mark (y .asked) (λ t d. k .asks t) i (bookAt y i) (k .each i) x BrokenState refl)
 
         follows-out : (x : Call) (t : Bool) (out : ℕ) (o : Outcome) → follows x o → follows x (checkedOut t l out o)
-        unfolding checkedOut numberOf refusalNumber
+        unfolding checkedOut answerNumber refusalNumber
         follows-out x t out o f =
             follows-checked x t _ (pick (follows x) (ltb out 56)
             (λ b. early-follows (terms (reads i) m) l table (limits (reads i)) empty placed (y .books) mark (y .asked) (λ t d. k .asks t) i (bookAt y i) (k .each i) x OutShort refl) (λ b. f))
 
         call-follows : (x : Call) → (reads i ≡ true → NoTake i x) → follows x (outcome w x)
-        unfolding outcome openOf dispatchOf settleOf takeOf readOf writeOf closeOf frontCall
+        unfolding outcome openOutcome dispatchOutcome settleOutcome takeOutcome readOutcome writeOutcome closeOutcome takeFrontOutcome
         call-follows (openCall out destination received) only =
             follows-out (openCall out destination received) (isWhole (w .state)) (length out) _
             (open-follows (terms (reads i) m) l table (limits (reads i)) empty placed (y .books) mark (y .asked) (λ t d. k .asks t) i (bookAt y i) (k .each i) out destination received)
@@ -243,25 +243,25 @@ module _ (reads : ℕ → Bool) (w : World) (r : List ℕ) (rx store : ℕ) wher
           let st = state-after m r rx store w h x in
           record {
             size = book-size (policyOf m) x (now x) y ∙ k .size;
-            asks = λ t. seen-open m r rx store w h x (y .asked) ∙ call-asked w (y .asked) (creditOf m) refl (k .asks) x (sym (ap (λ (d : Connection). d .header .waiting .on) st) ∙ t);
+            asks = λ t. seen-open m r rx store w h x (y .asked) ∙ call-asked w (y .asked) (offeredCredit m) refl (k .asks) x (sym (ap (λ (d : Connection). d .header .pending .on) st) ∙ t);
             each = λ i. by-test (ltb i 64) (λ t. inside i (ltb-true i 64 t) x (only i)) (λ t. outside i (ltb-false i 64 t) x);
           }
 
       -- ---- what is claimed of it
 
-      notes-checked : (received : List ℕ) (t : Bool) (o : Outcome) → (numberOf (o .answer) ≡ 11 → Notes l table received o) → numberOf (checked t l o .answer) ≡ 11 → Notes l table received (checked t l o)
-      unfolding checked numberOf refusalNumber
+      notes-checked : (received : List ℕ) (t : Bool) (o : Outcome) → (answerNumber (o .answer) ≡ 11 → Notes l table received o) → answerNumber (checked t l o .answer) ≡ 11 → Notes l table received (checked t l o)
+      unfolding checked answerNumber refusalNumber
       notes-checked received t o f =
-          let E : Outcome → Type 0 = λ x. numberOf (x .answer) ≡ 11 → Notes l table received x in
+          let E : Outcome → Type 0 = λ x. answerNumber (x .answer) ≡ 11 → Notes l table received x in
           pick E t (λ a. pick E (storesFit (m .config) (length (w .rx)) (length (w .store))) (λ b. f) (λ b e. absurd (omega arith))) (λ a e. absurd (omega arith))
 
-      notes-out : (received : List ℕ) (t : Bool) (out : ℕ) (o : Outcome) → (numberOf (o .answer) ≡ 11 → Notes l table received o) → numberOf (checkedOut t l out o .answer) ≡ 11 → Notes l table received (checkedOut t l out o)
-      unfolding checkedOut numberOf refusalNumber
+      notes-out : (received : List ℕ) (t : Bool) (out : ℕ) (o : Outcome) → (answerNumber (o .answer) ≡ 11 → Notes l table received o) → answerNumber (checkedOut t l out o .answer) ≡ 11 → Notes l table received (checkedOut t l out o)
+      unfolding checkedOut answerNumber refusalNumber
       notes-out received t out o f =
-          notes-checked received t _ (pick (λ (x : Outcome). numberOf (x .answer) ≡ 11 → Notes l table received x) (ltb out 56) (λ b e. absurd (omega arith)) (λ b. f))
+          notes-checked received t _ (pick (λ (x : Outcome). answerNumber (x .answer) ≡ 11 → Notes l table received x) (ltb out 56) (λ b e. absurd (omega arith)) (λ b. f))
 
-      call-notes : (x : Call) → numberOf (outcome w x .answer) ≡ 11 → Notes l table (receivedIn x) (outcome w x)
-      unfolding outcome receivedIn openOf dispatchOf settleOf takeOf readOf writeOf closeOf frontCall
+      call-notes : (x : Call) → answerNumber (outcome w x .answer) ≡ 11 → Notes l table (receivedIn x) (outcome w x)
+      unfolding outcome receivedIn openOutcome dispatchOutcome settleOutcome takeOutcome readOutcome writeOutcome closeOutcome takeFrontOutcome
       call-notes (openCall out destination received) = notes-out (bytesIn received) (isWhole (w .state)) (length out) _ (open-notes l table (bytesIn received) (length out) (bytesIn destination))
       call-notes (dispatchCall out received) = notes-out (bytesIn received) (isWhole (w .state)) (length out) _ (dispatch-notes l table (bytesIn received))
       call-notes (settleCall out ch want) = notes-out [] (isWhole (w .state)) (length out) _ (λ e. absurd (settle-never l table ch want e))
@@ -272,7 +272,7 @@ module _ (reads : ℕ → Bool) (w : World) (r : List ℕ) (rx store : ℕ) wher
       call-notes frontTaken = notes-checked [] (isWhole (w .state)) _ (λ e. absurd (front-never l table e))
 
       -- an 11 is in the book of a channel that is there
-      noted : (x : Call) → ((i : ℕ) → reads i ≡ true → NoTake i x) → numberOf (outcome w x .answer) ≡ 11 → Noted (policyOf m) y (entry (policyOf m) x (now x) y) (event x)
+      noted : (x : Call) → ((i : ℕ) → reads i ≡ true → NoTake i x) → answerNumber (outcome w x .answer) ≡ 11 → Noted (policyOf m) y (entry (policyOf m) x (now x) y) (event x)
       unfolding heldOf
       noted x only e =
           let n = call-notes x e in
@@ -350,7 +350,7 @@ module _ (reads : ℕ → Bool) (n : Negotiated) (r : List ℕ) (rx store : ℕ)
 -- ---- where it begins
 
 module _ (n : Negotiated) (w : World) (e : stateOf (w .state) ≡ fresh n) where
-  pub no-slot : (i : ℕ) → slotOf w i .filled ≡ false
+  pub no-slot : (i : ℕ) → placeSlot w i .filled ≡ false
   unfolding slotIn fresh emptySlot
   no-slot i = ap (λ (d : Connection). slotIn (d .slots) i .filled) e ∙ ap (λ (s : ChannelSlot). s .filled) (in-replicate 64 i emptySlot)
 
@@ -362,7 +362,7 @@ module _ (n : Negotiated) (w : World) (e : stateOf (w .state) ≡ fresh n) where
   fresh-kept reads =
       record {
         size = length-replicate 64 noBook;
-        asks = λ t. absurd (true≢false (sym t ∙ ap (λ (d : Connection). d .header .waiting .on) e));
+        asks = λ t. absurd (true≢false (sym t ∙ ap (λ (d : Connection). d .header .pending .on) e));
         each = λ i. record { full = λ f. absurd (true≢false (sym f ∙ no-slot i)); none = λ f. ap (λ (b : Book). b .there) (in-replicate 64 i noBook) };
       }
 
@@ -375,12 +375,12 @@ ran : (reads : ℕ → Bool) (s : Start) → storesFit (s .config) (length (s .r
 ran reads s t cs apart only =
     let n = agreedIn s in
     let e = fresh-start s in
-    runs reads n (drop 4730 (s .state)) (length (s .rx)) (length (s .store)) (fits-long (s .config) (s .version) (s .most) (s .host) (s .device) (length (s .rx)) (length (s .store)) t)
+    runs reads n (drop stateLen (s .state)) (length (s .rx)) (length (s .store)) (fits-long (s .config) (s .version) (s .most) (s .host) (s .device) (length (s .rx)) (length (s .store)) t)
     (begins s) clean (starts s) (fresh-far n (begins s) e) (fresh-kept n (begins s) e reads) cs apart only
 
 -- ---- stores under their lengths: every call answers 8
 
-module _ (p : RxPolicy) (w : World) (f : (x : Call) → numberOf (outcome w x .answer) ≡ 8) (g : (x : Call) → after w x ≡ w) where
+module _ (p : RxPolicy) (w : World) (f : (x : Call) → answerNumber (outcome w x .answer) ≡ 8) (g : (x : Call) → after w x ≡ w) where
   ledger-8 : (y : Ledger) (cs : List Call) → ledgerOf p y (eventsOf w cs) ≡ y
   unfolding eventsOf ledgerOf heldOf
   ledger-8 y [] = refl
@@ -417,7 +417,7 @@ place p credit i ss rx b k =
     (λ t. let n = k .none t in record { there = n ∙ sym t; claim = λ u. absurd (true≢false (sym u ∙ n)) })
 
 -- what a list of none, and of one, says
-pub first-8 : (s : Start) → ((x : Call) → numberOf (outcome (afterAll (begins s) []) x .answer) ≡ 8) → (x : Call) → numberOf (outcome (begins s) x .answer) ≡ 8
+pub first-8 : (s : Start) → ((x : Call) → answerNumber (outcome (afterAll (begins s) []) x .answer) ≡ 8) → (x : Call) → answerNumber (outcome (begins s) x .answer) ≡ 8
 unfolding afterAll
 first-8 s h x = h x
 
@@ -434,14 +434,14 @@ demand-3 s cs apart =
     record { places = λ i. place p (terms false n) i _ _ _ (z .kept .each i); calls = z .told })
     (λ t. let a = always-8 s t in
     let w = begins s in
-    let f : (x : Call) → numberOf (outcome w x .answer) ≡ 8 = λ x. first-8 s (a [] .1) x in
+    let f : (x : Call) → answerNumber (outcome w x .answer) ≡ 8 = λ x. first-8 s (a [] .1) x in
     let g : (x : Call) → after w x ≡ w = λ x. after-8 s x (a (x ∷ []) .0) in
     let e = ledger-8 p w f g clean cs in
     record {
       places = λ i.
           let b0 : bookAt clean i .there ≡ false = ap (λ (b : Book). b .there) (in-replicate 64 i noBook) in
           let bn : bookAt (ledgerOf p clean (eventsOf w cs)) i .there ≡ false = ap (λ (y : Ledger). bookAt y i .there) e ∙ b0 in
-          let sn : slotOf (afterAll w cs) i .filled ≡ false = ap (λ (v : World). slotOf v i .filled) (a cs .0) ∙ no-slot n w (fresh-start s) i in
+          let sn : placeSlot (afterAll w cs) i .filled ≡ false = ap (λ (v : World). placeSlot v i .filled) (a cs .0) ∙ no-slot n w (fresh-start s) i in
           record { there = bn ∙ sym sn; claim = λ u. absurd (true≢false (sym u ∙ bn)) };
       calls = told-8 p w f g clean cs;
     })
@@ -463,4 +463,4 @@ no-leak s cs apart d i only there closed e =
     (λ f. absurd (true≢false (sym there ∙ z .none f))))
     (λ t. let c = demand-3 s cs apart .places i in
     let a = always-8 s t cs .0 in
-    absurd (true≢false (sym there ∙ c .there ∙ ap (λ (v : World). slotOf v i .filled) a ∙ no-slot (agreedIn s) (begins s) (fresh-start s) i)))
+    absurd (true≢false (sym there ∙ c .there ∙ ap (λ (v : World). placeSlot v i .filled) a ∙ no-slot (agreedIn s) (begins s) (fresh-start s) i)))

@@ -22,15 +22,15 @@ use Rattle.protocol.specs.declared.message.Message.{Message}
 use Rattle.protocol.specs.Command.{lettersOf, wordOf, isReady, isThe}
 use Rattle.protocol.specs.Message.{messageOf}
 use Rattle.protocol.proofs.PacketLaws.{frame-length}
-use Rattle.slot.specs.declared.Credit.the-variants.{Of}
+use Rattle.credit.specs.declared.Credit.the-variants.{Of}
 use Rattle.slot.specs.Ids.{namedBy}
-use Rattle.slot.specs.Slot.{creditOf}
+use Rattle.credit.specs.Credit.{creditOf}
 use Rattle.slot.proofs.Kept.{pick}
 use Rattle.slot.proofs.Laws.{cond-true, cond-false}
-use Rattle.state.specs.Rows.{flat}
-use Rattle.state.proofs.RowLaws.{Every}
+use Rattle.le.specs.Rows.{flat}
+use Rattle.le.proofs.RowLaws.{Every}
 use Rattle.wire.specs.Wire.{creditBytes, okayBytes, closeBytes}
-use Rattle.connection.specs.Answer.{numberOf}
+use Rattle.connection.specs.Answer.{answerNumber}
 use Rattle.connection.specs.Calls.{Outcome, writtenBy}
 use Rattle.connection.specs.Frames.{Frame, okayFrame, closeFrame, openFrame, writeFrame, frameBytes, framesBytes, Sent}
 use Rattle.connection.proofs.Sending.{sentOf, FrameFits}
@@ -153,14 +153,14 @@ all-read p n (f ∷ fs) d e = (okay-reads p n f d (e .0), all-read p n fs d (e .
 -- what is claimed of an outcome whose frames and bytes fit; noted: what an 11 leaves
 pub told-by : (p : RxPolicy) (y : Ledger) (n : Negotiated) (c : Call) (o : Outcome) → p .delayed ≡ n .«delayed_ack» → Writes n (length (outOf c)) (length (bufOf c)) o
     → counted c (o .answer) ≡ length (o .handed) → seenOf (record { call = c; held = heldBy n c o }) ≡ heardOf n o
-    → (numberOf (o .answer) ≡ 11 → Noted p y (entry p c (seenOf (record { call = c; held = heldBy n c o })) y) (record { call = c; held = heldBy n c o }))
+    → (answerNumber (o .answer) ≡ 11 → Noted p y (entry p c (seenOf (record { call = c; held = heldBy n c o })) y) (record { call = c; held = heldBy n c o }))
     → Told p y (record { call = c; held = heldBy n c o })
 unfolding saidBy writtenBy
 told-by p y n c o d w k s m =
     let e : Event = record { call = c; held = heldBy n c o } in
-    by-test (eqb (numberOf (o .answer)) 8)
-    (λ t. told-eight p y e (eqb-true (numberOf (o .answer)) 8 t))
-    (λ t. let z : saidBy (heldBy n c o) ≡ heldBy n c o = cond-false (eqb (numberOf (o .answer)) 8) _ _ t in
+    by-test (eqb (answerNumber (o .answer)) 8)
+    (λ t. told-eight p y e (eqb-true (answerNumber (o .answer)) 8 t))
+    (λ t. let z : saidBy (heldBy n c o) ≡ heldBy n c o = cond-false (eqb (answerNumber (o .answer)) 8) _ _ t in
     let a = w .handed in
     let b = w .written in
     let lb = length-put (bufOf c) 0 (o .handed) (omega arith) in

@@ -14,14 +14,14 @@ use Rattle.le.proofs.Parts.{by-test, length-part}
 use Rattle.config.specs.declared.negotiated.Negotiated.{Negotiated}
 use Rattle.config.specs.declared.negotiated.RxPolicy.{RxPolicy}
 use Rattle.config.specs.Config.{withinLimits, capOf, openingCredit, storesFit}
-use Rattle.config.specs.Negotiated.{policyOf, creditOf}
+use Rattle.config.specs.Negotiated.{policyOf, offeredCredit}
 use Rattle.config.proofs.Laws.{and-true, within, sound as limits}
 use Rattle.incoming.specs.declared.Front.{Front}
 use Rattle.incoming.specs.declared.Front.the-variants.{Open as FrontOpen, Nothing as NoFront}
 use Rattle.incoming.specs.Incoming.{popped}
 use Rattle.protocol.specs.declared.command.Command.the-variants.{Write, Open}
 use Rattle.protocol.specs.declared.packet.Packet.{Packet}
-use Rattle.protocol.specs.Checksum.{policyFor, checkFor}
+use Rattle.checksum.specs.Checksum.{policyFor, checkFor}
 use Rattle.protocol.specs.Message.{messageOf}
 use Rattle.protocol.specs.Packet.{maxPayload, packetOf}
 use Rattle.protocol.proofs.PacketLaws.{frame-length}
@@ -45,25 +45,25 @@ use Rattle.slot.proofs.Laws.{cond-true, cond-false, take-held}
 use Rattle.state.specs.declared.Header.{Header}
 use Rattle.state.specs.Change.{Change, slotTo, changedAll}
 use Rattle.state.specs.State.{isState, stateOf}
-use Rattle.state.specs.Valid.{filledOk, slotFine, slotsFine, waitingFine, headerFine, filledAt, whole, isWhole}
-use Rattle.state.proofs.RowLaws.{Every, every-append}
+use Rattle.state_whole.specs.Whole.{filledOk, slotFine, slotsFine, pendingFine, headerFine, filledAt, whole, isWhole}
+use Rattle.le.proofs.RowLaws.{Every, every-append}
 use Rattle.state.proofs.StateLaws.{Fits, SlotFits}
-use Rattle.state.proofs.WholeLaws.{whole-fits}
+use Rattle.state_whole.proofs.WholeLaws.{whole-fits}
 use Rattle.connection.proofs.WholeWork.{long}
 use Rattle.table.specs.declared.Allocated.{Allocated}
 use Rattle.table.specs.declared.Allocated.the-variants.{Channel, NoFree}
 use Rattle.table.specs.declared.ChannelId.{ChannelId}
 use Rattle.table.specs.declared.Want.the-variants.{Empty}
-use Rattle.table.specs.Table.{wantedBy, placeOf, numbered, allocated}
-use Rattle.table.specs.Dispatch.{slotIn, shareOf}
-use Rattle.table.proofs.DispatchLaws.{share-in}
+use Rattle.table.specs.Table.{wantedBy, placeOf, numbered, allocated, slotIn}
+use Rattle.rx_store.specs.RxStore.{shareOf, frontOf}
+use Rattle.rx_store.proofs.ShareLaws.{share-in}
 use Rattle.connection.specs.declared.Answer.{Answer}
 use Rattle.connection.specs.declared.Answer.the-variants.{Waiting, Nothing, Read, Refused}
 use Rattle.connection.specs.declared.Refusal.the-variants.{ChannelClosed}
-use Rattle.connection.specs.Answer.{refusalNumber, numberOf, valuesOf}
+use Rattle.connection.specs.Answer.{refusalNumber, answerNumber, answerValues}
 use Rattle.connection.specs.declared.Received.{Received}
 use Rattle.connection.specs.Act.{Acted, actOn}
-use Rattle.connection.specs.Calls.{Lent, Outcome, Work, begun, then, thenActed, withHeader, ends, checked, checkedOut, dropped, waitingFor, policy, idsIn, isThere, slotFor, ackFrames, receivedOf, errorRefusal, faultRefusal, unlessFault, bodyOf, frameLen, dispatchBy, dispatchStep, settledAs, settleStep, frontOf, takenBy, takeStep, reread, readSettled, readActed, isDirect, readDirect, readBy, readTaken, readFirst, readStep, sendLen, sendSome, sendBy, sendAgain, writeReadied, writeActed, writeAct, writeBy, writeFirst, writeOn, writeStep, closeStep, frontBy, frontStep, openOn, stillWaits, openReadied, openActed, openBy, openStep, openOf, dispatchOf, settleOf, takeOf, readOf, writeOf, closeOf, frontCall}
+use Rattle.connection.specs.Calls.{Lent, Outcome, Work, begun, then, thenActed, storing, ends, checked, checkedOut, dropped, pendingFor, policy, idsIn, isThere, slotFor, ackFrames, receivedOf, errorRefusal, faultRefusal, unlessFault, bodyOf, frameLen, dispatchBy, dispatchStep, settledAs, settleStep, takenBy, takeStep, reread, readSettled, readActed, isDirect, readDirect, readBy, readTaken, readFirst, readStep, sendLen, sendSome, sendBy, sendAgain, writeReadied, writeActed, writeAct, writeBy, writeFirst, writeOn, writeStep, closeStep, takeFrontBy, takeFrontStep, openOn, stillPending, openReadied, openActed, openBy, openStep, openOutcome, dispatchOutcome, settleOutcome, takeOutcome, readOutcome, writeOutcome, closeOutcome, takeFrontOutcome}
 use Rattle.connection.specs.Frames.{Frame, closeFrame, openFrame, writeFrame, frameBytes, framesBytes}
 use Rattle.history.specs.Run.{bytesIn, Call, openCall, dispatchCall, settleCall, takeCall, readCall, writeCall, closeCall, frontTaken, outOf, bufOf, World, lent, outcome}
 use Rattle.history.specs.Seen.{countOf, heldOf, Seen, seenOf}
@@ -82,8 +82,8 @@ use Rattle.connection.proofs.Sending.{IdsFit, Few, bytes-append, bytes-one, few
 -- its channels' numbers are of 32 bits, a filled slot's numbers are within its share, the limits are kept
 pub record Able (l : Lent) : Type 0 where
   pub next : l .state .header .«next_local» < 2 ^ 32
-  pub waits : l .state .header .waiting .local .0 < 2 ^ 32
-  pub credit : creditOf (l .state .header .negotiated) < 2 ^ 32
+  pub pending-open : l .state .header .pending .local .0 < 2 ^ 32
+  pub credit : offeredCredit (l .state .header .negotiated) < 2 ^ 32
   pub most : l .state .header .negotiated .«max_payload» ≤ maxPayload
   pub size : length (l .state .slots) ≡ 64
   pub channels : l .state .header .negotiated .config .channels ≤ 64
@@ -108,13 +108,13 @@ fine-at channels cap i (s ∷ ss) (suc j) e f = fine-at channels cap (suc i) ss 
 
 -- a whole state whose numbers fit their fields
 pub able-whole : (l : Lent) → Fits (l .state) → whole (l .state) ≡ true → Able l
-unfolding whole headerFine creditOf openingCredit policyOf
+unfolding whole headerFine offeredCredit openingCredit policyOf
 able-whole l f e =
     let h = l .state .header in
     let c = h .negotiated .config in
     let fine = slotsFine (c .channels) (capOf c) 0 (l .state .slots) in
-    let waits = waitingFine h (filledAt (l .state .slots) (h .waiting .slot)) in
-    let a = and-true (headerFine h) fine (and-true (headerFine h && fine) waits (and-true (headerFine h && fine && waits) _ e .0) .0) in
+    let pending-ok = pendingFine h (filledAt (l .state .slots) (h .pending .slot)) in
+    let a = and-true (headerFine h) fine (and-true (headerFine h && fine) pending-ok (and-true (headerFine h && fine && pending-ok) _ e .0) .0) in
     let b₄ = and-true _ (leb (h .queued) (c .channels)) (a .0) .0 in
     let b₃ = and-true _ (not (eqb (h .«next_local») 0)) b₄ .0 in
     let b₂ = and-true _ (leb (h .negotiated .«protocol_version») 0x0100_0001) b₃ .0 in
@@ -123,7 +123,7 @@ able-whole l f e =
     let i = f .header .initial in
     record {
       next = f .header .next;
-      waits = f .header .local;
+      pending-open = f .header .local;
       credit = pick (λ (x : ℕ). x < 2 ^ 32) (h .negotiated .«delayed_ack») (λ d. omega arith) (λ d. omega arith);
       most = leb-true (h .negotiated .«max_payload») 1_048_576 (b .1);
       size = f .full .slots;
@@ -210,12 +210,12 @@ module _ (l : Lent) (out room : ℕ) where
 
 -- what a read's or a take's answer counts is handed over, where the receive store keeps its length
 abbrev pub Counts : Lent → Outcome → Type 0
-Counts l x = length (x .rx) ≡ length (l .rx) → cond (eqb (numberOf (x .answer)) 0) (getD (valuesOf (x .answer)) 0 0) 0 ≡ length (x .handed)
+Counts l x = length (x .rx) ≡ length (l .rx) → cond (eqb (answerNumber (x .answer)) 0) (getD (answerValues (x .answer)) 0 0) 0 ≡ length (x .handed)
 
 -- the refusals ahead of every step count nothing
 counts-checked : (l : Lent) (whole : Bool) (o : Outcome) → (whole ≡ true → storesFit (l .state .header .negotiated .config) (length (l .rx)) (length (l .store)) ≡ true → Counts l o)
     → Counts l (checked whole l o)
-unfolding checked numberOf refusalNumber
+unfolding checked answerNumber refusalNumber
 counts-checked l whole o f =
     pick (Counts l) whole
     (λ t. pick (Counts l) (storesFit (l .state .header .negotiated .config) (length (l .rx)) (length (l .store))) (λ u. f t u) (λ u z. refl))
@@ -223,7 +223,7 @@ counts-checked l whole o f =
 
 counts-checked-out : (l : Lent) (whole : Bool) (out : ℕ) (o : Outcome) → (whole ≡ true → storesFit (l .state .header .negotiated .config) (length (l .rx)) (length (l .store)) ≡ true → 56 ≤ out → Counts l o)
     → Counts l (checkedOut whole l out o)
-unfolding checkedOut numberOf refusalNumber
+unfolding checkedOut answerNumber refusalNumber
 counts-checked-out l whole out o f =
     counts-checked l whole _ (λ t u. pick (Counts l) (ltb out 56) (λ v z. refl) (λ v. f t u (ltb-false out 56 v)))
 
@@ -271,12 +271,12 @@ module _ (l : Lent) (able : Able l) (out room : ℕ) where
       record { inside = b; below = omega arith; sound = able .sound (ch .slot) (g .0); ids = able .ids (ch .slot) }
 
   -- an answer that is not done
-  counts-none : (w : Work) (a : Answer) (used : ℕ) → eqb (numberOf a) 0 ≡ false → C (ends w a used [])
+  counts-none : (w : Work) (a : Answer) (used : ℕ) → eqb (answerNumber a) 0 ≡ false → C (ends w a used [])
   unfolding ends
-  counts-none w a used e z = cond-false (eqb (numberOf a) 0) _ 0 e
+  counts-none w a used e z = cond-false (eqb (answerNumber a) 0) _ 0 e
 
   counts-some : (w : Work) (k used : ℕ) (bytes : List ℕ) → (length (w .rx) ≡ length (l .rx) → length bytes ≡ k) → C (ends w (Read k) used bytes)
-  unfolding ends numberOf valuesOf
+  unfolding ends answerNumber answerValues
   counts-some w k used bytes f z = sym (f z)
 
   -- the store has each channel's share
@@ -284,7 +284,7 @@ module _ (l : Lent) (able : Able l) (out room : ℕ) where
   Shares = n .config .channels * (2 * policy l .«rx_cap») ≤ length (l .rx)
 
   front-length : Shares → (rx : List ℕ) → length rx ≡ length (l .rx) → (i : ℕ) → i < n .config .channels → (s : ChannelSlot) → SlotOk s (policy l .«rx_cap») → (k : ℕ) → k ≤ s .buffered
-      → length (frontOf rx (policy l .«rx_cap») i s k) ≡ k
+      → length (frontOf rx (policy l .«rx_cap») i (s .head) k) ≡ k
   unfolding frontOf shareOf
   front-length big rx e i h s ok k f =
       let cap = policy l .«rx_cap» in
@@ -292,23 +292,23 @@ module _ (l : Lent) (able : Able l) (out room : ℕ) where
       let r = ok .run-fits in
       length-part (part rx (i * (2 * cap)) (2 * cap)) (s .head) k (omega arith)
 
-  error-some : (e : ChannelError) → eqb (numberOf (Refused (errorRefusal e))) 0 ≡ false
-  unfolding numberOf
+  error-some : (e : ChannelError) → eqb (answerNumber (Refused (errorRefusal e))) 0 ≡ false
+  unfolding answerNumber
   error-some e = refused-some (errorRefusal e)
 
-  unless-some : (f : Failed) (a : Answer) → eqb (numberOf a) 0 ≡ false → eqb (numberOf (unlessFault f a)) 0 ≡ false
-  unfolding unlessFault numberOf
+  unless-some : (f : Failed) (a : Answer) → eqb (answerNumber a) 0 ≡ false → eqb (answerNumber (unlessFault f a)) 0 ≡ false
+  unfolding unlessFault answerNumber
   unless-some No a e = e
   unless-some (By f) a e = refused-some (faultRefusal f)
 
   -- n bytes taken from a slot
   take-counts-by : Shares → (ch : ChannelId) → There ch → (s : ChannelSlot) (w : Work) (used : ℕ) → SlotOk s (policy l .«rx_cap»)
-      → C (ends w (Read (takeLen s room)) used (frontOf (w .rx) (policy l .«rx_cap») (ch .slot) s (takeLen s room)))
+      → C (ends w (Read (takeLen s room)) used (frontOf (w .rx) (policy l .«rx_cap») (ch .slot) (s .head) (takeLen s room)))
   take-counts-by big ch c s w used ok =
       counts-some w (takeLen s room) used _ (λ z. front-length big (w .rx) z (ch .slot) (c .inside) s ok (takeLen s room) (take-held s room (ok .settled-buffered)))
 
   pub take-counts : Shares → (ch : ChannelId) → C (takeStep l ch room)
-  unfolding takeStep takenOf takenBy numberOf refusalNumber
+  unfolding takeStep takenOf takenBy answerNumber refusalNumber
   take-counts big ch =
       let s = slotFor l ch in
       pick C (isThere l ch)
@@ -331,14 +331,14 @@ module _ (l : Lent) (able : Able l) (out room : ℕ) where
       pick W (isThere l ch) (λ t. take-by ch (slotFor l ch) _ (taking (slotFor l ch) room)) (λ t. writes-none n out room _ refl (omega arith))
 
   -- the front
-  front-by : (h : Header) (xs : List Change) (f : Front) → W (frontBy l h xs f)
-  unfolding frontBy ends
+  front-by : (h : Header) (xs : List Change) (f : Front) → W (takeFrontBy l h xs f)
+  unfolding takeFrontBy ends
   front-by h xs (FrontOpen q less) = writes-none n out room _ refl (omega arith)
   front-by h xs NoFront = writes-none n out room _ refl (omega arith)
 
-  pub front-writes : W (frontStep l)
-  unfolding frontStep
-  front-writes = front-by h₀ (popped h₀ (l .state .opens) .changes) (popped h₀ (l .state .opens) .result)
+  pub front-writes : W (takeFrontStep l)
+  unfolding takeFrontStep
+  front-writes = front-by h₀ (popped h₀ (l .state .queue) .changes) (popped h₀ (l .state .queue) .result)
 
   module _ (big : 56 ≤ out) where
     -- a call's end, with short frames
@@ -380,19 +380,19 @@ module _ (l : Lent) (able : Able l) (out room : ℕ) where
 
     -- a packet that is dispatched, whatever it leaves
     acted-few : (h : Header) → h .negotiated ≡ n → (k : Packet) (payload : List ℕ) → Args k
-        → Acts ⊥ h (l .state .slots) 0 (actOn h (l .state .slots) (l .state .opens) (l .rx) (l .store) k payload)
+        → Acts ⊥ h (l .state .slots) 0 (actOn h (l .state .slots) (l .state .queue) (l .rx) (l .store) k payload)
     acted-few h e k payload a =
         let z = able .size in
-        acts ⊥ h (l .state .slots) (l .state .opens) (l .rx) (l .store) k payload 0 (able .ids) (omega arith) (λ q. absurd q) (a .arg0) (a .arg1)
+        acts ⊥ h (l .state .slots) (l .state .queue) (l .rx) (l .store) k payload 0 (able .ids) (omega arith) (λ q. absurd q) (a .arg0) (a .arg1)
 
     -- an OPEN
     open-sent : (destination : List ℕ) (ch : ChannelId) → ch .local .0 < 2 ^ 32 → length destination ≤ maxPayload → 24 + length destination ≤ out
-        → W (ends (then (begun (waitingFor (numbered (l .state .header)) ch) l) [] (openFrame (ch .local) (creditOf n) destination ∷ [])) Waiting 0 [])
+        → W (ends (then (begun (pendingFor (numbered (l .state .header)) ch) l) [] (openFrame (ch .local) (offeredCredit n) destination ∷ [])) Waiting 0 [])
     unfolding ends frameBytes
     open-sent destination ch f s r =
-        let b = bytes-one n (openFrame (ch .local) (creditOf n) destination) in
+        let b = bytes-one n (openFrame (ch .local) (offeredCredit n) destination) in
         let k = policyFor (n .«protocol_version») in
-        let e = frame-length Open (ch .local .0) (creditOf n) destination (checkFor k destination) in
+        let e = frame-length Open (ch .local .0) (offeredCredit n) destination (checkFor k destination) in
         record {
           few = omega arith;
           each = (record { sent = record { arg0-fits = f; arg1-fits = able .credit; small = s }; len-fits = λ d. omega arith }, tt);
@@ -418,14 +418,14 @@ module _ (l : Lent) (able : Able l) (out room : ℕ) where
       dispatch-by r (stopped a used s) = idle h₀ a used
       dispatch-by r (packet k s) =
           let x = acted-few h₀ refl k (bodyOf received k) (args received limit k bytes s) in
-          quit (thenActed (begun h₀ l) (actOn h₀ (l .state .slots) (l .state .opens) (l .rx) (l .store) k (bodyOf received k))) _ (frameLen k)
+          quit (thenActed (begun h₀ l) (actOn h₀ (l .state .slots) (l .state .queue) (l .rx) (l .store) k (bodyOf received k))) _ (frameLen k)
           (few-up n 1 2 _ (omega arith) (x .writes))
 
       pub dispatch-writes : W (dispatchStep l received)
       unfolding dispatchStep
       dispatch-writes = dispatch-by (receivedOf l received) (got l received)
 
-      -- an OPEN that waits goes on
+      -- a pending open goes on
       open-readied : (ch : ChannelId) (remote used : ℕ) (r : Readied) → ch .local .0 < 2 ^ 32 → remote < 2 ^ 32 → W (openReadied l ch remote used r)
       unfolding openReadied
       open-readied ch remote used (Slot t) f g = quit (then (begun h₀ l) _ []) _ used (few-none n 2)
@@ -435,7 +435,7 @@ module _ (l : Lent) (able : Able l) (out room : ℕ) where
 
       open-by : (ch : ChannelId) → ch .local .0 < 2 ^ 32 → (r : Received) → Got received limit r → W (openBy l ch received r)
       unfolding openBy openActed
-      open-by ch f r (stopped a used s) = idle (stillWaits a (l .state .header)) a used
+      open-by ch f r (stopped a used s) = idle (stillPending a (l .state .header)) a used
       open-by ch f r (packet k s) =
           let g = args received limit k bytes s in
           let h = l .state .header in
@@ -446,15 +446,15 @@ module _ (l : Lent) (able : Able l) (out room : ℕ) where
           (λ u. quit (then (begun h₀ l) _ (closeFrame (record { local = ch .local; remote = record { 0 = k .arg0 } }) ∷ [])) _ (frameLen k)
           (few-up n 1 2 _ (omega arith) (few-close n _ (record { local = f; remote = g .arg0 }))))
           (λ u. pick W (isClose (k .command) && mine) (λ v. idle h₀ _ (frameLen k))
-          (λ v. quit (withHeader (thenActed (begun h l) (actOn h (l .state .slots) (l .state .opens) (l .rx) (l .store) k (bodyOf received k))) _) _ (frameLen k)
+          (λ v. quit (storing (thenActed (begun h l) (actOn h (l .state .slots) (l .state .queue) (l .rx) (l .store) k (bodyOf received k))) _) _ (frameLen k)
           (few-up n 1 2 _ (omega arith) (x .writes)))))
 
       pub open-writes : (destination : List ℕ) → W (openStep l out destination received)
       unfolding openStep
       open-writes destination =
           let h = l .state .header in
-          pick W (h .waiting .on)
-          (λ t. open-by (record { slot = h .waiting .slot; local = h .waiting .local }) (able .waits) (receivedOf l received) (got l received))
+          pick W (h .pending .on)
+          (λ t. open-by (record { slot = h .pending .slot; local = h .pending .local }) (able .pending-open) (receivedOf l received) (got l received))
           (λ t. open-on destination (allocated h (l .state .slots)) (allotted h (l .state .slots) (able .next)))
 
       -- ---- writing
@@ -521,8 +521,8 @@ module _ (l : Lent) (able : Able l) (out room : ℕ) where
           let z = able .size in
           let b = c .below in
           let t = slotFor l ch in
-          let a = actOn h₀ (l .state .slots) (l .state .opens) (l .rx) (l .store) k (bodyOf received k) in
-          let x = acts ⊥ h₀ (l .state .slots) (l .state .opens) (l .rx) (l .store) k (bodyOf received k) (ch .slot) (able .ids) (omega arith) (λ q. absurd q) (g .arg0) (g .arg1) in
+          let a = actOn h₀ (l .state .slots) (l .state .queue) (l .rx) (l .store) k (bodyOf received k) in
+          let x = acts ⊥ h₀ (l .state .slots) (l .state .queue) (l .rx) (l .store) k (bodyOf received k) (ch .slot) (able .ids) (omega arith) (λ q. absurd q) (g .arg0) (g .arg1) in
           pick W (isReady (k .command) && eqb (k .arg1) (t .local .0))
           (λ u. write-readied ch given (frameLen k) t (readyOf t (bodyOf received k) (policy l)) (ready-ids t (bodyOf received k) (policy l) (c .ids)))
           (λ u. pick W (closedBy (idsIn t) k) (λ v. quit (then (begun h₀ l) _ []) _ (frameLen k) (few-none n 2))
@@ -633,7 +633,7 @@ module _ (l : Lent) (able : Able l) (out room : ℕ) where
 
         -- a packet that is dispatched
         abbrev act₂ : Packet → Acted
-        act₂ k = actOn h₀ (set (l .state .slots) (ch .slot) s₁) (l .state .opens) (l .rx) (l .store) k (bodyOf received k)
+        act₂ k = actOn h₀ (set (l .state .slots) (ch .slot) s₁) (l .state .queue) (l .rx) (l .store) k (bodyOf received k)
 
         acts₂ : (k : Packet) → Says received limit k → Acts (Unit {0}) h₀ (set (l .state .slots) (ch .slot) s₁) (ch .slot) (act₂ k)
         acts₂ k s =
@@ -643,7 +643,7 @@ module _ (l : Lent) (able : Able l) (out room : ℕ) where
             let b = c .below in
             let e = length-set (l .state .slots) (ch .slot) s₁ in
             let here : slotIn ss (ch .slot) ≡ s₁ = slot-set-same (l .state .slots) (ch .slot) s₁ (omega arith) in
-            acts (Unit {0}) h₀ ss (l .state .opens) (l .rx) (l .store) k (bodyOf received k) (ch .slot) (ids-set (l .state .slots) (ch .slot) s₁ (able .ids) ids₁ (omega arith)) (omega arith)
+            acts (Unit {0}) h₀ ss (l .state .queue) (l .rx) (l .store) k (bodyOf received k) (ch .slot) (ids-set (l .state .slots) (ch .slot) s₁ (able .ids) ids₁ (omega arith)) (omega arith)
             (λ q. subst (λ (v : ChannelSlot). SlotOk v (p .«rx_cap»)) (sym here) sound₁) (g .arg0) (g .arg1)
 
         read-by : s₁ .buffered ≡ 0 → (r : Received) → Got received limit r → W (readBy l ch room w₁ s₁ received r)
@@ -664,7 +664,7 @@ module _ (l : Lent) (able : Able l) (out room : ℕ) where
         -- its answer counts what it hands over
         module _ (shares : Shares) where
           reread-counts : (used : ℕ) (fault : Failed) (w : Work) (s : ChannelSlot) → SlotOk s (p .«rx_cap») → C (reread ch (p .«rx_cap») used fault w s (takenOf s room))
-          unfolding reread takenOf numberOf
+          unfolding reread takenOf answerNumber
           reread-counts used fault w s ok =
               let P : Taken → Type 0 = λ y. C (reread ch (p .«rx_cap») used fault w s y) in
               pick P (hasData s) (λ d. take-counts-by shares ch c s (then w (slotTo (ch .slot) (tookOf s (takeLen s room)) ∷ []) []) used ok)
@@ -677,7 +677,7 @@ module _ (l : Lent) (able : Able l) (out room : ℕ) where
           acted-counts a used ok = reread-counts used (a .fault) _ (settledOf (t₂ a) p room .slot) (settled-sound (t₂ a) p room (p .«rx_cap») ok)
 
           received-counts : (r : Received) → Got received limit r → C (readBy l ch room w₁ s₁ received r)
-          unfolding readBy readDirect numberOf refusalNumber
+          unfolding readBy readDirect answerNumber refusalNumber
           received-counts r (stopped a used s) = counts-none (then w₁ (slotTo (ch .slot) s₁ ∷ []) []) a used (s .undone)
           received-counts r (packet k s) =
               pick C (isDirect s₁ room k) (λ t. counts-some _ (length (bodyOf received k)) (frameLen k) (bodyOf received k) (λ z. refl))
@@ -685,7 +685,7 @@ module _ (l : Lent) (able : Able l) (out room : ℕ) where
               (λ u. acted-counts (act₂ k) (frameLen k) (own₂ (act₂ k) (acts₂ k s) .sound tt)))
 
           taken-counts : C (readTaken l ch room w₁ s₁ received (takenOf s₁ room))
-          unfolding readTaken takenOf numberOf refusalNumber
+          unfolding readTaken takenOf answerNumber refusalNumber
           taken-counts =
               let P : Taken → Type 0 = λ y. C (readTaken l ch room w₁ s₁ received y) in
               pick P (hasData s₁) (λ d. take-counts-by shares ch c s₁ (then w₁ (slotTo (ch .slot) (tookOf s₁ (takeLen s₁ room)) ∷ []) []) 0 sound₁)
@@ -693,7 +693,7 @@ module _ (l : Lent) (able : Able l) (out room : ℕ) where
               (λ e. pick C (s₁ .«has_remote») (λ t. received-counts (receivedOf l received) (got l received)) (λ t. counts-none (then w₁ (slotTo (ch .slot) s₁ ∷ []) []) (Refused ChannelClosed) 0 refl)))
 
       pub read-counts : Shares → (ch : ChannelId) → C (readStep l ch room received)
-      unfolding readStep readFirst numberOf refusalNumber
+      unfolding readStep readFirst answerNumber refusalNumber
       read-counts shares ch =
           pick C (isThere l ch) (λ t. taken-counts ch (there ch t) shares) (λ t. counts-none (begun h₀ l) (Refused ChannelClosed) 0 refl)
 
@@ -709,7 +709,7 @@ module _ (l : Lent) (able : Able l) (out room : ℕ) where
 -- every call on a state that is able, where it is whole
 pub call-writes : (w : World) → (isWhole (w .state) ≡ true → Able (lent w)) → (c : Call)
     → Writes (lent w .state .header .negotiated) (length (outOf c)) (length (bufOf c)) (outcome w c)
-unfolding outcome outOf bufOf openOf dispatchOf settleOf takeOf readOf writeOf closeOf frontCall
+unfolding outcome outOf bufOf openOutcome dispatchOutcome settleOutcome takeOutcome readOutcome writeOutcome closeOutcome takeFrontOutcome
 call-writes w f (openCall out destination received) =
     writes-checked-out (lent w) (length out) 0 (isWhole (w .state)) _
     (λ t big. open-writes (lent w) (f t) (length out) 0 big (bytesIn received) (bytes-in received) (bytesIn destination))
@@ -732,12 +732,12 @@ call-writes w f frontTaken =
     writes-checked (lent w) 0 0 (isWhole (w .state)) _ (λ t. front-writes (lent w) (f t) 0 0)
 
 take-counted : (w : World) → (isWhole (w .state) ≡ true → Able (lent w)) → (ch : ChannelId) (buf : List ℕ) → Counts (lent w) (outcome w (takeCall ch buf))
-unfolding outcome takeOf policyOf
+unfolding outcome takeOutcome policyOf
 take-counted w f ch buf =
     counts-checked (lent w) (isWhole (w .state)) _ (λ t u. take-counts (lent w) (f t) 0 (length buf) (long (lent w .state .header .negotiated) (length (w .rx)) (length (w .store)) u .rx-long) ch)
 
 read-counted : (w : World) → (isWhole (w .state) ≡ true → Able (lent w)) → (out : List ℕ) (ch : ChannelId) (buf received : List ℕ) → Counts (lent w) (outcome w (readCall out ch buf received))
-unfolding outcome readOf policyOf
+unfolding outcome readOutcome policyOf
 read-counted w f out ch buf received =
     counts-checked-out (lent w) (isWhole (w .state)) (length out) _
     (λ t u big. read-counts (lent w) (f t) (length out) (length buf) big (bytesIn received) (bytes-in received) (long (lent w .state .header .negotiated) (length (w .rx)) (length (w .store)) u .rx-long) ch)

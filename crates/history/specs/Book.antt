@@ -11,7 +11,7 @@ use Rattle.config.specs.declared.negotiated.RxPolicy.{RxPolicy}
 use Rattle.protocol.specs.declared.command.Command.the-variants.{Close, Write}
 use Rattle.protocol.specs.declared.message.Message.{Message}
 use Rattle.protocol.specs.Command.{wordOf, isOpen, isReady}
-use Rattle.protocol.specs.Message.{messageOf}
+use Rattle.protocol.specs.Message.{messageSize, messageOf}
 use Rattle.slot.specs.declared.ChannelSlot.{ChannelSlot}
 use Rattle.slot.specs.Ids.{namedBy}
 use Rattle.slot.specs.Slot.{emptySlot, withRemote, withNumbers, settledOf}
@@ -182,7 +182,7 @@ headerAt received = messageOf received
 
 -- its payload
 abbrev pub payloadAt : List ℕ → ℕ → List ℕ
-payloadAt received used = part received 24 (used - 24)
+payloadAt received used = part received messageSize (used - messageSize)
 
 -- a WRTE's header
 abbrev pub isWrte : Message → Bool
@@ -235,7 +235,7 @@ packetB d i received mine o b =
 unfoldable pub readUsedB : RxPolicy → List Book → ℕ → ℕ → ℕ → List ℕ → Seen → Book → Book
 readUsedB p d i before room received o b =
     cond (eqb (o .number) 4) (damagedB before (headerAt received) (payloadAt received (o .used)) b)
-    (cond (isWrte (headerAt received) && eqb (headerAt received .arg1) (b .local) && leb (o .used - 24) room)
+    (cond (isWrte (headerAt received) && eqb (headerAt received .arg1) (b .local) && leb (o .used - messageSize) room)
     (handedB (o .got) (wrteB before (payloadAt received (o .used)) (o .number) b))
     (cond (ownEnd (b .local) (b .remote) (headerAt received)) (closedB b)
     (handedB (o .got) (settleB p room (frameB d i before (headerAt received) (payloadAt received (o .used)) (o .number) b)))))
@@ -264,7 +264,7 @@ isOn i b ch = eqb (ch .slot) i && eqb (b .local) (ch .local .0)
 abbrev pub never : Message → Bool
 never m = false
 
--- a CLSE that ends a waiting open
+-- a CLSE that ends a pending open
 abbrev pub endsOpen : ℕ → Message → Bool
 endsOpen number m = isClse m && isRefused number
 

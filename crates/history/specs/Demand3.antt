@@ -9,18 +9,20 @@ use Rattle.protocol.specs.Command.{isReady}
 use Rattle.le.specs.Le.{part}
 use Rattle.config.specs.declared.negotiated.RxPolicy.{RxPolicy}
 use Rattle.slot.specs.declared.ChannelSlot.{ChannelSlot}
-use Rattle.slot.specs.declared.Credit.the-variants.{Of}
-use Rattle.slot.specs.Slot.{creditOf}
+use Rattle.credit.specs.declared.Credit.the-variants.{Of}
+use Rattle.credit.specs.Credit.{creditOf}
 use Rattle.state.specs.State.{stateOf}
-use Rattle.table.specs.Dispatch.{slotIn, shareOf}
+use Rattle.table.specs.Table.{slotIn}
+use Rattle.rx_store.specs.RxStore.{shareOf}
 use Rattle.connection.specs.Frames.{Sent}
 use Rattle.history.specs.Run.{Call, receivedIn, World, after, afterAll, Start, begins, policyIn}
 use Rattle.history.specs.Seen.{saidBy, countOf, Event, seenOf, eventsOf}
 use Rattle.history.specs.Book.{Book, creditIn, headerAt, isWrte, Ledger, clean, bookAt, entry, ledgerOf}
+use Rattle.protocol.specs.Message.{messageSize}
 
 -- the slot at a place
-abbrev pub slotOf : World → ℕ → ChannelSlot
-slotOf w i = slotIn (stateOf (w .state) .slots) i
+abbrev pub placeSlot : World → ℕ → ChannelSlot
+placeSlot w i = slotIn (stateOf (w .state) .slots) i
 
 -- the bytes that its numbers name in its share of the receive store
 unfoldable pub runOf : List ℕ → ℕ → ℕ → ChannelSlot → List ℕ
@@ -28,7 +30,7 @@ runOf rx cap i s = part (shareOf rx cap i) (s .head) (s .buffered)
 
 -- no two channels in the table share a local number
 abbrev pub Distinct : World → Type 0
-Distinct w = (i j : ℕ) → slotOf w i .filled ≡ true → slotOf w j .filled ≡ true → slotOf w i .local .0 ≡ slotOf w j .local .0 → i ≡ j
+Distinct w = (i j : ℕ) → placeSlot w i .filled ≡ true → placeSlot w j .filled ≡ true → placeSlot w i .local .0 ≡ placeSlot w j .local .0 → i ≡ j
 
 -- asked after every call
 unfoldable pub Apart : World → List Call → Type 0
@@ -56,7 +58,7 @@ pub record Place (p : RxPolicy) (s : ChannelSlot) (buffered : List ℕ) (b : Boo
 -- the lengths of frames together
 unfoldable pub sizeOf : List Sent → ℕ
 sizeOf [] = 0
-sizeOf (f ∷ fs) = 24 + length (f .payload) + sizeOf fs
+sizeOf (f ∷ fs) = messageSize + length (f .payload) + sizeOf fs
 
 -- an OKAY reads, as the signed number that it is, as what the book adds; in the plain mode it carries none
 pub record Reads (p : RxPolicy) (f : Sent) : Type 0 where
@@ -99,7 +101,7 @@ AllTold p l (e ∷ es) = Told p l e × AllTold p (entry p (e .call) (seenOf e) l
 
 -- what is claimed of a list of calls that left w
 pub record Claims (p : RxPolicy) (w : World) (es : List Event) : Type 0 where
-  pub places : (i : ℕ) → Place p (slotOf w i) (runOf (w .rx) (p .«rx_cap») i (slotOf w i)) (bookAt (ledgerOf p clean es) i)
+  pub places : (i : ℕ) → Place p (placeSlot w i) (runOf (w .rx) (p .«rx_cap») i (placeSlot w i)) (bookAt (ledgerOf p clean es) i)
   pub calls : AllTold p clean es
 
 -- for every make that is not refused and all lists of calls in which no two channels share a local number

@@ -8,18 +8,18 @@ use lib.ListN.{length, drop}
 use Rattle.le.specs.Le.{Bytes}
 use Rattle.config.specs.declared.negotiated.Negotiated.{Negotiated}
 use Rattle.config.specs.Config.{storesFit}
-use Rattle.state.specs.State.{layout, stateOf}
-use Rattle.state.specs.Valid.{isWhole}
-use Rattle.connection.specs.Answer.{numberOf}
+use Rattle.state.specs.State.{stateLen, layout, stateOf}
+use Rattle.state_whole.specs.Whole.{isWhole}
+use Rattle.connection.specs.Answer.{answerNumber}
 use Rattle.history.specs.Run.{Call, World, outcome, afterAll, Start, begins, agreedIn}
 
 -- what holds of the lent bytes: n is what was negotiated; state, rx and store are the bytes that make was lent
 pub record Unbroken (n : Negotiated) (state rx store : List ℕ) (w : World) : Type 0 where
   -- the state is whole: a layout, and behind it the bytes that were lent
   pub is-whole : isWhole (w .state) ≡ true
-  pub is-layout : w .state ≡ layout (stateOf (w .state)) ++ drop 4730 state
+  pub is-layout : w .state ≡ layout (stateOf (w .state)) ++ drop stateLen state
   -- so no call answers 13
-  pub never : (x : Call) → numberOf (outcome w x .answer) ≡ 13 → ⊥
+  pub never : (x : Call) → answerNumber (outcome w x .answer) ≡ 13 → ⊥
   -- both stores keep their lengths, and what was negotiated stays
   pub rx-length : length (w .rx) ≡ length rx
   pub store-length : length (w .store) ≡ length store
@@ -39,4 +39,4 @@ StaysWhole =
 abbrev pub Always8 : Type 0
 Always8 =
     (s : Start) → storesFit (s .config) (length (s .rx)) (length (s .store)) ≡ false
-    → (cs : List Call) → (afterAll (begins s) cs ≡ begins s) × ((x : Call) → numberOf (outcome (afterAll (begins s) cs) x .answer) ≡ 8)
+    → (cs : List Call) → (afterAll (begins s) cs ≡ begins s) × ((x : Call) → answerNumber (outcome (afterAll (begins s) cs) x .answer) ≡ 8)

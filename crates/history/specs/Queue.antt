@@ -1,4 +1,4 @@
--- The opens that wait change as the Rust's IncomingQueue does, over every list of calls (incoming.rs; connection.rs, `act_on`
+-- The queued opens change as the Rust's IncomingQueue does, over every list of calls (incoming.rs; connection.rs, `act_on`
 -- and `try_accept_incoming`). Assumes nothing.
 use Prim.Native.Nat.{ℕ, _≤_}
 use mathlib.Core.Bool.{Bool, true, false, cond, _&&_, _||_}
@@ -8,7 +8,7 @@ use lib.Dec.{eqb, ltb}
 use lib.ListN.{length, take, drop}
 use Rattle.le.specs.Le.{part}
 use Rattle.config.specs.Config.{storesFit}
-use Rattle.incoming.specs.Incoming.{Incoming, waits, withdrawn}
+use Rattle.incoming.specs.Incoming.{Incoming, queuedOpens, withdrawn}
 use Rattle.protocol.specs.declared.command.Command.{Command}
 use Rattle.protocol.specs.declared.command.Command.the-variants.{Sync, Connect, Open, Ready, Close, Write, Auth, StartTls}
 use Rattle.protocol.specs.declared.packet.Packet.{Packet}
@@ -17,7 +17,7 @@ use Rattle.slot.specs.declared.ChannelSlot.{ChannelSlot}
 use Rattle.slot.specs.declared.ids.RemoteId.{RemoteId}
 use Rattle.slot.specs.Ids.{closedBy}
 use Rattle.table.specs.declared.ChannelId.{ChannelId}
-use Rattle.table.specs.Dispatch.{remotePlace}
+use Rattle.table_dispatch.specs.Dispatch.{remotePlace}
 use Rattle.connection.specs.declared.Answer.{Answer}
 use Rattle.connection.specs.declared.Answer.the-variants.{Nothing, Front as FrontIs}
 use Rattle.connection.specs.declared.Received.{Received}
@@ -25,11 +25,11 @@ use Rattle.connection.specs.declared.Received.the-variants.{Packet as PacketIs,
 use Rattle.connection.specs.Calls.{Lent, idsIn, slotFor, receivedOf, bodyOf, isDirect}
 use Rattle.history.specs.Run.{bytesIn, Call, openCall, dispatchCall, settleCall, takeCall, readCall, writeCall, closeCall, frontTaken, World, lent, outcome, after, afterAll, Start, begins}
 
--- what waits, in order: remote number, credit and destination of each
+-- what is queued, in order: remote number, credit and destination of each
 unfoldable pub queueOf : Lent → List Incoming
-queueOf l = waits (l .state .header .negotiated .config .«max_payload») (l .store) (take (l .state .header .queued) (l .state .opens))
+queueOf l = queuedOpens (l .state .header .negotiated .config .«max_payload») (l .store) (take (l .state .header .queued) (l .state .queue))
 
--- what waits in the lent bytes
+-- what is queued in the lent bytes
 abbrev pub queueIn : World → List Incoming
 queueIn w = queueOf (lent w)
 
@@ -42,7 +42,7 @@ pub data QueueMove : Type 0 where
   withdraws : RemoteId → QueueMove
   pops : QueueMove
 
--- `push_back`, which `act_on` does while fewer wait than there are channels; `withdraw`; `pop_front`
+-- `push_back`, which `act_on` does while fewer are queued than there are channels; `withdraw`; `pop_front`
 unfoldable pub moved : ℕ → QueueMove → List Incoming → List Incoming
 moved channels stays q = q
 moved channels (pushes x) q = cond (ltb (length q) channels) (q ++ x ∷ []) q
@@ -77,10 +77,10 @@ usedMove used m = cond (eqb used 0) stays m
 abbrev pub receivedMove : Lent → (Packet → Bool) → List ℕ → ℕ → QueueMove
 receivedMove l takes received used = usedMove used (packetMove l takes received (receivedOf l received))
 
--- an open that waits takes the OKAY, WRTE or CLSE that names its number
+-- a pending open takes the OKAY, WRTE or CLSE that names its number
 unfoldable pub openTakes : Lent → Packet → Bool
 openTakes l p =
-    let mine = eqb (p .arg1) (l .state .header .waiting .local .0) in
+    let mine = eqb (p .arg1) (l .state .header .pending .local .0) in
     (isReady (p .command) && mine) || ((isWrite (p .command) && mine) || (isClose (p .command) && mine))
 
 -- a read takes its channel's WRTE that fits the buffer, and its CLSE
@@ -122,14 +122,14 @@ pub record Hands (x : Incoming) (store : List ℕ) (a : Answer) : Type 0 where
 pub record Queues (channels : ℕ) (w : World) : Type 0 where
   -- each call does what it does in the Rust
   pub moves : (x : Call) → queueIn (after w x) ≡ moved channels (moveOf w x) (queueIn w)
-  -- no more wait than there are channels
+  -- no more are queued than there are channels
   pub fits : length (queueIn w) ≤ channels
   -- taking the front hands over the first, or answers that there is none
   pub front : (x : Incoming) (xs : List Incoming) → queueIn w ≡ x ∷ xs → Hands x (after w frontTaken .store) (outcome w frontTaken .answer)
   pub none : queueIn w ≡ [] → outcome w frontTaken .answer ≡ Nothing
 
--- for every make that is not refused, all stores that are not under their lengths, and all lists of calls; at first nothing
--- waits
+-- for every make that is not refused, all stores that are not under their lengths, and all lists of calls; at first none
+-- is queued
 abbrev pub QueueIsRusts : Type 0
 QueueIsRusts =
     (s : Start) → storesFit (s .config) (length (s .rx)) (length (s .store)) ≡ true

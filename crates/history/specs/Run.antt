@@ -11,10 +11,10 @@ use Rattle.config.specs.declared.negotiated.RxPolicy.{RxPolicy}
 use Rattle.config.specs.Config.{withinLimits}
 use Rattle.config.specs.Negotiated.{negotiatedOf, policyOf}
 use Rattle.state.specs.Change.{putAll}
-use Rattle.state.specs.State.{stateOf}
-use Rattle.state.specs.Valid.{isWhole}
+use Rattle.state.specs.State.{stateLen, stateOf}
+use Rattle.state_whole.specs.Whole.{isWhole}
 use Rattle.table.specs.declared.ChannelId.{ChannelId}
-use Rattle.connection.specs.Calls.{Lent, Outcome, openOf, dispatchOf, settleOf, takeOf, readOf, writeOf, closeOf, frontCall, makeOf}
+use Rattle.connection.specs.Calls.{Lent, Outcome, openOutcome, dispatchOutcome, settleOutcome, takeOutcome, readOutcome, writeOutcome, closeOutcome, takeFrontOutcome, makeOf}
 
 -- numbers as bytes: a caller's list of any numbers stands for bytes
 unfoldable pub bytesIn : List ℕ → List ℕ
@@ -76,14 +76,14 @@ lent w = record { state = stateOf (w .state); rx = w .rx; store = w .store }
 
 -- a call's own definition on the lent bytes
 unfoldable pub outcome : World → Call → Outcome
-outcome w (openCall out destination received) = openOf (isWhole (w .state)) (lent w) (length out) (bytesIn destination) (bytesIn received)
-outcome w (dispatchCall out received) = dispatchOf (isWhole (w .state)) (lent w) (length out) (bytesIn received)
-outcome w (settleCall out ch want) = settleOf (isWhole (w .state)) (lent w) (length out) ch want
-outcome w (takeCall ch buf) = takeOf (isWhole (w .state)) (lent w) ch (length buf)
-outcome w (readCall out ch buf received) = readOf (isWhole (w .state)) (lent w) (length out) ch (length buf) (bytesIn received)
-outcome w (writeCall out ch bytes received) = writeOf (isWhole (w .state)) (lent w) (length out) ch (bytesIn bytes) (bytesIn received)
-outcome w (closeCall out ch) = closeOf (isWhole (w .state)) (lent w) (length out) ch
-outcome w frontTaken = frontCall (isWhole (w .state)) (lent w)
+outcome w (openCall out destination received) = openOutcome (isWhole (w .state)) (lent w) (length out) (bytesIn destination) (bytesIn received)
+outcome w (dispatchCall out received) = dispatchOutcome (isWhole (w .state)) (lent w) (length out) (bytesIn received)
+outcome w (settleCall out ch want) = settleOutcome (isWhole (w .state)) (lent w) (length out) ch want
+outcome w (takeCall ch buf) = takeOutcome (isWhole (w .state)) (lent w) ch (length buf)
+outcome w (readCall out ch buf received) = readOutcome (isWhole (w .state)) (lent w) (length out) ch (length buf) (bytesIn received)
+outcome w (writeCall out ch bytes received) = writeOutcome (isWhole (w .state)) (lent w) (length out) ch (bytesIn bytes) (bytesIn received)
+outcome w (closeCall out ch) = closeOutcome (isWhole (w .state)) (lent w) (length out) ch
+outcome w frontTaken = takeFrontOutcome (isWhole (w .state)) (lent w)
 
 -- what a call leaves
 unfoldable pub after : World → Call → World
@@ -112,7 +112,7 @@ pub record Start : Type 0 where
   pub rx : List ℕ
   pub store : List ℕ
   pub within : withinLimits config ≡ true
-  pub long : 4730 ≤ length state
+  pub long : stateLen ≤ length state
 
 -- the bytes that it leaves
 abbrev pub begins : Start → World

@@ -10,7 +10,7 @@ use Rattle.config.specs.declared.negotiated.Negotiated.{Negotiated}
 use Rattle.protocol.specs.declared.packet.Decoded.{Decoded}
 use Rattle.protocol.specs.declared.packet.Decoded.the-variants.{Waiting, InvalidCommand, InvalidMagic, PayloadTooLarge, InvalidChecksum, Accepted}
 use Rattle.protocol.specs.Packet.{maxPayload, payloadOf, decodeOf, usedOf}
-use Rattle.connection.specs.Answer.{numberOf, valuesOf}
+use Rattle.connection.specs.Answer.{answerNumber, answerValues}
 use Rattle.connection.specs.Calls.{Outcome, writtenBy}
 use Rattle.connection.specs.Frames.{Sent, framesBytes}
 use Rattle.history.specs.Run.{Call, openCall, dispatchCall, settleCall, takeCall, readCall, writeCall, closeCall, frontTaken, outOf, bufOf, World, lent, outcome, after}
@@ -29,10 +29,10 @@ pub record Held : Type 0 where
 abbrev pub heldBy : Negotiated → Call → Outcome → Held
 heldBy n c o =
     record {
-      number = numberOf (o .answer);
+      number = answerNumber (o .answer);
       used = o .used;
       written = writtenBy n o;
-      values = valuesOf (o .answer);
+      values = answerValues (o .answer);
       out = put (outOf c) 0 (framesBytes n (o .frames));
       buf = put (bufOf c) 0 (o .handed);
     }

@@ -8,28 +8,28 @@ use lib.ListN.{length, take, drop, getD, length-take, length-drop}
 use Rattle.le.specs.Le.{put}
 use Rattle.slot.specs.declared.ids.RemoteId.{RemoteId}
 use Rattle.state.specs.declared.Header.{Header}
-use Rattle.state.specs.declared.PendingOpen.{PendingOpen}
-use Rattle.state.specs.Change.{putOpens, Steps}
-use Rattle.state.specs.State.{stateOf, openAt, putOpen}
+use Rattle.state.specs.declared.QueuedOpen.{QueuedOpen}
+use Rattle.state.specs.Change.{putQueue, Steps}
+use Rattle.state.specs.State.{stateOf, queuedAt, putQueued}
 use Rattle.state.proofs.StateLaws.{open-in, state-full}
 use Rattle.incoming.specs.declared.Front.the-variants.{Open, Nothing}
 use Rattle.incoming.specs.declared.Keep.the-variants.{All, Without}
 use Rattle.incoming.specs.declared.Pushed.the-variants.{Queued, Full}
-use Rattle.incoming.specs.Incoming.{freeShare, kept, withQueued, Retains, withdrawal, noOpen, popped, Pushes, nextShare, pushed}
+use Rattle.incoming.specs.Incoming.{freeShare, kept, withQueued, Retains, withdrawal, noneQueued, popped, Pushes, nextShare, pushed}
 use Rattle.incoming.proofs.KeptLaws.{kept-all}
 
 module _ (h : Header) (b : List ℕ) (remote : RemoteId) (credit : ℕ) (destination store : List ℕ) where
   -- as many wait as there are channels: nothing changes
-  pub push-full : h .negotiated .config .channels ≤ h .queued → Pushes (pushed h (stateOf b .opens) remote credit destination store) b Full b store
+  pub push-full : h .negotiated .config .channels ≤ h .queued → Pushes (pushed h (stateOf b .queue) remote credit destination store) b Full b store
   unfolding pushed
   push-full k = rw (le-leb (h .negotiated .config .channels) (h .queued) k) (record { result-is = refl; state-is = refl; store-is = refl })
 
   -- else the entry is put and the destination copied to its share
   pub push-queued : (share : ℕ) (x y : List ℕ) (m : Header) → h .queued < h .negotiated .config .channels
-      → share ≡ freeShare (h .negotiated .config .channels) (take (h .queued) (stateOf b .opens))
-      → x ≡ putOpen b (h .queued) (record { remote = remote; credit = credit; share = share; length = length destination })
+      → share ≡ freeShare (h .negotiated .config .channels) (take (h .queued) (stateOf b .queue))
+      → x ≡ putQueued b (h .queued) (record { remote = remote; credit = credit; share = share; length = length destination })
       → y ≡ put store (share * h .negotiated .config .«max_payload») destination → m ≡ withQueued h (h .queued + 1)
-      → Pushes (pushed h (stateOf b .opens) remote credit destination store) b (Queued m) x y
+      → Pushes (pushed h (stateOf b .queue) remote credit destination store) b (Queued m) x y
   unfolding pushed nextShare
   push-queued share x y m k e p q f =
       rw (lt-leb (h .negotiated .config .channels) (h .queued) k, ← e) (record { result-is = ap Queued f; state-is = p; store-is = q })
@@ -37,27 +37,27 @@ module _ (h : Header) (b : List ℕ) (remote : RemoteId) (credit : ℕ) (destina
 module _ (h : Header) (b : List ℕ) where
   -- those that stay are at the front, and the header counts them
   pub withdraw-gives : (gone : RemoteId) (left : ℕ) (x : List ℕ) (m : Header)
-      → Retains (kept (Without gone) (drop 0 (take (h .queued) (stateOf b .opens)))) b left x → m ≡ withQueued h left
-      → Steps (withdrawal h (stateOf b .opens) gone) b m x
+      → Retains (kept (Without gone) (drop 0 (take (h .queued) (stateOf b .queue)))) b left x → m ≡ withQueued h left
+      → Steps (withdrawal h (stateOf b .queue) gone) b m x
   unfolding withdrawal
   withdraw-gives gone left x m r f = record { result-is = f ∙ ap (withQueued h) (r .count-is); state-is = r .state-is }
 
-  -- none waits: nothing changes
-  pub pop-nothing : h .queued ≡ 0 → Steps (popped h (stateOf b .opens)) b Nothing b
+  -- none is queued: nothing changes
+  pub pop-nothing : h .queued ≡ 0 → Steps (popped h (stateOf b .queue)) b Nothing b
   unfolding popped
   pop-nothing e = rw (eq-eqb (h .queued) 0 e) (record { result-is = refl; state-is = refl })
 
   -- else the first is answered and the others have moved up
-  pub pop-gives : (front : PendingOpen) (left : ℕ) (x : List ℕ) (m : Header) → (h .queued ≡ 0 → ⊥) → h .queued ≤ 64 → front ≡ openAt b 0
-      → Retains (kept All (drop 1 (take (h .queued) (stateOf b .opens)))) b left x → m ≡ withQueued h left
-      → Steps (popped h (stateOf b .opens)) b (Open front m) x
+  pub pop-gives : (front : QueuedOpen) (left : ℕ) (x : List ℕ) (m : Header) → (h .queued ≡ 0 → ⊥) → h .queued ≤ 64 → front ≡ queuedAt b 0
+      → Retains (kept All (drop 1 (take (h .queued) (stateOf b .queue)))) b left x → m ≡ withQueued h left
+      → Steps (popped h (stateOf b .queue)) b (Open front m) x
   unfolding popped
   pop-gives front left x m d k e r f =
-      let qs = drop 1 (take (h .queued) (stateOf b .opens)) in
-      let z = state-full b .opens in
+      let qs = drop 1 (take (h .queued) (stateOf b .queue)) in
+      let z = state-full b .queue in
       let s = kept-all qs in
       let n : length qs ≡ h .queued - 1 = simp (length-drop, length-take) (omega arith) in
       let l : left ≡ h .queued - 1 = r .count-is ∙ ap length s ∙ n in
-      let a : front ≡ getD (stateOf b .opens) 0 noOpen = e ∙ sym (open-in b 0 noOpen (omega arith)) in
+      let a : front ≡ getD (stateOf b .queue) 0 noneQueued = e ∙ sym (open-in b 0 noneQueued (omega arith)) in
       let g : m ≡ withQueued h (h .queued - 1) = f ∙ ap (withQueued h) l in
-      rw (ne-eqb (h .queued) 0 d) (record { result-is = rw (a, g); state-is = r .state-is ∙ ap (putOpens b) s })
+      rw (ne-eqb (h .queued) 0 d) (record { result-is = rw (a, g); state-is = r .state-is ∙ ap (putQueue b) s })

@@ -1,5 +1,5 @@
 pub mod KeptLaws
 pub mod Laws
+pub mod ListLaws
 pub mod QueueLaws
 pub mod ShareLaws
-pub mod WaitLaws

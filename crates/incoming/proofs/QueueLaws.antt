@@ -14,11 +14,11 @@ use Rattle.slot.specs.declared.ChannelSlot.{ChannelSlot}
 use Rattle.slot.proofs.Kept.{pick}
 use Rattle.config.specs.declared.negotiated.Negotiated.{Negotiated}
 use Rattle.state.specs.declared.Header.{Header}
-use Rattle.state.specs.declared.PendingOpen.{PendingOpen}
-use Rattle.state.specs.Change.{Change, opensTo, changedAll, Within, Step}
+use Rattle.state.specs.declared.QueuedOpen.{QueuedOpen}
+use Rattle.state.specs.Change.{Change, queueTo, changedAll, InPlace, Step}
 use Rattle.state.specs.State.{Connection}
-use Rattle.state.specs.Valid.{opensFine}
-use Rattle.state.proofs.RowLaws.{Every, every-set, every-append, every-drop, every-take}
+use Rattle.state_whole.specs.Whole.{queueFine}
+use Rattle.le.proofs.RowLaws.{Every, every-set, every-append, every-drop, every-take}
 use Rattle.state.proofs.StateLaws.{OpenFits}
 use Rattle.incoming.specs.declared.Front.{Front}
 use Rattle.incoming.specs.declared.Front.the-variants.{Open, Nothing}
@@ -27,17 +27,17 @@ use Rattle.incoming.specs.declared.Pushed.{Pushed}
 use Rattle.incoming.specs.declared.Pushed.the-variants.{Queued, Full}
 use Rattle.incoming.specs.Incoming.{freeShare, kept, withQueued, withdrawal, popped, nextShare, PushOutcome, pushed}
 use Rattle.incoming.proofs.ShareLaws.{next-below, share-fits}
-use Rattle.incoming.proofs.WaitLaws.{push-fine, kept-fine, rest-fine, kept-every, length-kept}
-use Rattle.state.proofs.WholeLaws.{Whole, OpensWhole}
+use Rattle.incoming.proofs.ListLaws.{push-fine, kept-fine, rest-fine, kept-every, length-kept}
+use Rattle.state_whole.proofs.WholeLaws.{Whole, OpensWhole}
 
--- changes to the waiting opens os alone, after which the header is `more`
-pub record QueueKeeps (n : Negotiated) (ss : List ChannelSlot) (os : List PendingOpen) (more : Header) (xs : List Change) : Type 0 where
-  pub within : Every Within xs
+-- changes to the queued opens os alone, after which the header is `more`
+pub record QueueKeeps (n : Negotiated) (ss : List ChannelSlot) (os : List QueuedOpen) (more : Header) (xs : List Change) : Type 0 where
+  pub within : Every InPlace xs
   pub slots : (d : Connection) → changedAll d xs .slots ≡ d .slots
-  pub facts : (d : Connection) → d .opens ≡ os → Whole n more ss (changedAll d xs .opens)
+  pub facts : (d : Connection) → d .queue ≡ os → Whole n more ss (changedAll d xs .queue)
 
-module _ (h : Header) (ss : List ChannelSlot) (os : List PendingOpen) (g : Whole (h .negotiated) h ss os) where
-  whole-queue : (q : ℕ) (qs : List PendingOpen) → q ≤ h .negotiated .config .channels → OpensWhole (h .negotiated) q qs → Whole (h .negotiated) (withQueued h q) ss qs
+module _ (h : Header) (ss : List ChannelSlot) (os : List QueuedOpen) (g : Whole (h .negotiated) h ss os) where
+  whole-queue : (q : ℕ) (qs : List QueuedOpen) → q ≤ h .negotiated .config .channels → OpensWhole (h .negotiated) q qs → Whole (h .negotiated) (withQueued h q) ss qs
   whole-queue q qs k o =
       record {
         limits = g .limits;
@@ -51,8 +51,8 @@ module _ (h : Header) (ss : List ChannelSlot) (os : List PendingOpen) (g : Whole
               queue-fits = k;
             };
         slots = g .slots;
-        waits = g .waits;
-        opens = o;
+        pending-open = g .pending-open;
+        queue = o;
       }
 
   -- ---- a push
@@ -72,44 +72,44 @@ module _ (h : Header) (ss : List ChannelSlot) (os : List PendingOpen) (g : Whole
       let n = h .negotiated .config .channels in
       let payload = h .negotiated .config .«max_payload» in
       let w = g .limits .within in
-      let full = g .opens .full in
+      let full = g .queue .full in
       pick (PushKeeps (length store)) (leb n (h .queued)) (λ t. tt)
       (λ t. let room = leb-false n (h .queued) t in
       let share = next-below n (h .queued) os room in
       let fits = share-fits n payload (h .queued) (freeShare n (take (h .queued) os)) os room refl in
-      let q : PendingOpen = record { remote = remote; credit = credit; share = freeShare n (take (h .queued) os); length = length destination } in (
+      let q : QueuedOpen = record { remote = remote; credit = credit; share = freeShare n (take (h .queued) os); length = length destination } in (
         record {
           within = (omega arith, tt);
           slots = λ c. refl;
           facts = λ c e.
-              whole-queue (h .queued + 1) (set (c .opens) (h .queued) q) (omega arith)
-              (subst (λ (x : List PendingOpen). OpensWhole (h .negotiated) (h .queued + 1) (set x (h .queued) q)) (sym e)
+              whole-queue (h .queued + 1) (set (c .queue) (h .queued) q) (omega arith)
+              (subst (λ (x : List QueuedOpen). OpensWhole (h .negotiated) (h .queued + 1) (set x (h .queued) q)) (sym e)
               (record {
                 full = length-set os (h .queued) q ∙ full;
-                fits = every-set OpenFits os (h .queued) q (g .opens .fits) (record { remote = r; credit = k; share = omega arith; length = omega arith });
-                fine = push-fine n payload (h .queued) os q (omega arith) (g .opens .fine) share d;
+                fits = every-set OpenFits os (h .queued) q (g .queue .fits) (record { remote = r; credit = k; share = omega arith; length = omega arith });
+                fine = push-fine n payload (h .queued) os q (omega arith) (g .queue .fine) share d;
               }));
         },
         length-put store (freeShare n (take (h .queued) os) * payload) destination (omega arith),
       ))
 
-  -- ---- the first ones are replaced by no more than waited
+  -- ---- the first ones are replaced by no more than were queued
 
-  opens-keeps : (ks : List PendingOpen) (q : ℕ) → length ks ≡ q → q ≤ h .negotiated .config .channels → Every OpenFits ks
-      → opensFine (h .negotiated .config .channels) (h .negotiated .config .«max_payload») ks ≡ true → QueueKeeps (h .negotiated) ss os (withQueued h q) (opensTo ks ∷ [])
+  opens-keeps : (ks : List QueuedOpen) (q : ℕ) → length ks ≡ q → q ≤ h .negotiated .config .channels → Every OpenFits ks
+      → queueFine (h .negotiated .config .channels) (h .negotiated .config .«max_payload») ks ≡ true → QueueKeeps (h .negotiated) ss os (withQueued h q) (queueTo ks ∷ [])
   opens-keeps ks q e k f o =
       let most = g .limits .within .most-channels in
-      let full = g .opens .full in
+      let full = g .queue .full in
       record {
         within = (omega arith, tt);
         slots = λ c. refl;
         facts = λ c z.
-            whole-queue q (ks ++ drop (length ks) (c .opens)) k
-            (subst (λ (x : List PendingOpen). OpensWhole (h .negotiated) q (ks ++ drop (length ks) x)) (sym z)
+            whole-queue q (ks ++ drop (length ks) (c .queue)) k
+            (subst (λ (x : List QueuedOpen). OpensWhole (h .negotiated) q (ks ++ drop (length ks) x)) (sym z)
             (record {
               full = simp (length-append, length-drop) (omega arith);
-              fits = every-append OpenFits ks (drop (length ks) os) f (every-drop OpenFits (length ks) os (g .opens .fits));
-              fine = ap (opensFine (h .negotiated .config .channels) (h .negotiated .config .«max_payload»)) (take-at ks (drop (length ks) os) q e) ∙ o;
+              fits = every-append OpenFits ks (drop (length ks) os) f (every-drop OpenFits (length ks) os (g .queue .fits));
+              fine = ap (queueFine (h .negotiated .config .channels) (h .negotiated .config .«max_payload»)) (take-at ks (drop (length ks) os) q e) ∙ o;
             }));
       }
 
@@ -124,8 +124,8 @@ module _ (h : Header) (ss : List ChannelSlot) (os : List PendingOpen) (g : Whole
       let m : length qs ≤ h .queued = simp length-take (omega arith) in
       let w = g .header .queue-fits in
       opens-keeps (kept (Without gone) qs) (length (kept (Without gone) qs)) refl (omega arith)
-      (kept-every OpenFits (Without gone) qs (every-take OpenFits (h .queued) os (g .opens .fits)))
-      (kept-fine n payload (Without gone) qs (g .opens .fine))
+      (kept-every OpenFits (Without gone) qs (every-take OpenFits (h .queued) os (g .queue .fits)))
+      (kept-fine n payload (Without gone) qs (g .queue .fine))
 
   -- a pop
   abbrev pub FrontAs : List Change → Front → Type 0
@@ -143,9 +143,9 @@ module _ (h : Header) (ss : List ChannelSlot) (os : List PendingOpen) (g : Whole
       let qs = take (h .queued) os in
       let w = g .header .queue-fits in
       let most = g .limits .within .most-channels in
-      let full = g .opens .full in
+      let full = g .queue .full in
       pick FrontKeeps (eqb (h .queued) 0) (λ t. tt)
       (λ t. let e : length (drop 1 qs) ≡ h .queued - 1 = simp (length-drop, length-take) (omega arith) in
       opens-keeps (drop 1 qs) (h .queued - 1) e (omega arith)
-      (every-drop OpenFits 1 qs (every-take OpenFits (h .queued) os (g .opens .fits)))
-      (rest-fine n payload 1 qs (g .opens .fine)))
+      (every-drop OpenFits 1 qs (every-take OpenFits (h .queued) os (g .queue .fits)))
+      (rest-fine n payload 1 qs (g .queue .fine)))

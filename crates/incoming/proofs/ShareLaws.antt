@@ -10,10 +10,10 @@ use lib.Dec.{eqb, ltb}
 use lib.ListN.{length, take, drop, length-take}
 use Rattle.le.proofs.Parts.{by-test}
 use Rattle.rx_store.proofs.Laws.{share-before}
-use Rattle.state.specs.declared.PendingOpen.{PendingOpen}
-use Rattle.state.specs.State.{stateOf, openAt}
-use Rattle.state.proofs.RowLaws.{walk-over, never}
-use Rattle.state.proofs.ValidLaws.{open-here}
+use Rattle.state.specs.declared.QueuedOpen.{QueuedOpen}
+use Rattle.state.specs.State.{stateOf, queuedAt}
+use Rattle.le.proofs.RowLaws.{walk-over, never}
+use Rattle.state_whole.proofs.ValidLaws.{open-here}
 use Rattle.incoming.specs.Incoming.{named, freeFrom, freeShare}
 
 -- ---- the walk over the entries
@@ -21,27 +21,27 @@ use Rattle.incoming.specs.Incoming.{named, freeFrom, freeShare}
 module _ (k : ℕ) (b : List ℕ) (n i : ℕ) where
   module _ (h : i < n) (m : n ≤ 64) where
     -- it stands at place i: it stops there, or goes on
-    pub named-stop : openAt b i .share ≡ k → named k (drop i (take n (stateOf b .opens))) ≡ true
+    pub named-stop : queuedAt b i .share ≡ k → named k (drop i (take n (stateOf b .queue))) ≡ true
     unfolding named
-    named-stop e = rw (open-here b n i h m, eq-eqb (openAt b i .share) k e)
+    named-stop e = rw (open-here b n i h m, eq-eqb (queuedAt b i .share) k e)
 
-    pub named-step : (openAt b i .share ≡ k → ⊥) → named k (drop i (take n (stateOf b .opens))) ≡ named k (drop (i + 1) (take n (stateOf b .opens)))
+    pub named-step : (queuedAt b i .share ≡ k → ⊥) → named k (drop i (take n (stateOf b .queue))) ≡ named k (drop (i + 1) (take n (stateOf b .queue)))
     unfolding named
-    named-step e = rw (open-here b n i h m, ne-eqb (openAt b i .share) k e, add-one)
+    named-step e = rw (open-here b n i h m, ne-eqb (queuedAt b i .share) k e, add-one)
 
   -- it is at its end: none uses the share
-  pub named-end : n ≤ i → named k (drop i (take n (stateOf b .opens))) ≡ false
+  pub named-end : n ≤ i → named k (drop i (take n (stateOf b .queue))) ≡ false
   unfolding named
-  named-end h = rw (walk-over (stateOf b .opens) n i h)
+  named-end h = rw (walk-over (stateOf b .queue) n i h)
 
 -- ---- the walk over the shares
 
 -- it starts at share 0
-pub free-start : (n : ℕ) (qs : List PendingOpen) → freeShare n qs ≡ freeFrom 0 (n - 0) qs
+pub free-start : (n : ℕ) (qs : List QueuedOpen) → freeShare n qs ≡ freeFrom 0 (n - 0) qs
 unfolding freeShare
 free-start n qs = let e : n - 0 ≡ n = omega arith in rw e
 
-module _ (k n : ℕ) (qs : List PendingOpen) where
+module _ (k n : ℕ) (qs : List QueuedOpen) where
   -- it stands at share k: it goes on, or stops there
   pub free-step : k < n → named k qs ≡ true → freeFrom k (n - k) qs ≡ freeFrom (k + 1) (n - (k + 1)) qs
   unfolding freeFrom
@@ -59,7 +59,7 @@ module _ (k n : ℕ) (qs : List PendingOpen) where
 -- ---- one is free
 
 -- none is found: all of them are used
-all-used : (k n : ℕ) (qs : List PendingOpen) → k + n ≤ freeFrom k n qs → (j : ℕ) → k ≤ j → j < k + n → named j qs ≡ true
+all-used : (k n : ℕ) (qs : List QueuedOpen) → k + n ≤ freeFrom k n qs → (j : ℕ) → k ≤ j → j < k + n → named j qs ≡ true
 unfolding freeFrom
 all-used k zero qs h j a b = absurd (omega arith)
 all-used k (suc n) qs h j a b =
@@ -75,11 +75,11 @@ all-used k (suc n) qs h j a b =
     (λ t. let g : k + suc n ≤ k = rw t at h in absurd (omega arith))
 
 -- those that do not use share k
-unfoldable others : ℕ → List PendingOpen → List PendingOpen
+unfoldable others : ℕ → List QueuedOpen → List QueuedOpen
 others k [] = []
 others k (q ∷ qs) = cond (eqb (q .share) k) (others k qs) (q ∷ others k qs)
 
-others-le : (k : ℕ) (qs : List PendingOpen) → length (others k qs) ≤ length qs
+others-le : (k : ℕ) (qs : List QueuedOpen) → length (others k qs) ≤ length qs
 unfolding others
 others-le k [] = omega arith
 others-le k (q ∷ qs) =
@@ -87,7 +87,7 @@ others-le k (q ∷ qs) =
     by-test (eqb (q .share) k) (λ t. rw t (omega arith)) (λ t. rw t (omega arith))
 
 -- fewer, where one uses it
-others-fewer : (k : ℕ) (qs : List PendingOpen) → named k qs ≡ true → length (others k qs) < length qs
+others-fewer : (k : ℕ) (qs : List QueuedOpen) → named k qs ≡ true → length (others k qs) < length qs
 unfolding others named
 others-fewer k [] e = never e
 others-fewer k (q ∷ qs) e =
@@ -96,7 +96,7 @@ others-fewer k (q ∷ qs) e =
     (λ t. let r = others-fewer k qs (rw t at e) in rw t (omega arith))
 
 -- other shares are used as before
-others-named : (k j : ℕ) (qs : List PendingOpen) → j < k → named j (others k qs) ≡ named j qs
+others-named : (k j : ℕ) (qs : List QueuedOpen) → j < k → named j (others k qs) ≡ named j qs
 unfolding others named
 others-named k j [] h = refl
 others-named k j (q ∷ qs) h =
@@ -106,7 +106,7 @@ others-named k j (q ∷ qs) h =
     (λ t. rw (t, r))
 
 -- n shares in use are used by n entries at least
-used-le : (n : ℕ) (qs : List PendingOpen) → ((j : ℕ) → j < n → named j qs ≡ true) → n ≤ length qs
+used-le : (n : ℕ) (qs : List QueuedOpen) → ((j : ℕ) → j < n → named j qs ≡ true) → n ≤ length qs
 used-le zero qs h = omega arith
 used-le (suc n) qs h =
     let a = others-fewer n qs (h n (omega arith)) in
@@ -114,7 +114,7 @@ used-le (suc n) qs h =
     omega arith
 
 -- while fewer than n wait, one of n shares is free
-pub free-exists : (n : ℕ) (qs : List PendingOpen) → length qs < n → freeShare n qs < n
+pub free-exists : (n : ℕ) (qs : List QueuedOpen) → length qs < n → freeShare n qs < n
 unfolding freeShare
 free-exists n qs h =
     by-test (ltb (freeFrom 0 n qs) n)
@@ -124,7 +124,7 @@ free-exists n qs h =
     let z = used-le n qs (λ j l. all-used 0 n qs (omega arith) j (omega arith) (omega arith)) in
     absurd (omega arith))
 
-free-from-unused : (k n : ℕ) (qs : List PendingOpen) → freeFrom k n qs < k + n → named (freeFrom k n qs) qs ≡ false
+free-from-unused : (k n : ℕ) (qs : List QueuedOpen) → freeFrom k n qs < k + n → named (freeFrom k n qs) qs ≡ false
 unfolding freeFrom
 free-from-unused k zero qs h = absurd (omega arith)
 free-from-unused k (suc n) qs h =
@@ -133,17 +133,17 @@ free-from-unused k (suc n) qs h =
     (λ t. rw t t)
 
 -- a share that is found is used by none
-pub free-unused : (n : ℕ) (qs : List PendingOpen) → freeShare n qs < n → named (freeShare n qs) qs ≡ false
+pub free-unused : (n : ℕ) (qs : List QueuedOpen) → freeShare n qs < n → named (freeShare n qs) qs ≡ false
 unfolding freeShare
 free-unused n qs h = free-from-unused 0 n qs (omega arith)
 
 -- while fewer wait than there are channels, the next share is one of the channels'
-pub next-below : (channels queued : ℕ) (opens : List PendingOpen) → queued < channels → freeShare channels (take queued opens) < channels
-next-below channels queued opens h = let n : length (take queued opens) < channels = simp length-take (omega arith) in free-exists channels (take queued opens) n
+pub next-below : (channels queued : ℕ) (queue : List QueuedOpen) → queued < channels → freeShare channels (take queued queue) < channels
+next-below channels queued queue h = let n : length (take queued queue) < channels = simp length-take (omega arith) in free-exists channels (take queued queue) n
 
 -- and lies in the open store
-pub share-fits : (channels payload queued share : ℕ) (opens : List PendingOpen) → queued < channels → share ≡ freeShare channels (take queued opens)
+pub share-fits : (channels payload queued share : ℕ) (queue : List QueuedOpen) → queued < channels → share ≡ freeShare channels (take queued queue)
     → share * payload + payload ≤ channels * payload
-share-fits channels payload queued share opens h e =
-    let f = next-below channels queued opens h in
+share-fits channels payload queued share queue h e =
+    let f = next-below channels queued queue h in
     share-before share channels payload (omega arith)

@@ -1,4 +1,4 @@
--- The device's OPENs that wait to be taken (incoming.rs): the first `queued` of the state's 64 entries, and their
+-- The device's queued OPENs (incoming.rs): the first `queued` of the state's 64 entries, and their
 -- destinations in the open store, share k from byte k * max_payload on. Assumes nothing.
 use Prim.Native.Nat.{ℕ, zero, suc, _+_, _-_, _*_, _≤_}
 use mathlib.Core.Bool.{Bool, true, false, not, cond, _||_}
@@ -9,16 +9,17 @@ use lib.ListN.{length, take, drop, getD}
 use Rattle.le.specs.Le.{part, put}
 use Rattle.slot.specs.declared.ids.RemoteId.{RemoteId}
 use Rattle.state.specs.declared.Header.{Header}
-use Rattle.state.specs.declared.PendingOpen.{PendingOpen}
-use Rattle.state.specs.Change.{Change, openTo, opensTo, putOpens, putAll, Step}
+use Rattle.state.specs.declared.QueuedOpen.{QueuedOpen}
+use Rattle.state.specs.Change.{Change, queuedTo, queueTo, putQueue, putAll, Step}
 use Rattle.incoming.specs.declared.Front.{Front}
 use Rattle.incoming.specs.declared.Front.the-variants.{Open, Nothing}
 use Rattle.incoming.specs.declared.Keep.{Keep}
 use Rattle.incoming.specs.declared.Keep.the-variants.{All, Without}
 use Rattle.incoming.specs.declared.Pushed.{Pushed}
 use Rattle.incoming.specs.declared.Pushed.the-variants.{Queued, Full}
+use Rattle.state.specs.State.{stateLen}
 
--- ---- what waits
+-- ---- what is queued
 
 -- an OPEN of the device's: its number there, the credit it gives us, and what it wants to reach
 pub record Incoming : Type 0 where
@@ -27,81 +28,81 @@ pub record Incoming : Type 0 where
   pub destination : List ℕ
 
 -- what an entry stands for: its destination is the first bytes of its share of the open store
-unfoldable pub waitsAs : ℕ → List ℕ → PendingOpen → Incoming
-waitsAs payload store q = record { remote = q .remote; credit = q .credit; destination = part store (q .share * payload) (q .length) }
+unfoldable pub queuedAs : ℕ → List ℕ → QueuedOpen → Incoming
+queuedAs payload store q = record { remote = q .remote; credit = q .credit; destination = part store (q .share * payload) (q .length) }
 
--- what waits, in order
-unfoldable pub waits : ℕ → List ℕ → List PendingOpen → List Incoming
-waits payload store [] = []
-waits payload store (q ∷ qs) = waitsAs payload store q ∷ waits payload store qs
+-- what is queued, in order
+unfoldable pub queuedOpens : ℕ → List ℕ → List QueuedOpen → List Incoming
+queuedOpens payload store [] = []
+queuedOpens payload store (q ∷ qs) = queuedAs payload store q ∷ queuedOpens payload store qs
 
 -- ---- shares
 
 -- whether one of them uses share k
-unfoldable pub named : ℕ → List PendingOpen → Bool
+unfoldable pub named : ℕ → List QueuedOpen → Bool
 named k [] = false
 named k (q ∷ qs) = eqb (q .share) k || named k qs
 
 -- the lowest of the n shares from k on that none of them uses, or k + n
-unfoldable pub freeFrom : ℕ → ℕ → List PendingOpen → ℕ
+unfoldable pub freeFrom : ℕ → ℕ → List QueuedOpen → ℕ
 freeFrom k zero qs = k
 freeFrom k (suc n) qs = cond (named k qs) (freeFrom (suc k) n qs) k
 
 -- the lowest share below n that none of them uses, or n
-unfoldable pub freeShare : ℕ → List PendingOpen → ℕ
+unfoldable pub freeShare : ℕ → List QueuedOpen → ℕ
 freeShare n qs = freeFrom 0 n qs
 
 -- ---- those that stay
 
 -- all stay, or all but those of one remote number
-unfoldable pub staysBy : Keep → PendingOpen → Bool
+unfoldable pub staysBy : Keep → QueuedOpen → Bool
 staysBy All q = true
 staysBy (Without gone) q = not (eqb (q .remote .0) (gone .0))
 
 -- those that stay, in order
-unfoldable pub kept : Keep → List PendingOpen → List PendingOpen
+unfoldable pub kept : Keep → List QueuedOpen → List QueuedOpen
 kept keep [] = []
 kept keep (q ∷ qs) = cond (staysBy keep q) (q ∷ kept keep qs) (kept keep qs)
 
--- what waits without those of one remote number
+-- what is queued without those of one remote number
 unfoldable pub withdrawn : RemoteId → List Incoming → List Incoming
 withdrawn gone [] = []
 withdrawn gone (x ∷ xs) = cond (eqb (x .remote .0) (gone .0)) (withdrawn gone xs) (x ∷ withdrawn gone xs)
 
 -- what `retain` promises: how many stay, and every byte of the state
-pub record Retains (qs : List PendingOpen) (before : List ℕ) (r : ℕ) (after : List ℕ) : Type 0 where
+pub record Retains (qs : List QueuedOpen) (before : List ℕ) (r : ℕ) (after : List ℕ) : Type 0 where
   pub count-is : r ≡ length qs
-  pub state-is : after ≡ putOpens before qs
+  pub state-is : after ≡ putQueue before qs
 
 -- ---- what withdraw and pop_front do
 
 -- what both ask for: a whole state's length, no more than 64 channels, no more OPENs than channels
 pub record QueueOk (h : Header) (state : ℕ) : Type 0 where
-  pub state-long : 4730 ≤ state
+  pub state-long : stateLen ≤ state
   pub most-channels : h .negotiated .config .channels ≤ 64
   pub queue-fits : h .queued ≤ h .negotiated .config .channels
 
--- a header that says how many wait
+-- a header that says how many are queued
 abbrev pub withQueued : Header → ℕ → Header
-withQueued h n = record { negotiated = h .negotiated; «next_local» = h .«next_local»; waiting = h .waiting; queued = n }
+withQueued h n = record { negotiated = h .negotiated; «next_local» = h .«next_local»; pending = h .pending; queued = n }
 
 -- those of one remote number go, the others close up
-unfoldable pub withdrawal : Header → List PendingOpen → RemoteId → Step Header
-withdrawal h opens gone =
+unfoldable pub withdrawal : Header → List QueuedOpen → RemoteId → Step Header
+withdrawal h queue gone =
     record {
-      result = withQueued h (length (kept (Without gone) (take (h .queued) opens)));
-      changes = opensTo (kept (Without gone) (take (h .queued) opens)) ∷ [];
+      result = withQueued h (length (kept (Without gone) (take (h .queued) queue)));
+      changes = queueTo (kept (Without gone) (take (h .queued) queue)) ∷ [];
     }
 
 -- an entry of zeros, for places past the end
-abbrev pub noOpen : PendingOpen
-noOpen = record { remote = record { 0 = 0 }; credit = 0; share = 0; length = 0 }
+abbrev pub noneQueued : QueuedOpen
+noneQueued = record { remote = record { 0 = 0 }; credit = 0; share = 0; length = 0 }
 
--- the first goes, the others move up; nothing where none waits
-unfoldable pub popped : Header → List PendingOpen → Step Front
-popped h opens =
+-- the first goes, the others move up; nothing where none is queued
+unfoldable pub popped : Header → List QueuedOpen → Step Front
+popped h queue =
     cond (eqb (h .queued) 0) (record { result = Nothing; changes = [] })
-    (record { result = Open (getD opens 0 noOpen) (withQueued h (h .queued - 1)); changes = opensTo (drop 1 (take (h .queued) opens)) ∷ [] })
+    (record { result = Open (getD queue 0 noneQueued) (withQueued h (h .queued - 1)); changes = queueTo (drop 1 (take (h .queued) queue)) ∷ [] })
 
 -- ---- what push_back does
 
@@ -123,16 +124,16 @@ pub record Pushes (o : PushOutcome) (before : List ℕ) (r : Pushed) (after stor
   pub state-is : after ≡ putAll before (o .changes)
   pub store-is : store ≡ o .store
 
--- the share of the next OPEN: the lowest that none of those that wait uses
-unfoldable pub nextShare : Header → List PendingOpen → ℕ
-nextShare h opens = freeShare (h .negotiated .config .channels) (take (h .queued) opens)
+-- the share of the next OPEN: the lowest that none of those that are queued uses
+unfoldable pub nextShare : Header → List QueuedOpen → ℕ
+nextShare h queue = freeShare (h .negotiated .config .channels) (take (h .queued) queue)
 
--- an OPEN is put behind those that wait; none is while as many wait as there are channels
-unfoldable pub pushed : Header → List PendingOpen → RemoteId → ℕ → List ℕ → List ℕ → PushOutcome
-pushed h opens remote credit destination store =
+-- an OPEN is put behind those that are queued; none is while as many are queued as there are channels
+unfoldable pub pushed : Header → List QueuedOpen → RemoteId → ℕ → List ℕ → List ℕ → PushOutcome
+pushed h queue remote credit destination store =
     cond (leb (h .negotiated .config .channels) (h .queued)) (record { result = Full; changes = []; store = store })
     (record {
       result = Queued (withQueued h (h .queued + 1));
-      changes = openTo (h .queued) (record { remote = remote; credit = credit; share = nextShare h opens; length = length destination }) ∷ [];
-      store = put store (nextShare h opens * h .negotiated .config .«max_payload») destination;
+      changes = queuedTo (h .queued) (record { remote = remote; credit = credit; share = nextShare h queue; length = length destination }) ∷ [];
+      store = put store (nextShare h queue * h .negotiated .config .«max_payload») destination;
     })

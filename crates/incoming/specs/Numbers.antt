@@ -10,7 +10,7 @@ unfoldable pub pushedNumber : Pushed → ℕ
 pushedNumber (Queued more) = 0
 pushedNumber Full = 0
 
--- 101: none waits
+-- 101: none is queued
 unfoldable pub frontNumber : Front → ℕ
 frontNumber (Open q less) = 0
 frontNumber Nothing = 101

@@ -1,20 +1,21 @@
-// The device's OPENs that wait to be taken: entries in the lent state, the first `queued` of 64, and their destinations in
+// The device's queued OPENs: entries in the lent state, the first `queued` of 64, and their destinations in
 // the open store, where share k is the max_payload bytes from k * max_payload on. The header is handed in and handed back
 // by value: the caller stores it once.
 use slot::ids::RemoteId;
 use state::Header;
-use state::PendingOpen;
-use state::open_at;
-use state::put_open;
+use state::QueuedOpen;
+use state::put_queued;
+use state::queued_at;
 ghost use mathlib.Core.Path.{_≡_};
 ghost use Prim.Native.Nat.{_≤_};
 ghost use lib.ListN.{length, take, drop};
 ghost use Rattle.state.specs.Change.{Steps};
-ghost use Rattle.state.specs.State.{stateOf};
+ghost use Rattle.state.specs.State.{stateLen, stateOf};
 ghost use Rattle.incoming.specs.Numbers.{pushedNumber, frontNumber};
-ghost use Rattle.incoming.specs.Incoming.{named, freeShare, staysBy, kept, withQueued, Retains, QueueOk, withdrawal, popped, PushRoom, Pushes, pushed};
+ghost use Rattle.incoming.specs.Incoming.{named, freeShare, staysBy, kept, withQueued, Retains, QueueOk, withdrawal, popped};
+ghost use Rattle.incoming.specs.Incoming.{PushRoom, Pushes, pushed};
 
-// Which of the waiting OPENs stay.
+// Which of the queued OPENs stay.
 pub enum Keep {
     All,
     Without(RemoteId),
@@ -26,12 +27,12 @@ pub enum Pushed {
 }
 
 pub enum Front {
-    Open(PendingOpen, Header),
+    Open(QueuedOpen, Header),
     Nothing,
 }
 
 // The number of each answer (docs/SCOPE.md, 6): an OPEN beyond the number of channels is answered by a CLSE and is no refusal of
-// the call; 101 for none waiting.
+// the call; 101 for none queued.
 
 impl Pushed {
     pub fn number(self) -> u32
@@ -57,12 +58,12 @@ impl Front {
 
 // Whether one of the first `queued` uses share k.
 fn is_named(state: &[u8], queued: usize, k: usize) -> bool
-    requires { ⌜ (queued ≤ 64) × (4730 ≤ length (now state)) ⌝ }
-    ensures { λ r. ⌜ r ≡ named k (take queued (stateOf (now (state .entry)) .opens)) ⌝ }
+    requires { ⌜ (queued ≤ 64) × (stateLen ≤ length (now state)) ⌝ }
+    ensures { λ r. ⌜ r ≡ named k (take queued (stateOf (now (state .entry)) .queue)) ⌝ }
 {
     let mut i = 0;
     while i < queued {
-        let q = open_at(state, i);
+        let q = queued_at(state, i);
         if q.share == k {
             return true;
         }
@@ -73,8 +74,8 @@ fn is_named(state: &[u8], queued: usize, k: usize) -> bool
 
 // The lowest share below n that none of the first `queued` uses, or n.
 fn free_share(state: &[u8], queued: usize, n: usize) -> usize
-    requires { ⌜ (queued ≤ 64) × (4730 ≤ length (now state)) ⌝ }
-    ensures { λ r. ⌜ r ≡ freeShare n (take queued (stateOf (now (state .entry)) .opens)) ⌝ }
+    requires { ⌜ (queued ≤ 64) × (stateLen ≤ length (now state)) ⌝ }
+    ensures { λ r. ⌜ r ≡ freeShare n (take queued (stateOf (now (state .entry)) .queue)) ⌝ }
 {
     let mut k = 0;
     while k < n {
@@ -87,7 +88,7 @@ fn free_share(state: &[u8], queued: usize, n: usize) -> usize
     n
 }
 
-fn stays(q: PendingOpen, keep: Keep) -> bool
+fn stays(q: QueuedOpen, keep: Keep) -> bool
     ensures { λ r. ⌜ r ≡ staysBy keep q ⌝ }
 {
     let remote = q.remote;
@@ -99,15 +100,16 @@ fn stays(q: PendingOpen, keep: Keep) -> bool
 
 // Those of the first `queued` that stay, from place `from` on, moved to the front in one pass. Answers how many.
 fn retain(state: &mut [u8], from: usize, queued: usize, keep: Keep) -> usize
-    requires { ⌜ (from ≤ queued) × (queued ≤ 64) × (4730 ≤ length (now state)) ⌝ }
-    ensures { λ r. ⌜ Retains (kept keep (drop from (take queued (stateOf (now (state .entry)) .opens)))) (now (state .entry)) r (now (state .exit)) ⌝ }
+    requires { ⌜ (from ≤ queued) × (queued ≤ 64) × (stateLen ≤ length (now state)) ⌝ }
+    ensures { λ r. ⌜ Retains (kept keep (drop from (take queued (stateOf (now (state .entry)) .queue)))) (now (state .entry)) r
+        (now (state .exit)) ⌝ }
 {
     let mut w = 0;
     let mut i = from;
     while i < queued {
-        let q = open_at(state, i);
+        let q = queued_at(state, i);
         if stays(q, keep) {
-            put_open(state, w, q);
+            put_queued(state, w, q);
             w += 1;
             i += 1;
         } else {
@@ -125,7 +127,7 @@ fn with_queued(h: Header, queued: usize) -> Header
     moved
 }
 
-// An OPEN put behind those that wait, its destination in a share that none of them uses; refused while as many wait as
+// An OPEN put behind those that are queued, its destination in a share that none of them uses; refused while as many are queued as
 // there are channels.
 pub fn push_back(
     state: &mut [u8],
@@ -136,7 +138,8 @@ pub fn push_back(
     destination: &[u8],
 ) -> Pushed
     requires { ⌜ PushRoom h (length (now state)) (length (now store)) (length (now destination)) ⌝ }
-    ensures { λ r. ⌜ Pushes (pushed h (stateOf (now (state .entry)) .opens) remote credit (now (destination .entry)) (now (store .entry))) (now (state .entry)) r (now (state .exit)) (now (store .exit)) ⌝ }
+    ensures { λ r. ⌜ Pushes (pushed h (stateOf (now (state .entry)) .queue) remote credit (now (destination .entry)) (now (store .entry)))
+        (now (state .entry)) r (now (state .exit)) (now (store .exit)) ⌝ }
 {
     let negotiated = h.negotiated;
     let config = negotiated.config;
@@ -148,10 +151,10 @@ pub fn push_back(
     let at = share * config.max_payload as usize;
     le::copy_at(store, at, destination);
     let length = destination.len();
-    put_open(
+    put_queued(
         state,
         queued,
-        PendingOpen {
+        QueuedOpen {
             remote,
             credit,
             share,
@@ -164,21 +167,21 @@ pub fn push_back(
 // Drops those of this remote number.
 pub fn withdraw(state: &mut [u8], h: Header, remote: RemoteId) -> Header
     requires { ⌜ QueueOk h (length (now state)) ⌝ }
-    ensures { λ r. ⌜ Steps (withdrawal h (stateOf (now (state .entry)) .opens) remote) (now (state .entry)) r (now (state .exit)) ⌝ }
+    ensures { λ r. ⌜ Steps (withdrawal h (stateOf (now (state .entry)) .queue) remote) (now (state .entry)) r (now (state .exit)) ⌝ }
 {
     let left = retain(state, 0, h.queued, Keep::Without(remote));
     with_queued(h, left)
 }
 
-// Takes the one that waited longest; its destination lies in the open store until the next push.
+// Takes the one that was queued first; its destination lies in the open store until the next push.
 pub fn pop_front(state: &mut [u8], h: Header) -> Front
     requires { ⌜ QueueOk h (length (now state)) ⌝ }
-    ensures { λ r. ⌜ Steps (popped h (stateOf (now (state .entry)) .opens)) (now (state .entry)) r (now (state .exit)) ⌝ }
+    ensures { λ r. ⌜ Steps (popped h (stateOf (now (state .entry)) .queue)) (now (state .entry)) r (now (state .exit)) ⌝ }
 {
     if h.queued == 0 {
         return Front::Nothing;
     }
-    let front = open_at(state, 0);
+    let front = queued_at(state, 0);
     let left = retain(state, 1, h.queued, Keep::All);
     Front::Open(front, with_queued(h, left))
 }

@@ -5,21 +5,21 @@ use mathlib.Core.Bool.{Bool, true, false}
 use mathlib.Core.List.{List, [], _∷_, _++_}
 use lib.ListN.{take}
 use Rattle.le.specs.Le.{bytesOf}
-use Rattle.protocol.specs.declared.checksum.Checksum.the-variants.{Compute, Skip}
+use Rattle.checksum.specs.declared.Checksum.the-variants.{Compute, Skip}
 use Rattle.protocol.specs.declared.command.Command.the-variants.{Ready, Close, Write}
 use Rattle.protocol.specs.declared.packet.Decoded.{Decoded}
-use Rattle.protocol.specs.Checksum.{checkFor}
-use Rattle.protocol.specs.Features.{hasFeature}
-use Rattle.protocol.specs.Packet.{decodeOf, numberOf as decodedNumber, usedOf, frameBytes}
+use Rattle.checksum.specs.Checksum.{checkFor}
+use Rattle.features.specs.Features.{hasFeature}
+use Rattle.protocol.specs.Packet.{decodeOf, decodedNumber, usedOf, packetBytes}
 use Rattle.config.specs.declared.ConnectionConfig.{ConnectionConfig}
 use Rattle.config.specs.declared.negotiated.RxPolicy.{RxPolicy}
 use Rattle.config.specs.Config.{capOf, ceilingOf, watermarkOf, openingCredit}
 use Rattle.config.specs.Negotiated.{negotiatedOf}
-use Rattle.connection.specs.Answer.{numberOf}
+use Rattle.connection.specs.Answer.{answerNumber}
 use Rattle.connection.specs.Calls.{Outcome, dispatchStep}
 use Rattle.slot.specs.declared.ChannelSlot.{ChannelSlot}
-use Rattle.slot.specs.declared.Credit.{Credit}
-use Rattle.slot.specs.declared.Credit.the-variants.{Of, Short}
+use Rattle.credit.specs.declared.Credit.{Credit}
+use Rattle.credit.specs.declared.Credit.the-variants.{Of, Short}
 use Rattle.slot.specs.declared.PendingAck.{PendingAck}
 use Rattle.slot.specs.declared.PendingAck.the-variants.{Len, Nothing}
 use Rattle.slot.specs.declared.Readied.{Readied}
@@ -28,13 +28,13 @@ use Rattle.slot.specs.declared.Settled.{Settled}
 use Rattle.slot.specs.declared.Taken.{Taken}
 use Rattle.slot.specs.declared.Taken.the-variants.{Data, Nothing as NothingTaken, Closed as ClosedTaken}
 use Rattle.slot.specs.declared.Wrote.{Wrote}
-use Rattle.slot.specs.Numbers.{creditNumber, readiedNumber, decisionNumber, takenNumber}
-use Rattle.slot.specs.Slot.{creditOf, acceptedSlot, isClosed, readyOf, wroteOf, settledOf, takenOf}
-use Rattle.state.specs.declared.PendingOpen.{PendingOpen}
+use Rattle.credit.specs.Credit.{creditNumber, creditOf}
+use Rattle.slot.specs.Numbers.{readiedNumber, decisionNumber, takenNumber}
+use Rattle.slot.specs.Slot.{acceptedSlot, isClosed, readyOf, wroteOf, settledOf, takenOf}
+use Rattle.state.specs.declared.QueuedOpen.{QueuedOpen}
 use Rattle.state.specs.Change.{changedAll}
 use Rattle.state.specs.State.{Connection}
-use Rattle.table.specs.Dispatch.{slotIn}
-use Rattle.table.specs.Table.{nextLocal}
+use Rattle.table.specs.Table.{slotIn, nextLocal}
 
 -- a row: the case, what the definitions give, and what the document says
 pub record Row : Type 0 where
@@ -50,8 +50,8 @@ abbrev answer : Decoded → List ℕ
 answer d = decodedNumber d ∷ usedOf d ∷ []
 
 -- waiting, used 0
-abbrev waiting : List ℕ
-waiting = 100 ∷ 0 ∷ []
+abbrev pending : List ℕ
+pending = 100 ∷ 0 ∷ []
 
 -- M2's credit of 5
 abbrev five : List ℕ
@@ -59,15 +59,15 @@ five = bytesOf 4 5
 
 -- M2's frame: OKAY, local 1, remote 7, delayed, 5 bytes, with a check
 abbrev okay : ℕ → List ℕ
-okay check = frameBytes Ready 1 7 five check
+okay check = packetBytes Ready 1 7 five check
 
 -- M3's header: a WRTE of this many bytes, none of them here
 abbrev header : ℕ → List ℕ
-header n = take 12 (frameBytes Write 1 7 [] 0) ++ bytesOf 4 n ++ bytesOf 4 0 ++ bytesOf 4 0xbaab_ada8
+header n = take 12 (packetBytes Write 1 7 [] 0) ++ bytesOf 4 n ++ bytesOf 4 0 ++ bytesOf 4 0xbaab_ada8
 
 -- M4's frame: a WRTE of the bytes 1, 2, 255
 abbrev write : ℕ → List ℕ
-write check = frameBytes Write 1 7 (1 ∷ 2 ∷ 255 ∷ []) check
+write check = packetBytes Write 1 7 (1 ∷ 2 ∷ 255 ∷ []) check
 
 -- yes is 1, no is 0
 abbrev flag : Bool → List ℕ
@@ -135,9 +135,9 @@ took (Data s n) = takenNumber (Data s n) ∷ n ∷ s .settled ∷ []
 took NothingTaken = takenNumber NothingTaken ∷ []
 took (ClosedTaken e) = takenNumber (ClosedTaken e) ∷ []
 
--- M9: a channel whose remote number is 0, and two opens that wait, one of remote number 0
-abbrev waits : ℕ → PendingOpen
-waits remote = record { remote = record { 0 = remote }; credit = 0; share = remote; length = 0 }
+-- M9: a channel whose remote number is 0, and two queued opens, one of remote number 0
+abbrev queuedOpens : ℕ → QueuedOpen
+queuedOpens remote = record { remote = record { 0 = remote }; credit = 0; share = remote; length = 0 }
 
 abbrev zeros : Connection
 zeros =
@@ -146,35 +146,35 @@ zeros =
           record {
             negotiated = negotiatedOf true true 0x0100_0001 4096 (record { channels = 2; «max_payload» = 4096; «max_rx_per_channel» = 16384; «initial_ack_bytes» = 32768 });
             «next_local» = 2;
-            waiting = record { on = false; slot = 0; local = record { 0 = 0 } };
+            pending = record { on = false; slot = 0; local = record { 0 = 0 } };
             queued = 2;
           };
       slots = acceptedSlot (record { local = record { 0 = 1 }; remote = record { 0 = 0 } }) 0 ten ∷ [];
-      opens = waits 0 ∷ waits 1 ∷ [];
+      queue = queuedOpens 0 ∷ queuedOpens 1 ∷ [];
     }
 
 -- CLSE 0, 0 dispatched
 abbrev clse : Outcome
-clse = dispatchStep (record { state = zeros; rx = []; store = [] }) (frameBytes Close 0 0 [] 0)
+clse = dispatchStep (record { state = zeros; rx = []; store = [] }) (packetBytes Close 0 0 [] 0)
 
--- its answer's number, the bytes used, whether slot 0 is closed, and the remote numbers that wait
-abbrev remotes : List PendingOpen → List ℕ
+-- its answer's number, the bytes used, whether slot 0 is closed, and the remote numbers that are queued
+abbrev remotes : List QueuedOpen → List ℕ
 remotes [] = []
 remotes (q ∷ qs) = q .remote .0 ∷ remotes qs
 
 abbrev withdrew : Connection → Outcome → List ℕ
 withdrew c o =
-    numberOf (o .answer) ∷ o .used ∷ flag (isClosed (slotIn (changedAll c (o .changes) .slots) 0 .state))
-    ++ remotes (take (changedAll c (o .changes) .header .queued) (changedAll c (o .changes) .opens))
+    answerNumber (o .answer) ∷ o .used ∷ flag (isClosed (slotIn (changedAll c (o .changes) .slots) 0 .state))
+    ++ remotes (take (changedAll c (o .changes) .header .queued) (changedAll c (o .changes) .queue))
 
 -- M1 to M10, in order
 unfoldable pub table : List Row
 table =
-    row 1 (answer (decodeOf (take 23 (okay 0)) 4096)) waiting
+    row 1 (answer (decodeOf (take 23 (okay 0)) 4096)) pending
     ∷ row 2 (okay (checkFor Skip five)) (okaySaid (0 ∷ 0 ∷ 0 ∷ 0 ∷ []))
     ∷ row 2 (okay (checkFor Compute five)) (okaySaid (5 ∷ 0 ∷ 0 ∷ 0 ∷ []))
     ∷ row 3 (answer (decodeOf (header 4097) 4096)) (3 ∷ 0 ∷ [])
-    ∷ row 3 (answer (decodeOf (header 4096) 4096)) waiting
+    ∷ row 3 (answer (decodeOf (header 4096) 4096)) pending
     ∷ row 4 (answer (decodeOf (write 258) 4096)) (0 ∷ 27 ∷ [])
     ∷ row 4 (answer (decodeOf (write 0) 4096)) (0 ∷ 27 ∷ [])
     ∷ row 4 (answer (decodeOf (write 257) 4096)) (4 ∷ 27 ∷ [])

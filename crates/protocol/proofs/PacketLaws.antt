@@ -6,17 +6,17 @@ use Prim.Native.Nat.{ℕ, _+_, _-_, _≤_}
 use native.Mathlib.Omega.{arith}
 use lib.ListN.{length, take, drop, length-append}
 use borrow.Author.Tests.{le-ltb}
-use Rattle.le.specs.Le.{part, put}
+use Rattle.le.specs.Le.{put}
 use Rattle.le.proofs.Parts.{lent-part, put-put}
-use Rattle.protocol.specs.declared.checksum.Checksum.{Checksum}
+use Rattle.checksum.specs.declared.Checksum.{Checksum}
 use Rattle.protocol.specs.declared.command.Command.{Command}
 use Rattle.protocol.specs.declared.command.CommandWord.{CommandWord}
 use Rattle.protocol.specs.declared.message.Message.{Message}
 use Rattle.protocol.specs.declared.packet.Encoded.the-variants.{Written}
-use Rattle.protocol.specs.Checksum.{checkFor}
+use Rattle.checksum.specs.Checksum.{checkFor}
 use Rattle.protocol.specs.Command.{wordOf, magicOf, commandOf}
 use Rattle.protocol.specs.Message.{messageOf, headerBytes}
-use Rattle.protocol.specs.Packet.{maxPayload, payloadOf, checkPasses, namedOf, decodeOf, messageFor, frameBytes, frameFor, Puts, encodeOf, Encodes}
+use Rattle.protocol.specs.Packet.{maxPayload, payloadOf, checkPasses, namedOf, decodeOf, messageFor, packetBytes, frameFor, Puts, encodeOf, Encodes}
 use Rattle.protocol.proofs.MessageLaws.{length-header}
 
 -- the check of the part that the code lends is the check of the payload
@@ -30,7 +30,7 @@ pub framed : (d d₁ d₂ payload : List ℕ) (at : ℕ) (c : Command) (a b : �
     → word ≡ wordOf c → check ≡ checkFor k payload → magic ≡ magicOf c
     → d₁ ≡ put d at (headerBytes (record { command = word; arg0 = a; arg1 = b; «data_length» = length payload; «data_check» = check; magic = magic }))
     → d₂ ≡ put d₁ (at + 24) payload → r ≡ at + 24 + length payload → Puts d at (frameFor c a b payload k) r d₂
-unfolding frameBytes messageFor
+unfolding packetBytes messageFor
 framed d d₁ d₂ payload at c a b k word check magic r h ew ek em e₁ e₂ er =
     let w = messageFor c a b payload (checkFor k payload) in
     record {
@@ -39,8 +39,8 @@ framed d d₁ d₂ payload at c a b k word check magic r h ew ek em e₁ e₂ er
     }
 
 -- a frame is its header and its payload
-pub frame-length : (c : Command) (a b : ℕ) (payload : List ℕ) (check : ℕ) → length (frameBytes c a b payload check) ≡ 24 + length payload
-unfolding frameBytes
+pub frame-length : (c : Command) (a b : ℕ) (payload : List ℕ) (check : ℕ) → length (packetBytes c a b payload check) ≡ 24 + length payload
+unfolding packetBytes
 frame-length c a b payload check = rw (length-append, length-header)
 
 -- with the header here, what its command gives is the answer

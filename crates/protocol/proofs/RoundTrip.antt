@@ -14,8 +14,8 @@ use lib.Seq.{take-add, drop-at, take-at, take-append-seam}
 use borrow.Author.Tests.{ltb-false, le-ltb, eq-eqb, eqb-true, not-false}
 use Rattle.le.specs.Le.{part, put, Bytes}
 use Rattle.le.proofs.Parts.{by-test, length-part}
-use Rattle.protocol.specs.declared.checksum.Checksum.{Checksum}
-use Rattle.protocol.specs.declared.checksum.Checksum.the-variants.{Compute, Skip}
+use Rattle.checksum.specs.declared.Checksum.{Checksum}
+use Rattle.checksum.specs.declared.Checksum.the-variants.{Compute, Skip}
 use Rattle.protocol.specs.declared.command.Command.{Command}
 use Rattle.protocol.specs.declared.command.CommandWord.{CommandWord}
 use Rattle.protocol.specs.declared.command.CommandWord.the-variants.{Known, Invalid}
@@ -23,11 +23,11 @@ use Rattle.protocol.specs.declared.message.Message.{Message}
 use Rattle.protocol.specs.declared.packet.Packet.{Packet}
 use Rattle.protocol.specs.declared.packet.Decoded.the-variants.{Accepted}
 use Rattle.protocol.specs.declared.packet.Encoded.the-variants.{Written}
-use Rattle.protocol.specs.Checksum.{sumOf, checkFor}
+use Rattle.checksum.specs.Checksum.{sumOf, checkFor}
 use Rattle.protocol.specs.Command.{wordOf, magicOf, commandOf}
 use Rattle.protocol.specs.Message.{messageOf, headerBytes}
-use Rattle.protocol.specs.Packet.{maxPayload, payloadOf, checkPasses, packetOf, knownOf, namedOf, decodeOf, messageFor, frameBytes, encodeOf}
-use Rattle.protocol.proofs.ChecksumLaws.{check-small}
+use Rattle.protocol.specs.Packet.{maxPayload, payloadOf, checkPasses, packetOf, knownOf, namedOf, decodeOf, messageFor, packetBytes, encodeOf}
+use Rattle.checksum.proofs.ChecksumLaws.{check-small}
 use Rattle.protocol.proofs.CommandLaws.{word-names, named-word, word-small, magic-small}
 use Rattle.protocol.proofs.MessageLaws.{Words, length-header, read-header, write-header}
 use Rattle.protocol.proofs.PacketLaws.{frame-length}
@@ -113,11 +113,11 @@ pub record Has-bytes (s : List ℕ) (limit : ℕ) (p : Packet) : Type 0 where
   pub whole : length (payloadOf s (p .«data_length»)) ≡ p .«data_length»
   pub within : p .«data_length» ≤ min limit maxPayload
   pub passes : checkPasses check (payloadOf s (p .«data_length»)) ≡ true
-  pub bytes-are : s ≡ frameBytes (p .command) (p .arg0) (p .arg1) (payloadOf s (p .«data_length»)) check ++ drop (24 + p .«data_length») s
+  pub bytes-are : s ≡ packetBytes (p .command) (p .arg0) (p .arg1) (payloadOf s (p .«data_length»)) check ++ drop (24 + p .«data_length») s
 
 accepted-of : (s : List ℕ) (limit : ℕ) (c : Command) → Bytes s → 24 ≤ length s → messageOf s .command ≡ wordOf c
     → Known-says s limit c (messageOf s) (packetOf c (messageOf s)) → Has-bytes s limit (packetOf c (messageOf s))
-unfolding packetOf payloadOf frameBytes
+unfolding packetOf payloadOf packetBytes
 accepted-of s limit c h n w k =
     let m = messageOf s in
     let l = length-part s 24 (m .«data_length») (k .whole) in
@@ -142,11 +142,11 @@ accepted-bytes s limit p h e =
 -- ---- what the definition accepts is not refused
 
 module _ (c : Command) (a b : ℕ) (payload rest : List ℕ) (check : ℕ) where
-  frame-rest : frameBytes c a b payload check ++ rest ≡ headerBytes (messageFor c a b payload check) ++ (payload ++ rest)
-  unfolding frameBytes
+  frame-rest : packetBytes c a b payload check ++ rest ≡ headerBytes (messageFor c a b payload check) ++ (payload ++ rest)
+  unfolding packetBytes
   frame-rest = append-assoc (headerBytes (messageFor c a b payload check)) payload rest
 
-  pub frame-payload : payloadOf (frameBytes c a b payload check ++ rest) (length payload) ≡ payload
+  pub frame-payload : payloadOf (packetBytes c a b payload check ++ rest) (length payload) ≡ payload
   unfolding payloadOf part
   frame-payload =
       let m = messageFor c a b payload check in
@@ -154,11 +154,11 @@ module _ (c : Command) (a b : ℕ) (payload rest : List ℕ) (check : ℕ) where
 
   pub not-refused : (limit : ℕ) → a < 2 ^ 32 → b < 2 ^ 32 → check < 2 ^ 32 → length payload ≤ min limit maxPayload
       → checkPasses check payload ≡ true
-      → decodeOf (frameBytes c a b payload check ++ rest) limit ≡ Accepted (record { command = c; arg0 = a; arg1 = b; «data_length» = length payload })
+      → decodeOf (packetBytes c a b payload check ++ rest) limit ≡ Accepted (record { command = c; arg0 = a; arg1 = b; «data_length» = length payload })
   unfolding decodeOf namedOf knownOf packetOf messageFor
   not-refused limit ha hb hk hl ok =
       let m = messageFor c a b payload check in
-      let s = frameBytes c a b payload check ++ rest in
+      let s = packetBytes c a b payload check ++ rest in
       let w : Words m = record {
         command-fits = word-small c;
         arg0-fits = ha;
@@ -204,7 +204,7 @@ encode-decode c a b payload k out limit n ha hb hl e =
     (λ t. let f = rw (t₁, t) at e in let z : _≡_ {A = ℕ} 0 1 = cc in absurd (omega arith))
     (λ t₂. let f = rw (t₁, t₂) at e in
     let check = checkFor k payload in
-    let rest = drop (0 + length (frameBytes c a b payload check)) out in
+    let rest = drop (0 + length (packetBytes c a b payload check)) out in
     rw (t₁, t₂) (record {
       length-is = cc;
       frame-is = not-refused c a b payload rest check limit ha hb (check-small k payload) (omega (arith, ltb-false)) (own-check k payload);
@@ -223,7 +223,7 @@ decode-encode s limit p k out h e right room =
     let check = checkFor k payload in
     let x = accepted-bytes s limit p h e in
     let same : x .check ≡ check = x .check-is ∙ right in
-    let fb = frameBytes (p .command) (p .arg0) (p .arg1) payload check in
+    let fb = packetBytes (p .command) (p .arg0) (p .arg1) payload check in
     let l : length fb ≡ 24 + p .«data_length» = frame-length (p .command) (p .arg0) (p .arg1) payload check ∙ ap (λ (j : ℕ). 24 + j) (x .whole) in
     let b : s ≡ fb ++ drop (24 + p .«data_length») s = rw same at (x .bytes-are) in
     let t : take (24 + p .«data_length») s ≡ fb =

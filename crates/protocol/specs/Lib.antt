@@ -1,5 +1,3 @@
-pub mod Checksum
 pub mod Command
-pub mod Features
 pub mod Message
 pub mod Packet

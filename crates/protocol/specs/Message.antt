@@ -5,6 +5,10 @@ use mathlib.Core.List.{List, _++_}
 use Rattle.le.specs.Le.{numOf, bytesOf, part}
 use Rattle.protocol.specs.declared.message.Message.{Message}
 
+-- the length of a header
+abbrev pub messageSize : ℕ
+messageSize = 24
+
 -- the header that bytes begin with
 unfoldable pub messageOf : List ℕ → Message
 messageOf s =
@@ -17,7 +21,7 @@ messageOf s =
       magic = numOf (part s 20 4);
     }
 
--- the 24 bytes of a header
+-- a header's bytes
 unfoldable pub headerBytes : Message → List ℕ
 headerBytes m =
     bytesOf 4 (m .command) ++ bytesOf 4 (m .arg0) ++ bytesOf 4 (m .arg1) ++ bytesOf 4 (m .«data_length»)

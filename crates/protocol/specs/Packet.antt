@@ -6,7 +6,7 @@ use mathlib.Core.List.{List, _++_}
 use lib.Dec.{ltb, eqb}
 use lib.ListN.{length}
 use Rattle.le.specs.Le.{numOf, part, put}
-use Rattle.protocol.specs.declared.checksum.Checksum.{Checksum}
+use Rattle.checksum.specs.declared.Checksum.{Checksum}
 use Rattle.protocol.specs.declared.command.Command.{Command}
 use Rattle.protocol.specs.declared.command.CommandWord.{CommandWord}
 use Rattle.protocol.specs.declared.command.CommandWord.the-variants.{Known, Invalid}
@@ -16,9 +16,9 @@ use Rattle.protocol.specs.declared.packet.Decoded.{Decoded}
 use Rattle.protocol.specs.declared.packet.Decoded.the-variants.{Waiting, InvalidCommand, InvalidMagic, PayloadTooLarge, InvalidChecksum, Accepted}
 use Rattle.protocol.specs.declared.packet.Encoded.{Encoded}
 use Rattle.protocol.specs.declared.packet.Encoded.the-variants.{Written, OutShort, PayloadTooLarge as TooLarge}
-use Rattle.protocol.specs.Checksum.{sumOf, checkFor}
+use Rattle.checksum.specs.Checksum.{sumOf, checkFor}
 use Rattle.protocol.specs.Command.{wordOf, magicOf, commandOf}
-use Rattle.protocol.specs.Message.{messageOf, headerBytes}
+use Rattle.protocol.specs.Message.{messageSize, messageOf, headerBytes}
 
 -- the longest payload of a frame
 abbrev pub maxPayload : ℕ
@@ -30,7 +30,7 @@ emptyPacket c a b = record { command = c; arg0 = a; arg1 = b; «data_length» = 
 
 -- the payload of a frame: the n bytes from byte 24 on
 unfoldable pub payloadOf : List ℕ → ℕ → List ℕ
-payloadOf s n = part s 24 n
+payloadOf s n = part s messageSize n
 
 -- a check of 0 is not compared
 unfoldable pub checkPasses : ℕ → List ℕ → Bool
@@ -45,9 +45,9 @@ unfoldable pub knownOf : List ℕ → ℕ → Command → Message → Decoded
 knownOf s limit c m =
     cond (not (eqb (m .magic) (magicOf c))) InvalidMagic
     (cond (ltb (min limit maxPayload) (m .«data_length»)) PayloadTooLarge
-    (cond (ltb (length s) (24 + m .«data_length»)) Waiting
+    (cond (ltb (length s) (messageSize + m .«data_length»)) Waiting
     (cond (checkPasses (m .«data_check») (payloadOf s (m .«data_length»))) (Accepted (packetOf c m))
-    (InvalidChecksum (24 + m .«data_length»)))))
+    (InvalidChecksum (messageSize + m .«data_length»)))))
 
 -- 1, with the word, or what the known command gives
 unfoldable pub namedOf : List ℕ → ℕ → Message → CommandWord → Decoded
@@ -57,16 +57,16 @@ namedOf s limit m (Invalid word) = InvalidCommand word
 -- under 24 bytes: waiting; then the header decides
 unfoldable pub decodeOf : List ℕ → ℕ → Decoded
 decodeOf s limit =
-    cond (ltb (length s) 24) Waiting (namedOf s limit (messageOf s) (commandOf (messageOf s .command)))
+    cond (ltb (length s) messageSize) Waiting (namedOf s limit (messageOf s) (commandOf (messageOf s .command)))
 
 -- the number of an answer (docs/SCOPE.md, 6): a refusal's own, 100 for waiting, 0 for a frame
-unfoldable pub numberOf : Decoded → ℕ
-numberOf Waiting = 100
-numberOf (InvalidCommand word) = 1
-numberOf InvalidMagic = 2
-numberOf PayloadTooLarge = 3
-numberOf (InvalidChecksum used) = 4
-numberOf (Accepted p) = 0
+unfoldable pub decodedNumber : Decoded → ℕ
+decodedNumber Waiting = 100
+decodedNumber (InvalidCommand word) = 1
+decodedNumber InvalidMagic = 2
+decodedNumber PayloadTooLarge = 3
+decodedNumber (InvalidChecksum used) = 4
+decodedNumber (Accepted p) = 0
 
 -- bytes used: the whole frame where it is accepted or refused by 4, none otherwise
 unfoldable pub usedOf : Decoded → ℕ
@@ -75,11 +75,11 @@ usedOf (InvalidCommand word) = 0
 usedOf InvalidMagic = 0
 usedOf PayloadTooLarge = 0
 usedOf (InvalidChecksum used) = used
-usedOf (Accepted p) = 24 + p .«data_length»
+usedOf (Accepted p) = messageSize + p .«data_length»
 
 -- bytes that are missing: the rest of the header, or of the payload that it declares
 unfoldable pub missingOf : List ℕ → ℕ
-missingOf s = cond (ltb (length s) 24) (24 - length s) (numOf (part s 12 4) - (length s - 24))
+missingOf s = cond (ltb (length s) messageSize) (messageSize - length s) (numOf (part s 12 4) - (length s - messageSize))
 
 -- the header of a frame with this payload and this check
 unfoldable pub messageFor : Command → ℕ → ℕ → List ℕ → ℕ → Message
@@ -87,17 +87,17 @@ messageFor c a b payload check =
     record { command = wordOf c; arg0 = a; arg1 = b; «data_length» = length payload; «data_check» = check; magic = magicOf c }
 
 -- the bytes of a frame
-unfoldable pub frameBytes : Command → ℕ → ℕ → List ℕ → ℕ → List ℕ
-frameBytes c a b payload check = headerBytes (messageFor c a b payload check) ++ payload
+unfoldable pub packetBytes : Command → ℕ → ℕ → List ℕ → ℕ → List ℕ
+packetBytes c a b payload check = headerBytes (messageFor c a b payload check) ++ payload
 
 -- a frame whose check is the policy's
 abbrev pub frameFor : Command → ℕ → ℕ → List ℕ → Checksum → List ℕ
-frameFor c a b payload k = frameBytes c a b payload (checkFor k payload)
+frameFor c a b payload k = packetBytes c a b payload (checkFor k payload)
 
 -- what a writer at a place asks: a payload within the maximum, and room for its frame
-pub record Room (out : List ℕ) (at : ℕ) (payload : List ℕ) : Type 0 where
+pub record FrameRoom (out : List ℕ) (at : ℕ) (payload : List ℕ) : Type 0 where
   pub small : length payload ≤ maxPayload
-  pub fits : at + 24 + length payload ≤ length out
+  pub fits : at + messageSize + length payload ≤ length out
 
 -- what it promises: the frame stands at the place, every other byte is as it was, and the answer is the place past it
 pub record Puts (d : List ℕ) (at : ℕ) (frame : List ℕ) (r : ℕ) (out : List ℕ) : Type 0 where
@@ -105,19 +105,19 @@ pub record Puts (d : List ℕ) (at : ℕ) (frame : List ℕ) (r : ℕ) (out : Li
   pub end-is : r ≡ at + length frame
 
 -- what encoding gives: its answer, and the outgoing bytes after it
-pub record Outcome : Type 0 where
+pub record Encoding : Type 0 where
   pub result : Encoded
   pub out : List ℕ
 
 -- a payload over the maximum is refused by 3, a short buffer by 9; else the frame stands at the start of out
-unfoldable pub encodeOf : Command → ℕ → ℕ → List ℕ → Checksum → List ℕ → Outcome
+unfoldable pub encodeOf : Command → ℕ → ℕ → List ℕ → Checksum → List ℕ → Encoding
 encodeOf c a b payload k out =
     cond (ltb maxPayload (length payload)) (record { result = TooLarge; out = out })
-    (cond (ltb (length out) (24 + length payload)) (record { result = OutShort; out = out })
-    (record { result = Written (24 + length payload); out = put out 0 (frameFor c a b payload k) }))
+    (cond (ltb (length out) (messageSize + length payload)) (record { result = OutShort; out = out })
+    (record { result = Written (messageSize + length payload); out = put out 0 (frameFor c a b payload k) }))
 
 -- what `encode` promises: the definition's answer, and every byte of out
-pub record Encodes (o : Outcome) (r : Encoded) (out : List ℕ) : Type 0 where
+pub record Encodes (o : Encoding) (r : Encoded) (out : List ℕ) : Type 0 where
   pub result-is : r ≡ o .result
   pub out-is : out ≡ o .out
 

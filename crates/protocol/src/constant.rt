@@ -1,6 +1,4 @@
-// Versions that the protocol fixes. The lengths of a frame stand with `Packet`.
+// The version that the protocol fixes. The lengths of a frame stand with `Packet`.
 
 // Protocol version with feature negotiation.
 pub const ADB_VERSION: u32 = 0x0100_0001;
-// First protocol version whose frames carry check 0.
-pub const ADB_VERSION_SKIP_CHECKSUM: u32 = 0x0100_0001;

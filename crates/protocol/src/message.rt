@@ -3,7 +3,7 @@ ghost use mathlib.Core.Path.{_≡_};
 ghost use Prim.Native.Nat.{_+_, _≤_};
 ghost use lib.ListN.{length};
 ghost use Rattle.le.specs.Le.{put};
-ghost use Rattle.protocol.specs.Message.{messageOf, headerBytes};
+ghost use Rattle.protocol.specs.Message.{messageSize, messageOf, headerBytes};
 
 pub struct Message {
     pub command: u32,
@@ -22,7 +22,7 @@ pub struct Message {
 impl Message {
     // The header at the start of s.
     pub fn read(s: &[u8]) -> Message
-        requires { ⌜ 24 ≤ length (now s) ⌝ }
+        requires { ⌜ messageSize ≤ length (now s) ⌝ }
         ensures { λ r. ⌜ r ≡ messageOf (now (s .entry)) ⌝ }
     {
         Message {
@@ -37,7 +37,7 @@ impl Message {
 
     // The header, written at a place of out.
     pub fn put_at(self, out: &mut [u8], at: usize)
-        requires { ⌜ at + 24 ≤ length (now out) ⌝ }
+        requires { ⌜ at + messageSize ≤ length (now out) ⌝ }
         ensures { λ _. ⌜ now (out .exit) ≡ put (now (out .entry)) at (headerBytes self) ⌝ }
     {
         le::put_u32(out, at, self.command);

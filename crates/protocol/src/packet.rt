@@ -1,14 +1,16 @@
 // A frame: a header and its payload, which stays where it was received.
-use crate::checksum::Checksum;
-use crate::checksum::payload_checksum;
 use crate::command::Command;
 use crate::command::CommandWord;
 use crate::message::Message;
+use checksum::Checksum;
+use checksum::payload_checksum;
 ghost use mathlib.Core.Path.{_≡_};
 ghost use Prim.Native.Nat.{_+_, _≤_, min};
 ghost use lib.ListN.{length};
 ghost use Rattle.le.specs.Le.{part};
-ghost use Rattle.protocol.specs.Packet.{emptyPacket, payloadOf, checkPasses, knownOf, decodeOf, missingOf, frameFor, Room, Puts, encodeOf, Encodes, encodedNumber, numberOf, usedOf};
+ghost use Rattle.protocol.specs.Packet.{emptyPacket, payloadOf, checkPasses, knownOf, decodeOf, missingOf, frameFor, FrameRoom, Puts};
+ghost use Rattle.protocol.specs.Packet.{encodeOf, Encodes, encodedNumber, decodedNumber, usedOf};
+ghost use Rattle.protocol.specs.Message.{messageSize};
 
 // A decoded header. The payload is the data_length bytes that follow it.
 pub struct Packet {
@@ -37,7 +39,7 @@ pub enum Decoded {
 impl Decoded {
     // The number of the answer (docs/SCOPE.md, 6): a refusal's own, 100 for waiting, 0 for a frame.
     pub fn number(self) -> u32
-        ensures { λ r. ⌜ r ≡ numberOf self ⌝ }
+        ensures { λ r. ⌜ r ≡ decodedNumber self ⌝ }
     {
         match self {
             Decoded::Waiting => 100,
@@ -73,16 +75,6 @@ impl Encoded {
     }
 }
 
-// The smaller of two words.
-pub fn least(a: u32, b: u32) -> u32
-    ensures { λ r. ⌜ r ≡ min a b ⌝ }
-{
-    if a < b {
-        return a;
-    }
-    b
-}
-
 // A check of 0 is not compared.
 fn check_passes(check: u32, payload: &[u8]) -> bool
     ensures { λ r. ⌜ r ≡ checkPasses check (now (payload .entry)) ⌝ }
@@ -95,13 +87,13 @@ fn check_passes(check: u32, payload: &[u8]) -> bool
 
 // The answer once the header names a command.
 fn decode_known(received: &[u8], max_payload: u32, command: Command, message: Message) -> Decoded
-    requires { ⌜ 24 ≤ length (now received) ⌝ }
+    requires { ⌜ messageSize ≤ length (now received) ⌝ }
     ensures { λ r. ⌜ r ≡ knownOf (now (received .entry)) «max_payload» command message ⌝ }
 {
     if message.magic != command.magic() {
         return Decoded::InvalidMagic;
     }
-    if message.data_length > least(max_payload, Packet::MAX_PAYLOAD) {
+    if message.data_length > saturate::least_u32(max_payload, Packet::MAX_PAYLOAD) {
         return Decoded::PayloadTooLarge;
     }
     let len = message.data_length as usize;
@@ -109,7 +101,7 @@ fn decode_known(received: &[u8], max_payload: u32, command: Command, message: Me
     if received.len() < end {
         return Decoded::Waiting;
     }
-    if check_passes(message.data_check, &received[24..end]) {
+    if check_passes(message.data_check, &received[Packet::MESSAGE_SIZE..end]) {
         return Decoded::Accepted(Packet {
             command,
             arg0: message.arg0,
@@ -141,7 +133,7 @@ impl Packet {
     // The length of a frame whose payload has these many bytes.
     pub fn frame_len(data_length: usize) -> usize
         requires { ⌜ data_length ≤ 1_048_576 ⌝ }
-        ensures { λ r. ⌜ r ≡ 24 + data_length ⌝ }
+        ensures { λ r. ⌜ r ≡ messageSize + data_length ⌝ }
     {
         Packet::MESSAGE_SIZE + data_length
     }
@@ -163,11 +155,11 @@ impl Packet {
 
     // The payload of a frame, where it was received.
     pub fn payload(received: &[u8], data_length: usize) -> &[u8]
-        requires { ⌜ 24 + data_length ≤ length (now received) ⌝ }
+        requires { ⌜ messageSize + data_length ≤ length (now received) ⌝ }
         ensures { λ r. ⌜ now r ≡ payloadOf (now (received .entry)) data_length ⌝ }
     {
         let end = Packet::MESSAGE_SIZE + data_length;
-        &received[24..end]
+        &received[Packet::MESSAGE_SIZE..end]
     }
 
     // Bytes that are still missing before `decode` can answer with a frame: the rest of the header, or of the payload
@@ -196,7 +188,7 @@ impl Packet {
         payload: &[u8],
         checksum: Checksum,
     ) -> usize
-        requires { ⌜ Room (now out) at (now payload) ⌝ }
+        requires { ⌜ FrameRoom (now out) at (now payload) ⌝ }
         ensures { λ r. ⌜ Puts (now (out .entry)) at (frameFor command arg0 arg1 (now (payload .entry)) checksum) r (now (out .exit)) ⌝ }
     {
         let len = payload.len();

@@ -1,6 +1,6 @@
 -- One channel's share of the receive store: its buffered bytes lie in one run, `buffered` bytes from `head` on.
 -- Assumes nothing.
-use Prim.Native.Nat.{ℕ, _+_, _≤_}
+use Prim.Native.Nat.{ℕ, _+_, _*_, _≤_}
 use mathlib.Core.Bool.{Bool, cond}
 use mathlib.Core.Path.{_≡_}
 use mathlib.Core.List.{List, _++_}
@@ -39,3 +39,21 @@ takenHead head buffered n = cond (eqb n buffered) 0 (head + n)
 pub record Appends (share : List ℕ) (head buffered : ℕ) (payload : List ℕ) (r : ℕ) (after : List ℕ) : Type 0 where
   pub head-is : r ≡ appendedHead (length share) head buffered (length payload)
   pub share-is : after ≡ appended share head buffered payload
+
+-- ---- the store: a share of 2 × cap bytes for each slot
+
+-- slot i's share
+unfoldable pub shareOf : List ℕ → ℕ → ℕ → List ℕ
+shareOf rx cap i = part rx (i * (2 * cap)) (2 * cap)
+
+-- slot i's share lies in a store of this length
+abbrev pub ShareFits : ℕ → ℕ → ℕ → Type 0
+ShareFits i cap len = i * (2 * cap) + 2 * cap ≤ len
+
+-- a payload put behind the run in slot i's share
+unfoldable pub bufferedIn : List ℕ → ℕ → ℕ → ℕ → ℕ → List ℕ → List ℕ
+bufferedIn rx cap i head buffered payload = put rx (i * (2 * cap)) (appended (shareOf rx cap i) head buffered payload)
+
+-- the n bytes from `head` on in slot i's share
+unfoldable pub frontOf : List ℕ → ℕ → ℕ → ℕ → ℕ → List ℕ
+frontOf rx cap i head n = part (shareOf rx cap i) head n

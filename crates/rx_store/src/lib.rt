@@ -1,10 +1,10 @@
-// One channel's share of the receive store: `buffered` bytes from `head` on, in one run. Taking moves the head; an
+// The receive store: for each slot a share of 2 × cap bytes, with `buffered` bytes from `head` on in one run. Taking moves the head; an
 // append that would pass the share's end first moves the run down to the start, so that a byte is moved about once.
 ghost use mathlib.Core.Path.{_≡_};
-ghost use Prim.Native.Nat.{_+_, _≤_};
+ghost use Prim.Native.Nat.{_+_, _*_, _≤_};
 ghost use lib.ListN.{length};
 ghost use Rattle.le.specs.Le.{part, put};
-ghost use Rattle.rx_store.specs.RxStore.{Room, slid, appendedHead, takenHead, Appends};
+ghost use Rattle.rx_store.specs.RxStore.{Room, slid, appendedHead, takenHead, Appends, ShareFits, bufferedIn, frontOf};
 
 // The run, moved down to the start of the share.
 fn move_down(share: &mut [u8], head: usize, n: usize)
@@ -63,4 +63,26 @@ pub fn taken_head(head: usize, buffered: usize, n: usize) -> usize
         return 0;
     }
     head + n
+}
+
+// A payload, put behind the run in share i of the receive store.
+pub fn buffer(rx: &mut [u8], i: usize, cap: usize, head: usize, buffered: usize, payload: &[u8])
+    requires { ⌜ ShareFits i cap (length (now rx)) × Room (2 * cap) head buffered (length (now payload)) ⌝ }
+    ensures { λ _. ⌜ now (rx .exit) ≡ bufferedIn (now (rx .entry)) cap i head buffered (now (payload .entry)) ⌝ }
+{
+    let width = 2 * cap;
+    let at = i * width;
+    let end = at + width;
+    append(&mut rx[at..end], head, buffered, payload);
+}
+
+// The first n bytes of the run in share i of the receive store, copied to the start of the reader's buffer.
+pub fn hand_over(rx: &[u8], i: usize, cap: usize, head: usize, n: usize, buf: &mut [u8])
+    requires { ⌜ ShareFits i cap (length (now rx)) × (head + n ≤ 2 * cap) × (n ≤ length (now buf)) ⌝ }
+    ensures { λ _. ⌜ now (buf .exit) ≡ put (now (buf .entry)) 0 (frontOf (now (rx .entry)) cap i head n) ⌝ }
+{
+    let width = 2 * cap;
+    let at = i * width;
+    let end = at + width;
+    take(&rx[at..end], head, n, buf);
 }

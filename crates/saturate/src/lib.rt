@@ -54,3 +54,12 @@ pub fn positive(b: i64) -> usize
     }
     b as usize
 }
+
+pub fn least_u32(a: u32, b: u32) -> u32
+    ensures { λ r. ⌜ r ≡ min a b ⌝ }
+{
+    if a < b {
+        return a;
+    }
+    b
+}

@@ -16,8 +16,8 @@ use Rattle.slot.specs.declared.ids.RemoteId.{RemoteId}
 use Rattle.slot.specs.declared.ids.ChannelIds.{ChannelIds}
 use Rattle.slot.specs.declared.ChannelSlot.{ChannelSlot}
 use Rattle.slot.specs.declared.ChannelFault.{ChannelFault}
-use Rattle.slot.specs.declared.Credit.{Credit}
-use Rattle.slot.specs.declared.Credit.the-variants.{Of, Short}
+use Rattle.credit.specs.declared.Credit.{Credit}
+use Rattle.credit.specs.declared.Credit.the-variants.{Of, Short}
 use Rattle.slot.specs.declared.Readied.{Readied}
 use Rattle.slot.specs.declared.Readied.the-variants.{Slot, Short as ReadyShort}
 use Rattle.slot.specs.declared.PendingAck.{PendingAck}
@@ -30,7 +30,8 @@ use Rattle.slot.specs.declared.Budget.{Budget}
 use Rattle.slot.specs.declared.Budget.the-variants.{Bytes, Nothing as NoBudget}
 use Rattle.slot.specs.declared.Settled.{Settled}
 use Rattle.slot.specs.declared.Wrote.{Wrote}
-use Rattle.slot.specs.Slot.{openingSlot, acceptedSlot, openedOf, openedBy, readyOf, readyBy, creditOf, heldOf, isOpening, acksNow, bufferedWith, wroteOf, deliveredOf, ackLenOf, settledBy, settledSome, settledOf, takeLen, tookOf, takenOf, hasData, isClosed, budgetOf, reservedBy, reservedOf, spentOf, refundedOf, closedSlot, failedSlot, slotOk, SlotOk}
+use Rattle.slot.specs.Slot.{openingSlot, acceptedSlot, openedOf, openedBy, readyOf, readyBy, heldOf, isOpening, acksNow, bufferedWith, wroteOf, deliveredOf, ackLenOf, settledBy, settledSome, settledOf, takeLen, tookOf, takenOf, hasData, isClosed, budgetOf, reservedBy, reservedOf, spentOf, refundedOf, closedSlot, failedSlot, slotOk, SlotOk}
+use Rattle.credit.specs.Credit.{creditOf}
 use Rattle.slot.proofs.Laws.{take-held, take-room}
 
 -- what holds of both ways of a choice holds of the choice

@@ -18,12 +18,13 @@ use Rattle.saturate.proofs.Laws.{held-fits, zero-sub, neg-fits}
 use Rattle.slot.specs.declared.ids.RemoteId.{RemoteId}
 use Rattle.slot.specs.declared.ChannelSlot.{ChannelSlot}
 use Rattle.slot.specs.declared.ChannelState.the-variants.{Open}
-use Rattle.slot.specs.declared.Credit.the-variants.{Of}
+use Rattle.credit.specs.declared.Credit.the-variants.{Of}
 use Rattle.slot.specs.declared.Readied.the-variants.{Slot}
 use Rattle.slot.specs.declared.AckDecision.{AckDecision}
 use Rattle.slot.specs.declared.AckDecision.the-variants.{Now, Hold, Overflow, Early}
 use Rattle.slot.specs.declared.PendingAck.the-variants.{Len}
-use Rattle.slot.specs.Slot.{withState, withRemote, withSending, withNumbers, openedBy, openedOf, readyBy, readyOf, heldOf, acksNow, bufferedWith, decided, wroteOf, someLen, ackLenOf, takeLen, spentOf, refundedOf, creditOf, isOpening}
+use Rattle.slot.specs.Slot.{withState, withRemote, withSending, withNumbers, openedBy, openedOf, readyBy, readyOf, heldOf, acksNow, bufferedWith, decided, wroteOf, someLen, ackLenOf, takeLen, spentOf, refundedOf, isOpening}
+use Rattle.credit.specs.Credit.{creditOf}
 
 -- a choice by a test that is known
 module _ {A : Type 0} where

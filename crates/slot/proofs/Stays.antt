@@ -14,15 +14,16 @@ use Rattle.saturate.specs.Saturate.{satSum}
 use Rattle.saturate.proofs.Laws.{held-fits}
 use Rattle.config.specs.declared.negotiated.RxPolicy.{RxPolicy}
 use Rattle.slot.specs.declared.ChannelSlot.{ChannelSlot}
-use Rattle.slot.specs.declared.Credit.{Credit}
-use Rattle.slot.specs.declared.Credit.the-variants.{Of, Short}
+use Rattle.credit.specs.declared.Credit.{Credit}
+use Rattle.credit.specs.declared.Credit.the-variants.{Of, Short}
 use Rattle.slot.specs.declared.PendingAck.{PendingAck}
 use Rattle.slot.specs.declared.PendingAck.the-variants.{Len, Nothing}
 use Rattle.slot.specs.declared.Readied.{Readied}
 use Rattle.slot.specs.declared.Readied.the-variants.{Slot, Short as ReadyShort}
 use Rattle.slot.specs.declared.Settled.{Settled}
 use Rattle.slot.specs.declared.Wrote.{Wrote}
-use Rattle.slot.specs.Slot.{readyOf, readyBy, creditOf, heldOf, isOpening, acksNow, bufferedWith, wroteOf, deliveredOf, ackLenOf, settledBy, settledSome, settledOf, tookOf, withNumbers, spentOf, closedSlot}
+use Rattle.slot.specs.Slot.{readyOf, readyBy, heldOf, isOpening, acksNow, bufferedWith, wroteOf, deliveredOf, ackLenOf, settledBy, settledSome, settledOf, tookOf, withNumbers, spentOf, closedSlot}
+use Rattle.credit.specs.Credit.{creditOf}
 use Rattle.slot.proofs.Kept.{pick}
 
 -- what a slot function leaves as it was
@@ -110,6 +111,22 @@ settled-stays s p want =
     (λ z. settled-stays-by s (min want (s .buffered)) (ackLenOf s p (min want (s .buffered)) (s .buffered - min want (s .buffered))))
     (λ z. stays-same s))
     (λ r. stays-same s)
+
+settled-state-by : (s : ChannelSlot) (k : ℕ) (a : PendingAck) → settledBy s k a .slot .state ≡ s .state
+unfolding settledBy
+settled-state-by s k (Len m) = refl
+settled-state-by s k Nothing = refl
+
+-- and the state
+pub settled-state : (s : ChannelSlot) (p : RxPolicy) (want : ℕ) → settledOf s p want .slot .state ≡ s .state
+unfolding settledOf settledSome
+settled-state s p want =
+    let P : Settled → Type 0 = λ r. r .slot .state ≡ s .state in
+    pick P (s .«has_remote»)
+    (λ r. pick P (eqb (s .settled) 0)
+    (λ z. settled-state-by s (min want (s .buffered)) (ackLenOf s p (min want (s .buffered)) (s .buffered - min want (s .buffered))))
+    (λ z. refl))
+    (λ r. refl)
 
 pub took-stays : (s : ChannelSlot) (k : ℕ) → Stays s (tookOf s k)
 unfolding tookOf

@@ -1,14 +1,12 @@
 -- The numbers of a slot's answers (docs/SCOPE.md, 6): a refusal's own, 0 for none, 100 for waiting, 101 for nothing there.
 -- Assumes nothing.
 use Prim.Native.Nat.{ℕ}
-use Rattle.slot.specs.declared.Credit.{Credit}
-use Rattle.slot.specs.declared.Credit.the-variants.{Of, Short}
 use Rattle.slot.specs.declared.ChannelFault.{ChannelFault}
 use Rattle.slot.specs.declared.ChannelFault.the-variants.{RxOverflow, ShortReadyPayload, UnexpectedCommand}
 use Rattle.slot.specs.declared.ChannelError.{ChannelError}
 use Rattle.slot.specs.declared.ChannelError.the-variants.{Closed, Fault}
 use Rattle.slot.specs.declared.Readied.{Readied}
-use Rattle.slot.specs.declared.Readied.the-variants.{Slot, Short as ReadyShort}
+use Rattle.slot.specs.declared.Readied.the-variants.{Slot, Short}
 use Rattle.slot.specs.declared.AckDecision.{AckDecision}
 use Rattle.slot.specs.declared.AckDecision.the-variants.{Now, Hold, Overflow, Early}
 use Rattle.slot.specs.declared.Budget.{Budget}
@@ -16,17 +14,12 @@ use Rattle.slot.specs.declared.Budget.the-variants.{Bytes, Nothing as No
 use Rattle.slot.specs.declared.Taken.{Taken}
 use Rattle.slot.specs.declared.Taken.the-variants.{Data, Nothing as NothingTaken, Closed as ClosedTaken}
 
--- 5: a credit under four bytes
-unfoldable pub creditNumber : Credit → ℕ
-creditNumber (Of z) = 0
-creditNumber Short = 5
-
 -- 5: an OKAY whose credit is short
 unfoldable pub readiedNumber : Readied → ℕ
 readiedNumber (Slot s) = 0
-readiedNumber ReadyShort = 5
+readiedNumber Short = 5
 
--- 11: over the cap; 6: a WRTE for an open still waiting
+-- 11: over the cap; 6: a WRTE for a channel still opening
 unfoldable pub decisionNumber : AckDecision → ℕ
 decisionNumber (Now n) = 0
 decisionNumber Hold = 0

@@ -5,16 +5,15 @@ use mathlib.Core.Bool.{Bool, true, false, not, cond, _&&_}
 use mathlib.Core.List.{List}
 use lib.Dec.{leb, ltb, eqb}
 use lib.IntN.{ℤ, pos, _+ℤ_, _-ℤ_}
-use lib.ListN.{length}
-use Rattle.le.specs.Le.{numOf, signed, part}
 use Rattle.config.specs.declared.negotiated.RxPolicy.{RxPolicy}
 use Rattle.saturate.specs.Saturate.{clamp, satSum, positivePart}
 use Rattle.rx_store.specs.RxStore.{appendedHead, takenHead}
 use Rattle.slot.specs.declared.ids.LocalId.{LocalId}
 use Rattle.slot.specs.declared.ids.RemoteId.{RemoteId}
 use Rattle.slot.specs.declared.ids.ChannelIds.{ChannelIds}
-use Rattle.slot.specs.declared.Credit.{Credit}
-use Rattle.slot.specs.declared.Credit.the-variants.{Of, Short}
+use Rattle.credit.specs.Credit.{creditOf}
+use Rattle.credit.specs.declared.Credit.{Credit}
+use Rattle.credit.specs.declared.Credit.the-variants.{Of, Short}
 use Rattle.slot.specs.declared.ChannelState.{ChannelState}
 use Rattle.slot.specs.declared.ChannelState.the-variants.{Opening, Open, Closed}
 use Rattle.slot.specs.declared.ChannelFault.{ChannelFault}
@@ -115,10 +114,6 @@ withNumbers s u d h b =
     }
 
 -- ---- opening and accepting
-
--- the first four bytes as a signed number; under four bytes: refusal 5
-unfoldable pub creditOf : List ℕ → Credit
-creditOf payload = cond (ltb (length payload) 4) Short (Of (signed 31 (numOf (part payload 0 4))))
 
 -- `opening`
 unfoldable pub openingSlot : LocalId → ChannelSlot

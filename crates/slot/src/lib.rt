@@ -2,21 +2,19 @@
 pub mod ids;
 
 use config::negotiated::RxPolicy;
+use credit::Credit;
+use credit::parse_ready_credit;
 use ids::ChannelIds;
 use ids::LocalId;
 use ids::RemoteId;
 ghost use mathlib.Core.Path.{_≡_};
 ghost use Prim.Native.Nat.{_≤_, min};
 ghost use lib.IntN.{ℤ, pos};
-ghost use Rattle.slot.specs.Numbers.{creditNumber, readiedNumber, decisionNumber, faultNumber, errorNumber, takenNumber, budgetNumber};
-ghost use Rattle.slot.specs.Slot.{creditOf, emptySlot, openingSlot, acceptedSlot, isOpening, isClosed, isFailed, idsOf, errorOf, openedOf, readyOf, heldOf, acksNow, bufferedWith, wroteOf, someLen, deliveredOf, ackLenOf, isAck, hasData, settledSome, settledOf, takeLen, tookOf, takenOf, budgetOf, spentOf, refundedOf, reservedOf, takeAcks, closedSlot, failedSlot, withState, withRemote, withSending, withNumbers, slotOk, SlotOk};
-
-// The credit that a delayed OKAY carries.
-pub enum Credit {
-    Of(i32),
-    // Refusal 5: under 4 bytes.
-    Short,
-}
+ghost use Rattle.slot.specs.Numbers.{readiedNumber, decisionNumber, faultNumber, errorNumber, takenNumber, budgetNumber};
+ghost use Rattle.slot.specs.Slot.{emptySlot, openingSlot, acceptedSlot, isOpening, isClosed, isFailed, idsOf, errorOf, openedOf};
+ghost use Rattle.slot.specs.Slot.{readyOf, heldOf, acksNow, bufferedWith, wroteOf, someLen, deliveredOf, ackLenOf, isAck, hasData};
+ghost use Rattle.slot.specs.Slot.{settledSome, settledOf, takeLen, tookOf, takenOf, budgetOf, spentOf, refundedOf, reservedOf};
+ghost use Rattle.slot.specs.Slot.{takeAcks, closedSlot, failedSlot, withState, withRemote, withSending, withNumbers, slotOk, SlotOk};
 
 pub enum ChannelState {
     // An OPEN was sent and not answered yet.
@@ -130,17 +128,6 @@ pub enum Reserved {
 
 // The number of each answer (docs/SCOPE.md, 6): a refusal's own, 0 where there is none, 100 for waiting, 101 for nothing there.
 
-impl Credit {
-    pub fn number(self) -> u32
-        ensures { λ r. ⌜ r ≡ creditNumber self ⌝ }
-    {
-        match self {
-            Credit::Of(_) => 0,
-            Credit::Short => 5,
-        }
-    }
-}
-
 impl Readied {
     pub fn number(self) -> u32
         ensures { λ r. ⌜ r ≡ readiedNumber self ⌝ }
@@ -209,16 +196,6 @@ impl Budget {
             Budget::Nothing => 100,
         }
     }
-}
-
-// The first four bytes of an OKAY's payload, signed.
-pub fn parse_ready_credit(payload: &[u8]) -> Credit
-    ensures { λ r. ⌜ r ≡ creditOf (now (payload .entry)) ⌝ }
-{
-    if payload.len() < 4 {
-        return Credit::Short;
-    }
-    Credit::Of(le::get_i32(payload, 0))
 }
 
 pub fn is_opening(state: ChannelState) -> bool

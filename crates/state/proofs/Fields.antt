@@ -9,10 +9,10 @@ use Rattle.le.specs.Le.{bytesOf, unsigned, part, put}
 use Rattle.le.proofs.Parts.{put-seq, length-part, lent-part, lent-back}
 use Rattle.slot.specs.declared.ChannelSlot.{ChannelSlot}
 use Rattle.state.specs.declared.Header.{Header}
-use Rattle.state.specs.declared.PendingOpen.{PendingOpen}
-use Rattle.state.specs.State.{flagByte, slotNumbers, tagOf, slotBytes, openBytes, headerSizes, headerWords, headerTags, headerBytes, putHeader}
+use Rattle.state.specs.declared.QueuedOpen.{QueuedOpen}
+use Rattle.state.specs.State.{headerLen, queuedLen, slotLen, flagByte, slotNumbers, tagOf, slotBytes, queuedBytes, headerSizes, headerWords, headerTags, stateHeader, putHeader}
 
-pub numbers-put : (d : List ℕ) (s : ChannelSlot) → 49 ≤ length d
+pub numbers-put : (d : List ℕ) (s : ChannelSlot) → slotLen ≤ length d
     → put (put (put (put (put (put (put d 0 (bytesOf 4 (s .local .0))) 4 (bytesOf 4 (s .remote .0))) 8 (bytesOf 8 (unsigned 63 (s .«send_budget»)))) 16 (bytesOf 8 (s .unacked))) 24 (bytesOf 8 (s .settled))) 32 (bytesOf 8 (s .head))) 40 (bytesOf 8 (s .buffered)) ≡ put d 0 (slotNumbers s)
 unfolding slotNumbers bytesOf
 numbers-put d s h =
@@ -20,51 +20,51 @@ numbers-put d s h =
     (bytesOf 4 (s .remote .0) ∷ bytesOf 8 (unsigned 63 (s .«send_budget»)) ∷ bytesOf 8 (s .unacked) ∷ bytesOf 8 (s .settled) ∷ bytesOf 8 (s .head) ∷ bytesOf 8 (s .buffered) ∷ [])
     (omega arith)
 
-pub length-slot : (s : ChannelSlot) → length (slotBytes s) ≡ 49
+pub length-slot : (s : ChannelSlot) → length (slotBytes s) ≡ slotLen
 unfolding slotBytes slotNumbers bytesOf
 length-slot s = refl
 
-pub slot-put : (d : List ℕ) (s : ChannelSlot) → 49 ≤ length d → put (put d 0 (slotNumbers s)) 48 (bytesOf 1 (tagOf s)) ≡ put d 0 (slotBytes s)
+pub slot-put : (d : List ℕ) (s : ChannelSlot) → slotLen ≤ length d → put (put d 0 (slotNumbers s)) 48 (bytesOf 1 (tagOf s)) ≡ put d 0 (slotBytes s)
 unfolding slotBytes slotNumbers bytesOf
 slot-put d s h = put-seq d 0 (slotNumbers s) (bytesOf 1 (tagOf s) ∷ []) (omega arith)
 
-pub length-open : (q : PendingOpen) → length (openBytes q) ≡ 24
-unfolding openBytes bytesOf
+pub length-open : (q : QueuedOpen) → length (queuedBytes q) ≡ queuedLen
+unfolding queuedBytes bytesOf
 length-open q = refl
 
-pub open-put : (d : List ℕ) (q : PendingOpen) → 24 ≤ length d
-    → put (put (put (put d 0 (bytesOf 4 (q .remote .0))) 4 (bytesOf 4 (q .credit))) 8 (bytesOf 8 (q .share))) 16 (bytesOf 8 (q .length)) ≡ put d 0 (openBytes q)
-unfolding openBytes bytesOf
+pub open-put : (d : List ℕ) (q : QueuedOpen) → queuedLen ≤ length d
+    → put (put (put (put d 0 (bytesOf 4 (q .remote .0))) 4 (bytesOf 4 (q .credit))) 8 (bytesOf 8 (q .share))) 16 (bytesOf 8 (q .length)) ≡ put d 0 (queuedBytes q)
+unfolding queuedBytes bytesOf
 open-put d q h = put-seq d 0 (bytesOf 4 (q .remote .0)) (bytesOf 4 (q .credit) ∷ bytesOf 8 (q .share) ∷ bytesOf 8 (q .length) ∷ []) (omega arith)
 
-pub sizes-put : (d : List ℕ) (h : Header) → 58 ≤ length d
-    → put (put (put (put d 0 (bytesOf 8 (h .negotiated .config .channels))) 8 (bytesOf 8 (h .negotiated .config .«max_rx_per_channel»))) 16 (bytesOf 8 (h .waiting .slot))) 24 (bytesOf 8 (h .queued)) ≡ put d 0 (headerSizes h)
+pub sizes-put : (d : List ℕ) (h : Header) → headerLen ≤ length d
+    → put (put (put (put d 0 (bytesOf 8 (h .negotiated .config .channels))) 8 (bytesOf 8 (h .negotiated .config .«max_rx_per_channel»))) 16 (bytesOf 8 (h .pending .slot))) 24 (bytesOf 8 (h .queued)) ≡ put d 0 (headerSizes h)
 unfolding headerSizes bytesOf
 sizes-put d h k =
     put-seq d 0 (bytesOf 8 (h .negotiated .config .channels))
-    (bytesOf 8 (h .negotiated .config .«max_rx_per_channel») ∷ bytesOf 8 (h .waiting .slot) ∷ bytesOf 8 (h .queued) ∷ [])
+    (bytesOf 8 (h .negotiated .config .«max_rx_per_channel») ∷ bytesOf 8 (h .pending .slot) ∷ bytesOf 8 (h .queued) ∷ [])
     (omega arith)
 
-pub words-put : (d : List ℕ) (h : Header) → 58 ≤ length d
-    → put (put (put (put (put (put d 32 (bytesOf 4 (h .negotiated .config .«max_payload»))) 36 (bytesOf 4 (h .negotiated .config .«initial_ack_bytes»))) 40 (bytesOf 4 (h .negotiated .«max_payload»))) 44 (bytesOf 4 (h .negotiated .«protocol_version»))) 48 (bytesOf 4 (h .«next_local»))) 52 (bytesOf 4 (h .waiting .local .0)) ≡ put d 32 (headerWords h)
+pub words-put : (d : List ℕ) (h : Header) → headerLen ≤ length d
+    → put (put (put (put (put (put d 32 (bytesOf 4 (h .negotiated .config .«max_payload»))) 36 (bytesOf 4 (h .negotiated .config .«initial_ack_bytes»))) 40 (bytesOf 4 (h .negotiated .«max_payload»))) 44 (bytesOf 4 (h .negotiated .«protocol_version»))) 48 (bytesOf 4 (h .«next_local»))) 52 (bytesOf 4 (h .pending .local .0)) ≡ put d 32 (headerWords h)
 unfolding headerWords bytesOf
 words-put d h k =
     put-seq d 32 (bytesOf 4 (h .negotiated .config .«max_payload»))
-    (bytesOf 4 (h .negotiated .config .«initial_ack_bytes») ∷ bytesOf 4 (h .negotiated .«max_payload») ∷ bytesOf 4 (h .negotiated .«protocol_version») ∷ bytesOf 4 (h .«next_local») ∷ bytesOf 4 (h .waiting .local .0) ∷ [])
+    (bytesOf 4 (h .negotiated .config .«initial_ack_bytes») ∷ bytesOf 4 (h .negotiated .«max_payload») ∷ bytesOf 4 (h .negotiated .«protocol_version») ∷ bytesOf 4 (h .«next_local») ∷ bytesOf 4 (h .pending .local .0) ∷ [])
     (omega arith)
 
-pub header-tags-put : (d : List ℕ) (h : Header) → 58 ≤ length d
-    → put (put d 56 (bytesOf 1 (flagByte (h .negotiated .«delayed_ack»)))) 57 (bytesOf 1 (flagByte (h .waiting .on))) ≡ put d 56 (headerTags h)
+pub header-tags-put : (d : List ℕ) (h : Header) → headerLen ≤ length d
+    → put (put d 56 (bytesOf 1 (flagByte (h .negotiated .«delayed_ack»)))) 57 (bytesOf 1 (flagByte (h .pending .on))) ≡ put d 56 (headerTags h)
 unfolding headerTags bytesOf
-header-tags-put d h k = put-seq d 56 (bytesOf 1 (flagByte (h .negotiated .«delayed_ack»))) (bytesOf 1 (flagByte (h .waiting .on)) ∷ []) (omega arith)
+header-tags-put d h k = put-seq d 56 (bytesOf 1 (flagByte (h .negotiated .«delayed_ack»))) (bytesOf 1 (flagByte (h .pending .on)) ∷ []) (omega arith)
 
-pub length-header : (h : Header) → length (headerBytes h) ≡ 58
-unfolding headerBytes headerSizes headerWords headerTags bytesOf
+pub length-header : (h : Header) → length (stateHeader h) ≡ headerLen
+unfolding stateHeader headerSizes headerWords headerTags bytesOf
 length-header h = refl
 
-pub header-put : (d : List ℕ) (h : Header) → 58 ≤ length d
+pub header-put : (d : List ℕ) (h : Header) → headerLen ≤ length d
     → put (put (put d 0 (headerSizes h)) 32 (headerWords h)) 56 (headerTags h) ≡ putHeader d h
-unfolding putHeader headerBytes headerSizes headerWords headerTags bytesOf
+unfolding putHeader stateHeader headerSizes headerWords headerTags bytesOf
 header-put d h k = put-seq d 0 (headerSizes h) (headerWords h ∷ headerTags h ∷ []) (omega arith)
 
 -- a record's bytes, put over the whole of a part that is lent

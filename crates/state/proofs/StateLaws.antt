@@ -21,11 +21,11 @@ use Rattle.slot.specs.declared.ChannelState.the-variants.{Opening, Open, Closed
 use Rattle.slot.specs.declared.Failed.{Failed}
 use Rattle.slot.specs.declared.Failed.the-variants.{No, By}
 use Rattle.state.specs.declared.Header.{Header}
-use Rattle.state.specs.declared.PendingOpen.{PendingOpen}
-use Rattle.state.specs.Rows.{flat, rows, allIs}
-use Rattle.state.specs.State.{Connection, flagOf, flagByte, stateOfTag, stateTag, failedOfTag, failedTag, slotNumbers, tagOf, slotBytes, slotOf, isTag, isSlot, openBytes, openOf, headerSizes, headerWords, headerTags, headerBytes, headerOf, layout, stateOf, isState, slotAt, openAt, putSlot, putOpen, putHeader, withSlot, withHeader, withOpen}
+use Rattle.state.specs.declared.QueuedOpen.{QueuedOpen}
+use Rattle.le.specs.Rows.{flat, rows, allIs}
+use Rattle.state.specs.State.{headerLen, queueAt, queuedLen, slotLen, stateLen, Connection, flagOf, flagByte, stateOfTag, stateTag, failedOfTag, failedTag, slotNumbers, tagOf, slotBytes, slotOf, isTag, isSlot, queuedBytes, queuedOf, headerSizes, headerWords, headerTags, stateHeader, headerOf, layout, stateOf, isState, slotAt, queuedAt, putSlot, putQueued, putHeader, withSlot, withHeader, withQueuedAt}
 use Rattle.state.proofs.Fields.{length-slot, length-open, length-header}
-use Rattle.state.proofs.RowLaws.{put-at, put-row, length-flat, length-rows, row-at, flat-rows, Every, rows-flat, rows-fit, all-flat}
+use Rattle.le.proofs.RowLaws.{put-at, put-row, length-flat, length-rows, row-at, flat-rows, Every, rows-flat, rows-fit, all-flat}
 
 -- ---- flags and tags, both ways
 
@@ -185,10 +185,10 @@ numbers-back l b h =
       part-join l 0 40 8,
     )
 
-slot-back : (l : List ℕ) → Bytes l → 49 ≤ length l → isSlot l ≡ true → slotBytes (slotOf l) ≡ take 49 l
+slot-back : (l : List ℕ) → Bytes l → slotLen ≤ length l → isSlot l ≡ true → slotBytes (slotOf l) ≡ take slotLen l
 unfolding slotBytes
 slot-back l b h t =
-    rw (numbers-back l b (omega arith), byte-back l 48 (tagOf (slotOf l)) b (omega arith) (tag-back l t), part-join l 0 48 1) (part-start l 49)
+    rw (numbers-back l b (omega arith), byte-back l 48 (tagOf (slotOf l)) b (omega arith) (tag-back l t), part-join l 0 48 1) (part-start l slotLen)
 
 -- what fits its bytes is read back
 pub record SlotFits (s : ChannelSlot) : Type 0 where
@@ -232,16 +232,16 @@ slot-is s =
     let k = slot-tag s in
     rw (k .one-byte, k .state, le-leb (tagOf s) 127 (k .small), le-leb (stateTag (s .state)) 2 (state-le (s .state)))
 
--- ---- a waiting open's bytes
+-- ---- a queued open's bytes
 
-pub record OpenFits (q : PendingOpen) : Type 0 where
+pub record OpenFits (q : QueuedOpen) : Type 0 where
   pub remote : q .remote .0 < 2 ^ 32
   pub credit : q .credit < 2 ^ 32
   pub share : q .share < 2 ^ 64
   pub length : q .length < 2 ^ 64
 
-pub open-forth : (q : PendingOpen) → OpenFits q → openOf (openBytes q) ≡ q
-unfolding openOf openBytes bytesOf part
+pub open-forth : (q : QueuedOpen) → OpenFits q → queuedOf (queuedBytes q) ≡ q
+unfolding queuedOf queuedBytes bytesOf part
 open-forth q f =
     rw (
       write-read 4 (q .remote .0) (f .remote),
@@ -250,8 +250,8 @@ open-forth q f =
       write-read 8 (q .length) (f .length),
     )
 
-open-back : (l : List ℕ) → Bytes l → 24 ≤ length l → openBytes (openOf l) ≡ take 24 l
-unfolding openBytes openOf
+open-back : (l : List ℕ) → Bytes l → queuedLen ≤ length l → queuedBytes (queuedOf l) ≡ take queuedLen l
+unfolding queuedBytes queuedOf
 open-back l b h =
     rw (
       read-write-part l 0 4 b (omega arith),
@@ -262,42 +262,42 @@ open-back l b h =
       part-join l 0 8 8,
       part-join l 0 16 8,
     )
-    (part-start l 24)
+    (part-start l queuedLen)
 
 -- ---- the header's bytes
 
 pub record HeaderFits (h : Header) : Type 0 where
   pub channels : h .negotiated .config .channels < 2 ^ 64
   pub rx : h .negotiated .config .«max_rx_per_channel» < 2 ^ 64
-  pub place : h .waiting .slot < 2 ^ 64
+  pub place : h .pending .slot < 2 ^ 64
   pub queued : h .queued < 2 ^ 64
   pub payload : h .negotiated .config .«max_payload» < 2 ^ 32
   pub initial : h .negotiated .config .«initial_ack_bytes» < 2 ^ 32
   pub most : h .negotiated .«max_payload» < 2 ^ 32
   pub version : h .negotiated .«protocol_version» < 2 ^ 32
   pub next : h .«next_local» < 2 ^ 32
-  pub local : h .waiting .local .0 < 2 ^ 32
+  pub local : h .pending .local .0 < 2 ^ 32
 
-pub header-forth : (h : Header) (r : List ℕ) → HeaderFits h → headerOf (headerBytes h ++ r) ≡ h
-unfolding headerOf headerBytes headerSizes headerWords headerTags bytesOf part
+pub header-forth : (h : Header) (r : List ℕ) → HeaderFits h → headerOf (stateHeader h ++ r) ≡ h
+unfolding headerOf stateHeader headerSizes headerWords headerTags bytesOf part
 header-forth h r f =
     rw (
       flag-forth (h .negotiated .«delayed_ack»),
-      flag-forth (h .waiting .on),
+      flag-forth (h .pending .on),
       write-read 8 (h .negotiated .config .channels) (f .channels),
       write-read 8 (h .negotiated .config .«max_rx_per_channel») (f .rx),
-      write-read 8 (h .waiting .slot) (f .place),
+      write-read 8 (h .pending .slot) (f .place),
       write-read 8 (h .queued) (f .queued),
       write-read 4 (h .negotiated .config .«max_payload») (f .payload),
       write-read 4 (h .negotiated .config .«initial_ack_bytes») (f .initial),
       write-read 4 (h .negotiated .«max_payload») (f .most),
       write-read 4 (h .negotiated .«protocol_version») (f .version),
       write-read 4 (h .«next_local») (f .next),
-      write-read 4 (h .waiting .local .0) (f .local),
+      write-read 4 (h .pending .local .0) (f .local),
     )
 
-header-back : (l : List ℕ) → Bytes l → 58 ≤ length l → getD l 56 0 ≤ 1 → getD l 57 0 ≤ 1 → headerBytes (headerOf l) ≡ take 58 l
-unfolding headerBytes headerSizes headerWords headerTags headerOf
+header-back : (l : List ℕ) → Bytes l → headerLen ≤ length l → getD l 56 0 ≤ 1 → getD l 57 0 ≤ 1 → stateHeader (headerOf l) ≡ take headerLen l
+unfolding stateHeader headerSizes headerWords headerTags headerOf
 header-back l b h s t =
     rw (
       read-write-part l 0 8 b (omega arith),
@@ -324,20 +324,20 @@ header-back l b h s t =
       part-join l 0 32 24,
       part-join l 0 56 2,
     )
-    (part-start l 58)
+    (part-start l headerLen)
 
-header-flags : (h : Header) (r : List ℕ) → (getD (headerBytes h ++ r) 56 0 ≤ 1) × (getD (headerBytes h ++ r) 57 0 ≤ 1)
-unfolding headerBytes headerSizes headerWords headerTags bytesOf
-header-flags h r = (flag-byte-le (h .negotiated .«delayed_ack»), flag-byte-le (h .waiting .on))
+header-flags : (h : Header) (r : List ℕ) → (getD (stateHeader h ++ r) 56 0 ≤ 1) × (getD (stateHeader h ++ r) 57 0 ≤ 1)
+unfolding stateHeader headerSizes headerWords headerTags bytesOf
+header-flags h r = (flag-byte-le (h .negotiated .«delayed_ack»), flag-byte-le (h .pending .on))
 
 -- ---- the whole
 
 -- what the test of the bytes says
 pub record StateTests (b : List ℕ) : Type 0 where
-  pub long : 4730 ≤ length b
+  pub long : stateLen ≤ length b
   pub delayed : getD b 56 0 ≤ 1
-  pub waits : getD b 57 0 ≤ 1
-  pub slots : allIs 49 isSlot 64 (drop 58 b) ≡ true
+  pub pending-open : getD b 57 0 ≤ 1
+  pub slots : allIs slotLen isSlot 64 (drop headerLen b) ≡ true
 
 pub state-tests : (b : List ℕ) → isState b ≡ true → StateTests b
 unfolding isState
@@ -345,15 +345,15 @@ state-tests b e =
     let e₃ = and-true _ _ e in
     let e₂ = and-true _ _ (e₃ .0) in
     let e₁ = and-true _ _ (e₂ .0) in
-    record { long = leb-true _ _ (e₁ .0); delayed = leb-true _ _ (e₁ .1); waits = leb-true _ _ (e₂ .1); slots = e₃ .1 }
+    record { long = leb-true _ _ (e₁ .0); delayed = leb-true _ _ (e₁ .1); pending-open = leb-true _ _ (e₂ .1); slots = e₃ .1 }
 
 row-whole : (size : ℕ) (l : List ℕ) → size ≤ length l → length (take size l) ≡ size
 row-whole size l h = simp length-take (omega arith)
 
-slot-row-back : (l : List ℕ) → Bytes l → 49 ≤ length l → isSlot (take 49 l) ≡ true → slotBytes (slotOf (take 49 l)) ≡ take 49 l
+slot-row-back : (l : List ℕ) → Bytes l → slotLen ≤ length l → isSlot (take slotLen l) ≡ true → slotBytes (slotOf (take slotLen l)) ≡ take slotLen l
 slot-row-back l b h t =
-    let n = row-whole 49 l h in
-    slot-back (take 49 l) (bytes-take 49 l b) (omega arith) t ∙ take-all 49 (take 49 l) (omega arith)
+    let n = row-whole slotLen l h in
+    slot-back (take slotLen l) (bytes-take slotLen l b) (omega arith) t ∙ take-all slotLen (take slotLen l) (omega arith)
 
 abbrev anyBytes : List ℕ → Bool
 anyBytes l = true
@@ -363,74 +363,74 @@ unfolding allIs
 all-any size zero l = refl
 all-any size (suc n) l = all-any size n (drop size l)
 
-open-row-back : (l : List ℕ) → Bytes l → 24 ≤ length l → anyBytes (take 24 l) ≡ true → openBytes (openOf (take 24 l)) ≡ take 24 l
+open-row-back : (l : List ℕ) → Bytes l → queuedLen ≤ length l → anyBytes (take queuedLen l) ≡ true → queuedBytes (queuedOf (take queuedLen l)) ≡ take queuedLen l
 open-row-back l b h t =
-    let n = row-whole 24 l h in
-    open-back (take 24 l) (bytes-take 24 l b) (omega arith) ∙ take-all 24 (take 24 l) (omega arith)
+    let n = row-whole queuedLen l h in
+    open-back (take queuedLen l) (bytes-take queuedLen l b) (omega arith) ∙ take-all queuedLen (take queuedLen l) (omega arith)
 
 -- bytes that are a state's are the layout of their reading
-pub state-back : (b : List ℕ) → Bytes b → isState b ≡ true → layout (stateOf b) ≡ take 4730 b
+pub state-back : (b : List ℕ) → Bytes b → isState b ≡ true → layout (stateOf b) ≡ take stateLen b
 unfolding layout stateOf
 state-back b y e =
     let k = state-tests b e in
     let long = k .long in
-    let s : flat slotBytes (rows 49 slotOf 64 (drop 58 b)) ≡ take 3136 (drop 58 b) =
-    flat-rows 49 slotBytes slotOf isSlot slot-row-back 64 (drop 58 b) (bytes-drop 58 b y) (simp length-drop (omega arith)) (k .slots) in
-    let q : flat openBytes (rows 24 openOf 64 (drop 3194 b)) ≡ take 1536 (drop 3194 b) =
-    flat-rows 24 openBytes openOf anyBytes open-row-back 64 (drop 3194 b) (bytes-drop 3194 b y) (simp length-drop (omega arith)) (all-any 24 64 (drop 3194 b)) in
-    rw (header-back b y (omega arith) (k .delayed) (k .waits), s, q)
-    (ap (λ (l : List ℕ). l ++ take 1536 (drop 3194 b)) (sym (take-add 58 3136 b)) ∙ sym (take-add 3194 1536 b))
+    let s : flat slotBytes (rows slotLen slotOf 64 (drop headerLen b)) ≡ take (64 * slotLen) (drop headerLen b) =
+    flat-rows slotLen slotBytes slotOf isSlot slot-row-back 64 (drop headerLen b) (bytes-drop headerLen b y) (simp length-drop (omega arith)) (k .slots) in
+    let q : flat queuedBytes (rows queuedLen queuedOf 64 (drop queueAt b)) ≡ take (64 * queuedLen) (drop queueAt b) =
+    flat-rows queuedLen queuedBytes queuedOf anyBytes open-row-back 64 (drop queueAt b) (bytes-drop queueAt b y) (simp length-drop (omega arith)) (all-any queuedLen 64 (drop queueAt b)) in
+    rw (header-back b y (omega arith) (k .delayed) (k .pending-open), s, q)
+    (ap (λ (l : List ℕ). l ++ take (64 * queuedLen) (drop queueAt b)) (sym (take-add headerLen (64 * slotLen) b)) ∙ sym (take-add queueAt (64 * queuedLen) b))
 
-pub state-split : (b : List ℕ) → Bytes b → isState b ≡ true → layout (stateOf b) ++ drop 4730 b ≡ b
-state-split b y e = rw (state-back b y e) (take-append-drop 4730 b)
+pub state-split : (b : List ℕ) → Bytes b → isState b ≡ true → layout (stateOf b) ++ drop stateLen b ≡ b
+state-split b y e = rw (state-back b y e) (take-append-drop stateLen b)
 
 -- all 64 of each
 pub record Full (c : Connection) : Type 0 where
   pub slots : length (c .slots) ≡ 64
-  pub opens : length (c .opens) ≡ 64
+  pub queue : length (c .queue) ≡ 64
 
 pub state-full : (b : List ℕ) → Full (stateOf b)
 unfolding stateOf
-state-full b = record { slots = length-rows 49 slotOf 64 (drop 58 b); opens = length-rows 24 openOf 64 (drop 3194 b) }
+state-full b = record { slots = length-rows slotLen slotOf 64 (drop headerLen b); queue = length-rows queuedLen queuedOf 64 (drop queueAt b) }
 
 -- every number fits its bytes
 pub record Fits (c : Connection) : Type 0 where
   pub header : HeaderFits (c .header)
   pub full : Full c
   pub slots : Every SlotFits (c .slots)
-  pub opens : Every OpenFits (c .opens)
+  pub queue : Every OpenFits (c .queue)
 
--- slots and waiting opens that fit are read back from a state's bytes
-pub rows-forth : (c : Connection) (r : List ℕ) → Full c → Every SlotFits (c .slots) → Every OpenFits (c .opens)
-    → (stateOf (layout c ++ r) .slots ≡ c .slots) × (stateOf (layout c ++ r) .opens ≡ c .opens)
+-- slots and queued opens that fit are read back from a state's bytes
+pub rows-forth : (c : Connection) (r : List ℕ) → Full c → Every SlotFits (c .slots) → Every OpenFits (c .queue)
+    → (stateOf (layout c ++ r) .slots ≡ c .slots) × (stateOf (layout c ++ r) .queue ≡ c .queue)
 unfolding stateOf layout
 rows-forth c r f s o =
-    let h = headerBytes (c .header) in
+    let h = stateHeader (c .header) in
     let x = flat slotBytes (c .slots) in
-    let q = flat openBytes (c .opens) in
+    let q = flat queuedBytes (c .queue) in
     let n = length-header (c .header) in
-    let m = length-flat 49 slotBytes length-slot (c .slots) in
+    let m = length-flat slotLen slotBytes length-slot (c .slots) in
     let a = f .slots in
-    let b = f .opens in
-    let hx : length (h ++ x) ≡ 3194 = simp length-append (omega arith) in
+    let b = f .queue in
+    let hx : length (h ++ x) ≡ queueAt = simp length-append (omega arith) in
     let g1 : h ++ x ++ q ++ r ≡ h ++ (x ++ (q ++ r)) = simp append-assoc in
     let g2 : h ++ x ++ q ++ r ≡ h ++ x ++ (q ++ r) = simp append-assoc in
-    let d2 : drop 58 (h ++ x ++ q ++ r) ≡ x ++ (q ++ r) = rw g1 (drop-at h (x ++ (q ++ r)) 58 n) in
-    let d3 : drop 3194 (h ++ x ++ q ++ r) ≡ q ++ r = rw g2 (drop-at (h ++ x) (q ++ r) 3194 hx) in
-    let e2 : rows 49 slotOf 64 (x ++ (q ++ r)) ≡ c .slots = rw a at (rows-flat 49 slotBytes slotOf SlotFits length-slot slot-forth (c .slots) (q ++ r) s) in
-    let e3 : rows 24 openOf 64 (q ++ r) ≡ c .opens = rw b at (rows-flat 24 openBytes openOf OpenFits length-open open-forth (c .opens) r o) in
-    (ap (rows 49 slotOf 64) d2 ∙ e2, ap (rows 24 openOf 64) d3 ∙ e3)
+    let d2 : drop headerLen (h ++ x ++ q ++ r) ≡ x ++ (q ++ r) = rw g1 (drop-at h (x ++ (q ++ r)) headerLen n) in
+    let d3 : drop queueAt (h ++ x ++ q ++ r) ≡ q ++ r = rw g2 (drop-at (h ++ x) (q ++ r) queueAt hx) in
+    let e2 : rows slotLen slotOf 64 (x ++ (q ++ r)) ≡ c .slots = rw a at (rows-flat slotLen slotBytes slotOf SlotFits length-slot slot-forth (c .slots) (q ++ r) s) in
+    let e3 : rows queuedLen queuedOf 64 (q ++ r) ≡ c .queue = rw b at (rows-flat queuedLen queuedBytes queuedOf OpenFits length-open open-forth (c .queue) r o) in
+    (ap (rows slotLen slotOf 64) d2 ∙ e2, ap (rows queuedLen queuedOf 64) d3 ∙ e3)
 
 -- a state that fits is read back from its bytes
 pub state-forth : (c : Connection) (r : List ℕ) → Fits c → stateOf (layout c ++ r) ≡ c
 unfolding stateOf layout
 state-forth c r f =
-    let h = headerBytes (c .header) in
+    let h = stateHeader (c .header) in
     let x = flat slotBytes (c .slots) in
-    let q = flat openBytes (c .opens) in
+    let q = flat queuedBytes (c .queue) in
     let g : h ++ x ++ q ++ r ≡ h ++ (x ++ (q ++ r)) = simp append-assoc in
     let e : headerOf (h ++ x ++ q ++ r) ≡ c .header = rw g (header-forth (c .header) (x ++ (q ++ r)) (f .header)) in
-    let k = rows-forth c r (f .full) (f .slots) (f .opens) in
+    let k = rows-forth c r (f .full) (f .slots) (f .queue) in
     rw (e, k .0, k .1)
 
 -- what bytes stand for fits
@@ -447,8 +447,8 @@ slot-fits l y =
       buffered = numOf-part 8 l 40 y;
     }
 
-open-fits : (l : List ℕ) → Bytes l → OpenFits (openOf l)
-unfolding openOf
+open-fits : (l : List ℕ) → Bytes l → OpenFits (queuedOf l)
+unfolding queuedOf
 open-fits l y = record { remote = numOf-part 4 l 0 y; credit = numOf-part 4 l 4 y; share = numOf-part 8 l 8 y; length = numOf-part 8 l 16 y }
 
 header-fits : (l : List ℕ) → Bytes l → HeaderFits (headerOf l)
@@ -473,8 +473,8 @@ state-fits b y =
     record {
       header = header-fits b y;
       full = state-full b;
-      slots = rows-fit 49 slotOf SlotFits slot-fits 64 (drop 58 b) (bytes-drop 58 b y);
-      opens = rows-fit 24 openOf OpenFits open-fits 64 (drop 3194 b) (bytes-drop 3194 b y);
+      slots = rows-fit slotLen slotOf SlotFits slot-fits 64 (drop headerLen b) (bytes-drop headerLen b y);
+      queue = rows-fit queuedLen queuedOf OpenFits open-fits 64 (drop queueAt b) (bytes-drop queueAt b y);
     }
 
 -- ---- one record put into a state's bytes
@@ -482,46 +482,46 @@ state-fits b y =
 pub put-slot-layout : (c : Connection) (r : List ℕ) (i : ℕ) (s : ChannelSlot) → i < length (c .slots) → putSlot (layout c ++ r) i s ≡ layout (withSlot c i s) ++ r
 unfolding putSlot layout
 put-slot-layout c r i s h =
-    let f = headerBytes (c .header) in
-    let q = flat openBytes (c .opens) in
+    let f = stateHeader (c .header) in
+    let q = flat queuedBytes (c .queue) in
     let g : (x : List ChannelSlot) → f ++ flat slotBytes x ++ q ++ r ≡ f ++ flat slotBytes x ++ (q ++ r) = λ x. append-assoc (f ++ flat slotBytes x) q r in
     let n = length-header (c .header) in
-    rw (g (c .slots), g (set (c .slots) i s)) (put-row 49 slotBytes length-slot f (c .slots) (q ++ r) i (58 + i * 49) s h (omega arith))
+    rw (g (c .slots), g (set (c .slots) i s)) (put-row slotLen slotBytes length-slot f (c .slots) (q ++ r) i (headerLen + i * slotLen) s h (omega arith))
 
 pub put-header-layout : (c : Connection) (r : List ℕ) (h : Header) → putHeader (layout c ++ r) h ≡ layout (withHeader c h) ++ r
 unfolding putHeader layout
 put-header-layout c r h =
     let x = flat slotBytes (c .slots) in
-    let q = flat openBytes (c .opens) in
+    let q = flat queuedBytes (c .queue) in
     let g : (f : List ℕ) → f ++ x ++ q ++ r ≡ f ++ (x ++ q ++ r) = λ f. simp append-assoc in
-    rw (g (headerBytes (c .header)), g (headerBytes h)) (put-at [] (headerBytes (c .header)) (x ++ q ++ r) (headerBytes h) 0 refl (length-header (c .header) ∙ sym (length-header h)))
+    rw (g (stateHeader (c .header)), g (stateHeader h)) (put-at [] (stateHeader (c .header)) (x ++ q ++ r) (stateHeader h) 0 refl (length-header (c .header) ∙ sym (length-header h)))
 
-pub put-open-layout : (c : Connection) (r : List ℕ) (i : ℕ) (q : PendingOpen) → length (c .slots) ≡ 64 → i < length (c .opens) → putOpen (layout c ++ r) i q ≡ layout (withOpen c i q) ++ r
-unfolding putOpen layout
-put-open-layout c r i q n h =
-    let f = headerBytes (c .header) ++ flat slotBytes (c .slots) in
+pub put-queued-layout : (c : Connection) (r : List ℕ) (i : ℕ) (q : QueuedOpen) → length (c .slots) ≡ 64 → i < length (c .queue) → putQueued (layout c ++ r) i q ≡ layout (withQueuedAt c i q) ++ r
+unfolding putQueued layout
+put-queued-layout c r i q n h =
+    let f = stateHeader (c .header) ++ flat slotBytes (c .slots) in
     let a = length-header (c .header) in
-    let b = length-flat 49 slotBytes length-slot (c .slots) in
-    let m : length f ≡ 3194 = simp length-append (omega arith) in
-    put-row 24 openBytes length-open f (c .opens) r i (3194 + i * 24) q h (omega arith)
+    let b = length-flat slotLen slotBytes length-slot (c .slots) in
+    let m : length f ≡ queueAt = simp length-append (omega arith) in
+    put-row queuedLen queuedBytes length-open f (c .queue) r i (queueAt + i * queuedLen) q h (omega arith)
 
 -- ---- what the code reads is the state's
 
-slot-part : (b : List ℕ) (i : ℕ) → part (drop 58 b) (i * 49) 49 ≡ part b (58 + i * 49) 49
+slot-part : (b : List ℕ) (i : ℕ) → part (drop headerLen b) (i * slotLen) slotLen ≡ part b (headerLen + i * slotLen) slotLen
 unfolding part
 slot-part b i = rw drop-drop
 
-open-part : (b : List ℕ) (i : ℕ) → part (drop 3194 b) (i * 24) 24 ≡ part b (3194 + i * 24) 24
+open-part : (b : List ℕ) (i : ℕ) → part (drop queueAt b) (i * queuedLen) queuedLen ≡ part b (queueAt + i * queuedLen) queuedLen
 unfolding part
 open-part b i = rw drop-drop
 
 pub slot-in : (b : List ℕ) (i : ℕ) (d : ChannelSlot) → i < 64 → getD (stateOf b .slots) i d ≡ slotAt b i
 unfolding stateOf slotAt
-slot-in b i d h = row-at 49 slotOf d 64 i (drop 58 b) h ∙ ap slotOf (slot-part b i)
+slot-in b i d h = row-at slotLen slotOf d 64 i (drop headerLen b) h ∙ ap slotOf (slot-part b i)
 
-pub open-in : (b : List ℕ) (i : ℕ) (d : PendingOpen) → i < 64 → getD (stateOf b .opens) i d ≡ openAt b i
-unfolding stateOf openAt
-open-in b i d h = row-at 24 openOf d 64 i (drop 3194 b) h ∙ ap openOf (open-part b i)
+pub open-in : (b : List ℕ) (i : ℕ) (d : QueuedOpen) → i < 64 → getD (stateOf b .queue) i d ≡ queuedAt b i
+unfolding stateOf queuedAt
+open-in b i d h = row-at queuedLen queuedOf d 64 i (drop queueAt b) h ∙ ap queuedOf (open-part b i)
 
 pub header-in : (b : List ℕ) → stateOf b .header ≡ headerOf b
 unfolding stateOf
@@ -531,33 +531,33 @@ header-in b = refl
 pub layout-is-state : (c : Connection) (r : List ℕ) → Full c → isState (layout c ++ r) ≡ true
 unfolding isState layout
 layout-is-state c r f =
-    let h = headerBytes (c .header) in
+    let h = stateHeader (c .header) in
     let x = flat slotBytes (c .slots) in
-    let q = flat openBytes (c .opens) in
+    let q = flat queuedBytes (c .queue) in
     let n = length-header (c .header) in
-    let m = length-flat 49 slotBytes length-slot (c .slots) in
-    let k = length-flat 24 openBytes length-open (c .opens) in
+    let m = length-flat slotLen slotBytes length-slot (c .slots) in
+    let k = length-flat queuedLen queuedBytes length-open (c .queue) in
     let a = f .slots in
-    let b = f .opens in
-    let long : 4730 ≤ length (h ++ x ++ q ++ r) = simp length-append (omega arith) in
+    let b = f .queue in
+    let long : stateLen ≤ length (h ++ x ++ q ++ r) = simp length-append (omega arith) in
     let g : h ++ x ++ q ++ r ≡ h ++ (x ++ (q ++ r)) = simp append-assoc in
-    let d : drop 58 (h ++ x ++ q ++ r) ≡ x ++ (q ++ r) = rw g (drop-at h (x ++ (q ++ r)) 58 n) in
-    let s : allIs 49 isSlot 64 (x ++ (q ++ r)) ≡ true = rw a at (all-flat 49 slotBytes isSlot length-slot slot-is (c .slots) (q ++ r)) in
+    let d : drop headerLen (h ++ x ++ q ++ r) ≡ x ++ (q ++ r) = rw g (drop-at h (x ++ (q ++ r)) headerLen n) in
+    let s : allIs slotLen isSlot 64 (x ++ (q ++ r)) ≡ true = rw a at (all-flat slotLen slotBytes isSlot length-slot slot-is (c .slots) (q ++ r)) in
     let z = rw (← g) at (header-flags (c .header) (x ++ (q ++ r))) in
-    rw (le-leb 4730 (length (h ++ x ++ q ++ r)) long, le-leb (getD (h ++ x ++ q ++ r) 56 0) 1 (z .0), le-leb (getD (h ++ x ++ q ++ r) 57 0) 1 (z .1), d) s
+    rw (le-leb stateLen (length (h ++ x ++ q ++ r)) long, le-leb (getD (h ++ x ++ q ++ r) 56 0) 1 (z .0), le-leb (getD (h ++ x ++ q ++ r) 57 0) 1 (z .1), d) s
 
 -- ---- what is put is read back, and the others stay
 
-module _ (b : List ℕ) (i : ℕ) (s : ChannelSlot) (h : i < 64) (k : 4730 ≤ length b) where
+module _ (b : List ℕ) (i : ℕ) (s : ChannelSlot) (h : i < 64) (k : stateLen ≤ length b) where
   pub put-slot-length : length (putSlot b i s) ≡ length b
   unfolding putSlot
-  put-slot-length = let n = length-slot s in length-put b (58 + i * 49) (slotBytes s) (omega arith)
+  put-slot-length = let n = length-slot s in length-put b (headerLen + i * slotLen) (slotBytes s) (omega arith)
 
   pub put-slot-same : SlotFits s → slotAt (putSlot b i s) i ≡ s
   unfolding slotAt putSlot
   put-slot-same f =
       let n = length-slot s in
-      let e : part (put b (58 + i * 49) (slotBytes s)) (58 + i * 49) 49 ≡ slotBytes s = rw n at (part-put-same b (58 + i * 49) (slotBytes s) (omega arith)) in
+      let e : part (put b (headerLen + i * slotLen) (slotBytes s)) (headerLen + i * slotLen) slotLen ≡ slotBytes s = rw n at (part-put-same b (headerLen + i * slotLen) (slotBytes s) (omega arith)) in
       rw e (slot-forth s f)
 
   pub put-slot-other : (j : ℕ) → j < 64 → (j ≡ i → ⊥) → slotAt (putSlot b i s) j ≡ slotAt b j
@@ -565,13 +565,13 @@ module _ (b : List ℕ) (i : ℕ) (s : ChannelSlot) (h : i < 64) (k : 4730 ≤ l
   put-slot-other j g ne =
       let n = length-slot s in
       by-test (ltb j i)
-      (λ t. rw (part-put-below b (58 + i * 49) (slotBytes s) (58 + j * 49) 49 (omega arith) (omega (arith, ltb-true))))
+      (λ t. rw (part-put-below b (headerLen + i * slotLen) (slotBytes s) (headerLen + j * slotLen) slotLen (omega arith) (omega (arith, ltb-true))))
       (λ t. by-test (ltb i j)
-      (λ u. rw (part-put-above b (58 + i * 49) (slotBytes s) (58 + j * 49) 49 (omega arith) (omega (arith, ltb-true))))
+      (λ u. rw (part-put-above b (headerLen + i * slotLen) (slotBytes s) (headerLen + j * slotLen) slotLen (omega arith) (omega (arith, ltb-true))))
       (λ u. absurd (ne (omega (arith, ltb-false)))))
 
-  pub put-slot-opens : (j : ℕ) → j < 64 → openAt (putSlot b i s) j ≡ openAt b j
-  unfolding openAt putSlot
+  pub put-slot-opens : (j : ℕ) → j < 64 → queuedAt (putSlot b i s) j ≡ queuedAt b j
+  unfolding queuedAt putSlot
   put-slot-opens j g =
       let n = length-slot s in
-      rw (part-put-above b (58 + i * 49) (slotBytes s) (3194 + j * 24) 24 (omega arith) (omega arith))
+      rw (part-put-above b (headerLen + i * slotLen) (slotBytes s) (queueAt + j * queuedLen) queuedLen (omega arith) (omega arith))

@@ -6,31 +6,31 @@ use lib.ListN.{length, drop}
 use Rattle.le.specs.Le.{put}
 use Rattle.slot.specs.declared.ChannelSlot.{ChannelSlot}
 use Rattle.state.specs.declared.Header.{Header}
-use Rattle.state.specs.declared.PendingOpen.{PendingOpen}
-use Rattle.state.specs.Rows.{flat}
-use Rattle.state.specs.State.{Connection, openBytes, putSlot, putOpen, putHeader, withSlot, withHeader, withOpen}
+use Rattle.state.specs.declared.QueuedOpen.{QueuedOpen}
+use Rattle.le.specs.Rows.{flat}
+use Rattle.state.specs.State.{queueAt, Connection, queuedBytes, putSlot, putQueued, putHeader, withSlot, withHeader, withQueuedAt}
 
--- one slot, the header, one waiting open, or the first of them
+-- one slot, the header, one queued open, or the first of them
 pub data Change : Type 0 where
   slotTo : ℕ → ChannelSlot → Change
   headerTo : Header → Change
-  openTo : ℕ → PendingOpen → Change
-  opensTo : List PendingOpen → Change
+  queuedTo : ℕ → QueuedOpen → Change
+  queueTo : List QueuedOpen → Change
 
--- the first waiting opens, in place
-unfoldable pub putOpens : List ℕ → List PendingOpen → List ℕ
-putOpens b qs = put b 3194 (flat openBytes qs)
+-- the first queued opens, in place
+unfoldable pub putQueue : List ℕ → List QueuedOpen → List ℕ
+putQueue b qs = put b queueAt (flat queuedBytes qs)
 
--- the first waiting opens become these, the rest stay
-abbrev pub withOpens : Connection → List PendingOpen → Connection
-withOpens c qs = record { header = c .header; slots = c .slots; opens = qs ++ drop (length qs) (c .opens) }
+-- the first queued opens become these, the rest stay
+abbrev pub withQueue : Connection → List QueuedOpen → Connection
+withQueue c qs = record { header = c .header; slots = c .slots; queue = qs ++ drop (length qs) (c .queue) }
 
 -- to the record
 abbrev pub changed : Connection → Change → Connection
 changed c (slotTo i s) = withSlot c i s
 changed c (headerTo h) = withHeader c h
-changed c (openTo i q) = withOpen c i q
-changed c (opensTo qs) = withOpens c qs
+changed c (queuedTo i q) = withQueuedAt c i q
+changed c (queueTo qs) = withQueue c qs
 
 -- one change after the other
 abbrev pub changedAll : Connection → List Change → Connection
@@ -41,8 +41,8 @@ changedAll c (x ∷ xs) = changedAll (changed c x) xs
 abbrev pub putChange : List ℕ → Change → List ℕ
 putChange b (slotTo i s) = putSlot b i s
 putChange b (headerTo h) = putHeader b h
-putChange b (openTo i q) = putOpen b i q
-putChange b (opensTo qs) = putOpens b qs
+putChange b (queuedTo i q) = putQueued b i q
+putChange b (queueTo qs) = putQueue b qs
 
 -- one change after the other
 abbrev pub putAll : List ℕ → List Change → List ℕ
@@ -50,11 +50,11 @@ putAll b [] = b
 putAll b (x ∷ xs) = putAll (putChange b x) xs
 
 -- a change's places are among the 64
-abbrev pub Within : Change → Type 0
-Within (slotTo i s) = i < 64
-Within (headerTo h) = Unit {0}
-Within (openTo i q) = i < 64
-Within (opensTo qs) = length qs ≤ 64
+abbrev pub InPlace : Change → Type 0
+InPlace (slotTo i s) = i < 64
+InPlace (headerTo h) = Unit {0}
+InPlace (queuedTo i q) = i < 64
+InPlace (queueTo qs) = length qs ≤ 64
 
 -- an answer, and what changes in the state
 pub record Step (R : Type 0) : Type 0 where

@@ -1,4 +1,2 @@
 pub mod Change
-pub mod Rows
 pub mod State
-pub mod Valid

@@ -12,14 +12,36 @@ use Rattle.slot.specs.declared.ChannelState.the-variants.{Opening, Open, Closed
 use Rattle.slot.specs.declared.Failed.{Failed}
 use Rattle.slot.specs.declared.Failed.the-variants.{No, By}
 use Rattle.state.specs.declared.Header.{Header}
-use Rattle.state.specs.declared.PendingOpen.{PendingOpen}
-use Rattle.state.specs.Rows.{flat, rows, allIs}
+use Rattle.state.specs.declared.QueuedOpen.{QueuedOpen}
+use Rattle.le.specs.Rows.{flat, rows, allIs}
 
--- the state, with no bytes in it: 64 slots and 64 places for waiting opens
+-- ---- where things lie: a header, 64 slots, 64 places for queued opens
+
+-- the length of the header
+abbrev pub headerLen : ℕ
+headerLen = 58
+
+-- the length of a slot
+abbrev pub slotLen : ℕ
+slotLen = 49
+
+-- the length of a queued open
+abbrev pub queuedLen : ℕ
+queuedLen = 24
+
+-- where the queued opens begin: behind the header and 64 slots
+abbrev pub queueAt : ℕ
+queueAt = headerLen + 64 * slotLen
+
+-- the length of a state
+abbrev pub stateLen : ℕ
+stateLen = queueAt + 64 * queuedLen
+
+-- the state, with no bytes in it: 64 slots and 64 places for queued opens
 pub record Connection : Type 0 where
   pub header : Header
   pub slots : List ChannelSlot
-  pub opens : List PendingOpen
+  pub queue : List QueuedOpen
 
 -- ---- flags and tags
 
@@ -52,7 +74,7 @@ failedTag (By RxOverflow) = 1
 failedTag (By ShortReadyPayload) = 2
 failedTag (By UnexpectedCommand) = 3
 
--- ---- a slot: 49 bytes
+-- ---- a slot
 
 -- its numbers: 48 bytes
 unfoldable pub slotNumbers : ChannelSlot → List ℕ
@@ -69,7 +91,7 @@ tagOf s =
 unfoldable pub slotBytes : ChannelSlot → List ℕ
 slotBytes s = slotNumbers s ++ bytesOf 1 (tagOf s)
 
--- the slot that 49 bytes stand for
+-- the slot that bytes stand for
 unfoldable pub slotOf : List ℕ → ChannelSlot
 slotOf l =
     record {
@@ -95,38 +117,38 @@ isTag t = leb t 127 && leb (t / 2 / 2 / 2 % 4) 2
 unfoldable pub isSlot : List ℕ → Bool
 isSlot l = isTag (getD l 48 0)
 
--- ---- a waiting open: 24 bytes
+-- ---- a queued open
 
 -- its four numbers
-unfoldable pub openBytes : PendingOpen → List ℕ
-openBytes q = bytesOf 4 (q .remote .0) ++ bytesOf 4 (q .credit) ++ bytesOf 8 (q .share) ++ bytesOf 8 (q .length)
+unfoldable pub queuedBytes : QueuedOpen → List ℕ
+queuedBytes q = bytesOf 4 (q .remote .0) ++ bytesOf 4 (q .credit) ++ bytesOf 8 (q .share) ++ bytesOf 8 (q .length)
 
--- the waiting open that 24 bytes stand for
-unfoldable pub openOf : List ℕ → PendingOpen
-openOf l = record { remote = record { 0 = numOf (part l 0 4) }; credit = numOf (part l 4 4); share = numOf (part l 8 8); length = numOf (part l 16 8) }
+-- the queued open that bytes stand for
+unfoldable pub queuedOf : List ℕ → QueuedOpen
+queuedOf l = record { remote = record { 0 = numOf (part l 0 4) }; credit = numOf (part l 4 4); share = numOf (part l 8 8); length = numOf (part l 16 8) }
 
--- ---- the header: 58 bytes
+-- ---- the header
 
 -- the numbers of 8 bytes
 unfoldable pub headerSizes : Header → List ℕ
 headerSizes h =
     bytesOf 8 (h .negotiated .config .channels) ++ bytesOf 8 (h .negotiated .config .«max_rx_per_channel»)
-    ++ bytesOf 8 (h .waiting .slot) ++ bytesOf 8 (h .queued)
+    ++ bytesOf 8 (h .pending .slot) ++ bytesOf 8 (h .queued)
 
 -- the numbers of 4 bytes
 unfoldable pub headerWords : Header → List ℕ
 headerWords h =
     bytesOf 4 (h .negotiated .config .«max_payload») ++ bytesOf 4 (h .negotiated .config .«initial_ack_bytes»)
     ++ bytesOf 4 (h .negotiated .«max_payload») ++ bytesOf 4 (h .negotiated .«protocol_version»)
-    ++ bytesOf 4 (h .«next_local») ++ bytesOf 4 (h .waiting .local .0)
+    ++ bytesOf 4 (h .«next_local») ++ bytesOf 4 (h .pending .local .0)
 
 -- the two flags
 unfoldable pub headerTags : Header → List ℕ
-headerTags h = bytesOf 1 (flagByte (h .negotiated .«delayed_ack»)) ++ bytesOf 1 (flagByte (h .waiting .on))
+headerTags h = bytesOf 1 (flagByte (h .negotiated .«delayed_ack»)) ++ bytesOf 1 (flagByte (h .pending .on))
 
 -- the whole header
-unfoldable pub headerBytes : Header → List ℕ
-headerBytes h = headerSizes h ++ headerWords h ++ headerTags h
+unfoldable pub stateHeader : Header → List ℕ
+stateHeader h = headerSizes h ++ headerWords h ++ headerTags h
 
 -- the header that bytes begin with
 unfoldable pub headerOf : List ℕ → Header
@@ -146,54 +168,54 @@ headerOf l =
             «delayed_ack» = flagOf (getD l 56 0);
           };
       «next_local» = numOf (part l 48 4);
-      waiting = record { on = flagOf (getD l 57 0); slot = numOf (part l 16 8); local = record { 0 = numOf (part l 52 4) } };
+      pending = record { on = flagOf (getD l 57 0); slot = numOf (part l 16 8); local = record { 0 = numOf (part l 52 4) } };
       queued = numOf (part l 24 8);
     }
 
--- ---- the whole: header, 64 slots, 64 waiting opens: 4,730 bytes
+-- ---- the whole: header, 64 slots, 64 queued opens
 
 -- the bytes of a state
 unfoldable pub layout : Connection → List ℕ
-layout c = headerBytes (c .header) ++ flat slotBytes (c .slots) ++ flat openBytes (c .opens)
+layout c = stateHeader (c .header) ++ flat slotBytes (c .slots) ++ flat queuedBytes (c .queue)
 
 -- the state that bytes stand for
 unfoldable pub stateOf : List ℕ → Connection
-stateOf b = record { header = headerOf b; slots = rows 49 slotOf 64 (drop 58 b); opens = rows 24 openOf 64 (drop 3194 b) }
+stateOf b = record { header = headerOf b; slots = rows slotLen slotOf 64 (drop headerLen b); queue = rows queuedLen queuedOf 64 (drop queueAt b) }
 
 -- bytes that are a state's: enough of them, flags 0 or 1, tags in range
 unfoldable pub isState : List ℕ → Bool
-isState b = leb 4730 (length b) && leb (getD b 56 0) 1 && leb (getD b 57 0) 1 && allIs 49 isSlot 64 (drop 58 b)
+isState b = leb stateLen (length b) && leb (getD b 56 0) 1 && leb (getD b 57 0) 1 && allIs slotLen isSlot 64 (drop headerLen b)
 
 -- ---- one record of it, in place
 
 -- the slot at place i
 unfoldable pub slotAt : List ℕ → ℕ → ChannelSlot
-slotAt b i = slotOf (part b (58 + i * 49) 49)
+slotAt b i = slotOf (part b (headerLen + i * slotLen) slotLen)
 
--- the waiting open at place i
-unfoldable pub openAt : List ℕ → ℕ → PendingOpen
-openAt b i = openOf (part b (3194 + i * 24) 24)
+-- the queued open at place i
+unfoldable pub queuedAt : List ℕ → ℕ → QueuedOpen
+queuedAt b i = queuedOf (part b (queueAt + i * queuedLen) queuedLen)
 
 -- s stored as the slot at place i
 unfoldable pub putSlot : List ℕ → ℕ → ChannelSlot → List ℕ
-putSlot b i s = put b (58 + i * 49) (slotBytes s)
+putSlot b i s = put b (headerLen + i * slotLen) (slotBytes s)
 
--- q stored as the waiting open at place i
-unfoldable pub putOpen : List ℕ → ℕ → PendingOpen → List ℕ
-putOpen b i q = put b (3194 + i * 24) (openBytes q)
+-- q stored as the queued open at place i
+unfoldable pub putQueued : List ℕ → ℕ → QueuedOpen → List ℕ
+putQueued b i q = put b (queueAt + i * queuedLen) (queuedBytes q)
 
 -- h stored as the header
 unfoldable pub putHeader : List ℕ → Header → List ℕ
-putHeader b h = put b 0 (headerBytes h)
+putHeader b h = put b 0 (stateHeader h)
 
 -- the record with s as the slot at place i
 abbrev pub withSlot : Connection → ℕ → ChannelSlot → Connection
-withSlot c i s = record { header = c .header; slots = set (c .slots) i s; opens = c .opens }
+withSlot c i s = record { header = c .header; slots = set (c .slots) i s; queue = c .queue }
 
 -- the record with another header
 abbrev pub withHeader : Connection → Header → Connection
-withHeader c h = record { header = h; slots = c .slots; opens = c .opens }
+withHeader c h = record { header = h; slots = c .slots; queue = c .queue }
 
--- the record with q as the waiting open at place i
-abbrev pub withOpen : Connection → ℕ → PendingOpen → Connection
-withOpen c i q = record { header = c .header; slots = c .slots; opens = set (c .opens) i q }
+-- the record with q as the queued open at place i
+abbrev pub withQueuedAt : Connection → ℕ → QueuedOpen → Connection
+withQueuedAt c i q = record { header = c .header; slots = c .slots; queue = set (c .queue) i q }

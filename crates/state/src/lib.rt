@@ -1,8 +1,6 @@
-// The lent state, worked on in place: a header of 58 bytes, 64 slots of 49, 64 waiting opens of 24 (docs/LAYOUT.md).
-// The header is read and written by value; a slot or a waiting open is read where it lies, and the one that changed is
+// The lent state, worked on in place: a header, 64 slots, 64 queued opens (docs/LAYOUT.md).
+// The header is read and written by value; a slot or a queued open is read where it lies, and the one that changed is
 // stored.
-pub mod valid;
-
 use config::ConnectionConfig;
 use config::negotiated::Negotiated;
 use slot::ChannelFault;
@@ -15,10 +13,23 @@ ghost use mathlib.Core.Path.{_≡_};
 ghost use Prim.Native.Nat.{_+_, _*_, _≤_, _<_};
 ghost use lib.ListN.{length};
 ghost use Rattle.le.specs.Le.{put};
-ghost use Rattle.state.specs.State.{flagOf, flagByte, stateOfTag, stateTag, failedOfTag, failedTag, slotNumbers, tagOf, slotBytes, slotOf, openBytes, openOf, headerSizes, headerWords, headerTags, headerOf, slotAt, openAt, putSlot, putOpen, putHeader};
+ghost use Rattle.state.specs.State.{headerLen, queuedLen, slotLen, stateLen, flagOf, flagByte, stateOfTag, stateTag, failedOfTag};
+ghost use Rattle.state.specs.State.{failedTag, slotNumbers, tagOf, slotBytes, slotOf, queuedBytes, queuedOf, headerSizes};
+ghost use Rattle.state.specs.State.{headerWords, headerTags, headerOf, slotAt, queuedAt, putSlot, putQueued, putHeader};
 
-// An open of ours that waits for its OKAY.
-pub struct Waiting {
+// The header's length, and where the slots begin.
+pub const HEADER_LEN: usize = 58;
+
+pub const SLOT_LEN: usize = 49;
+// Where the queued opens begin: behind the header and 64 slots.
+pub const QUEUE_AT: usize = HEADER_LEN + 64 * SLOT_LEN;
+
+pub const QUEUED_LEN: usize = 24;
+
+pub const STATE_LEN: usize = QUEUE_AT + 64 * QUEUED_LEN;
+
+// A pending open: ours, until its OKAY comes.
+pub struct PendingOpen {
     pub on: bool,
     pub slot: usize,
     pub local: LocalId,
@@ -28,13 +39,13 @@ pub struct Header {
     pub negotiated: Negotiated,
     // The number that the next channel gets.
     pub next_local: u32,
-    pub waiting: Waiting,
-    // How many opens of the device's wait.
+    pub pending: PendingOpen,
+    // How many opens of the device's are queued.
     pub queued: usize,
 }
 
-// An open of the device's that waits to be taken. Its destination lies at the start of its share of the open store.
-pub struct PendingOpen {
+// An open of the device's that is queued until it is taken. Its destination lies at the start of its share of the open store.
+pub struct QueuedOpen {
     pub remote: RemoteId,
     pub credit: u32,
     pub share: usize,
@@ -112,9 +123,9 @@ fn failed_tag(failed: Failed) -> u8
     }
 }
 
-// The slot that 49 bytes stand for.
-pub(crate) fn slot_of(p: &[u8]) -> ChannelSlot
-    requires { ⌜ 49 ≤ length (now p) ⌝ }
+// The slot that bytes stand for.
+pub fn slot_of(p: &[u8]) -> ChannelSlot
+    requires { ⌜ slotLen ≤ length (now p) ⌝ }
     ensures { λ r. ⌜ r ≡ slotOf (now (p .entry)) ⌝ }
 {
     let tag = p[48];
@@ -135,7 +146,7 @@ pub(crate) fn slot_of(p: &[u8]) -> ChannelSlot
 }
 
 fn fill_numbers(p: &mut [u8], s: ChannelSlot)
-    requires { ⌜ 49 ≤ length (now p) ⌝ }
+    requires { ⌜ slotLen ≤ length (now p) ⌝ }
     ensures { λ _. ⌜ now (p .exit) ≡ put (now (p .entry)) 0 (slotNumbers s) ⌝ }
 {
     le::put_u32(p, 0, s.local.0);
@@ -157,7 +168,7 @@ fn tag_of(s: ChannelSlot) -> u8
 }
 
 fn fill_slot(p: &mut [u8], s: ChannelSlot)
-    requires { ⌜ 49 ≤ length (now p) ⌝ }
+    requires { ⌜ slotLen ≤ length (now p) ⌝ }
     ensures { λ _. ⌜ now (p .exit) ≡ put (now (p .entry)) 0 (slotBytes s) ⌝ }
 {
     fill_numbers(p, s);
@@ -166,29 +177,29 @@ fn fill_slot(p: &mut [u8], s: ChannelSlot)
 
 // The slot at place i.
 pub fn slot_at(state: &[u8], i: usize) -> ChannelSlot
-    requires { ⌜ (i < 64) × (4730 ≤ length (now state)) ⌝ }
+    requires { ⌜ (i < 64) × (stateLen ≤ length (now state)) ⌝ }
     ensures { λ r. ⌜ r ≡ slotAt (now (state .entry)) i ⌝ }
 {
-    let at = 58 + i * 49;
-    let end = at + 49;
+    let at = HEADER_LEN + i * SLOT_LEN;
+    let end = at + SLOT_LEN;
     slot_of(&state[at..end])
 }
 
 pub fn put_slot(state: &mut [u8], i: usize, s: ChannelSlot)
-    requires { ⌜ (i < 64) × (4730 ≤ length (now state)) ⌝ }
+    requires { ⌜ (i < 64) × (stateLen ≤ length (now state)) ⌝ }
     ensures { λ _. ⌜ now (state .exit) ≡ putSlot (now (state .entry)) i s ⌝ }
 {
-    let at = 58 + i * 49;
-    let end = at + 49;
+    let at = HEADER_LEN + i * SLOT_LEN;
+    let end = at + SLOT_LEN;
     fill_slot(&mut state[at..end], s);
 }
 
-// The waiting open that 24 bytes stand for.
-fn open_of(p: &[u8]) -> PendingOpen
-    requires { ⌜ 24 ≤ length (now p) ⌝ }
-    ensures { λ r. ⌜ r ≡ openOf (now (p .entry)) ⌝ }
+// The queued open that bytes stand for.
+fn queued_of(p: &[u8]) -> QueuedOpen
+    requires { ⌜ queuedLen ≤ length (now p) ⌝ }
+    ensures { λ r. ⌜ r ≡ queuedOf (now (p .entry)) ⌝ }
 {
-    PendingOpen {
+    QueuedOpen {
         remote: RemoteId(le::get_u32(p, 0)),
         credit: le::get_u32(p, 4),
         share: le::get_usize(p, 8),
@@ -196,9 +207,9 @@ fn open_of(p: &[u8]) -> PendingOpen
     }
 }
 
-fn fill_open(p: &mut [u8], q: PendingOpen)
-    requires { ⌜ 24 ≤ length (now p) ⌝ }
-    ensures { λ _. ⌜ now (p .exit) ≡ put (now (p .entry)) 0 (openBytes q) ⌝ }
+fn fill_queued(p: &mut [u8], q: QueuedOpen)
+    requires { ⌜ queuedLen ≤ length (now p) ⌝ }
+    ensures { λ _. ⌜ now (p .exit) ≡ put (now (p .entry)) 0 (queuedBytes q) ⌝ }
 {
     le::put_u32(p, 0, q.remote.0);
     le::put_u32(p, 4, q.credit);
@@ -206,27 +217,27 @@ fn fill_open(p: &mut [u8], q: PendingOpen)
     le::put_usize(p, 16, q.length);
 }
 
-// The waiting open at place i.
-pub fn open_at(state: &[u8], i: usize) -> PendingOpen
-    requires { ⌜ (i < 64) × (4730 ≤ length (now state)) ⌝ }
-    ensures { λ r. ⌜ r ≡ openAt (now (state .entry)) i ⌝ }
+// The queued open at place i.
+pub fn queued_at(state: &[u8], i: usize) -> QueuedOpen
+    requires { ⌜ (i < 64) × (stateLen ≤ length (now state)) ⌝ }
+    ensures { λ r. ⌜ r ≡ queuedAt (now (state .entry)) i ⌝ }
 {
-    let at = 3194 + i * 24;
-    let end = at + 24;
-    open_of(&state[at..end])
+    let at = QUEUE_AT + i * QUEUED_LEN;
+    let end = at + QUEUED_LEN;
+    queued_of(&state[at..end])
 }
 
-pub fn put_open(state: &mut [u8], i: usize, q: PendingOpen)
-    requires { ⌜ (i < 64) × (4730 ≤ length (now state)) ⌝ }
-    ensures { λ _. ⌜ now (state .exit) ≡ putOpen (now (state .entry)) i q ⌝ }
+pub fn put_queued(state: &mut [u8], i: usize, q: QueuedOpen)
+    requires { ⌜ (i < 64) × (stateLen ≤ length (now state)) ⌝ }
+    ensures { λ _. ⌜ now (state .exit) ≡ putQueued (now (state .entry)) i q ⌝ }
 {
-    let at = 3194 + i * 24;
-    let end = at + 24;
-    fill_open(&mut state[at..end], q);
+    let at = QUEUE_AT + i * QUEUED_LEN;
+    let end = at + QUEUED_LEN;
+    fill_queued(&mut state[at..end], q);
 }
 
 pub fn header_of(state: &[u8]) -> Header
-    requires { ⌜ 58 ≤ length (now state) ⌝ }
+    requires { ⌜ headerLen ≤ length (now state) ⌝ }
     ensures { λ r. ⌜ r ≡ headerOf (now (state .entry)) ⌝ }
 {
     let config = ConnectionConfig {
@@ -241,7 +252,7 @@ pub fn header_of(state: &[u8]) -> Header
         config,
         delayed_ack: flag(state[56]),
     };
-    let waiting = Waiting {
+    let pending = PendingOpen {
         on: flag(state[57]),
         slot: le::get_usize(state, 16),
         local: LocalId(le::get_u32(state, 52)),
@@ -249,51 +260,51 @@ pub fn header_of(state: &[u8]) -> Header
     Header {
         negotiated,
         next_local: le::get_u32(state, 48),
-        waiting,
+        pending,
         queued: le::get_usize(state, 24),
     }
 }
 
 fn put_sizes(state: &mut [u8], h: Header)
-    requires { ⌜ 58 ≤ length (now state) ⌝ }
+    requires { ⌜ headerLen ≤ length (now state) ⌝ }
     ensures { λ _. ⌜ now (state .exit) ≡ put (now (state .entry)) 0 (headerSizes h) ⌝ }
 {
     let negotiated = h.negotiated;
     let config = negotiated.config;
-    let waiting = h.waiting;
+    let pending = h.pending;
     le::put_usize(state, 0, config.channels);
     le::put_usize(state, 8, config.max_rx_per_channel);
-    le::put_usize(state, 16, waiting.slot);
+    le::put_usize(state, 16, pending.slot);
     le::put_usize(state, 24, h.queued);
 }
 
 fn put_words(state: &mut [u8], h: Header)
-    requires { ⌜ 58 ≤ length (now state) ⌝ }
+    requires { ⌜ headerLen ≤ length (now state) ⌝ }
     ensures { λ _. ⌜ now (state .exit) ≡ put (now (state .entry)) 32 (headerWords h) ⌝ }
 {
     let negotiated = h.negotiated;
     let config = negotiated.config;
-    let waiting = h.waiting;
+    let pending = h.pending;
     le::put_u32(state, 32, config.max_payload);
     le::put_u32(state, 36, config.initial_ack_bytes);
     le::put_u32(state, 40, negotiated.max_payload);
     le::put_u32(state, 44, negotiated.protocol_version);
     le::put_u32(state, 48, h.next_local);
-    le::put_u32(state, 52, waiting.local.0);
+    le::put_u32(state, 52, pending.local.0);
 }
 
 fn put_tags(state: &mut [u8], h: Header)
-    requires { ⌜ 58 ≤ length (now state) ⌝ }
+    requires { ⌜ headerLen ≤ length (now state) ⌝ }
     ensures { λ _. ⌜ now (state .exit) ≡ put (now (state .entry)) 56 (headerTags h) ⌝ }
 {
     let negotiated = h.negotiated;
-    let waiting = h.waiting;
+    let pending = h.pending;
     le::put_u8(state, 56, flag_byte(negotiated.delayed_ack));
-    le::put_u8(state, 57, flag_byte(waiting.on));
+    le::put_u8(state, 57, flag_byte(pending.on));
 }
 
 pub fn put_header(state: &mut [u8], h: Header)
-    requires { ⌜ 58 ≤ length (now state) ⌝ }
+    requires { ⌜ headerLen ≤ length (now state) ⌝ }
     ensures { λ _. ⌜ now (state .exit) ≡ putHeader (now (state .entry)) h ⌝ }
 {
     put_sizes(state, h);

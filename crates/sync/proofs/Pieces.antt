@@ -12,7 +12,7 @@ use lib.ListN.{length, length-append}
 use borrow.Author.Tests.{ltb-false, le-ltb}
 use Rattle.le.specs.Le.{numOf, part}
 use Rattle.le.proofs.Parts.{by-test, part-front}
-use Rattle.stream.specs.Stream.{waiting, message, refused, isWaiting, joined, readAll, begun, feedAll, Stable}
+use Rattle.stream.specs.Stream.{message, refused, isWaiting, joined, readAll, begun, feedAll, Stable}
 use Rattle.stream.proofs.Cut.{cut}
 use Rattle.exchange.specs.declared.SyncId.{SyncId}
 use Rattle.exchange.specs.declared.Layout.{Layout}
@@ -22,7 +22,7 @@ use Rattle.exchange.specs.declared.Exchange.{Exchange}
 use Rattle.sync.specs.declared.Read.{Read}
 use Rattle.sync.specs.declared.Read.the-variants.{Waiting, InvalidId, DataTooLarge, Whole}
 use Rattle.exchange.specs.Exchange.{foundOf, headOf, isOver}
-use Rattle.sync.specs.Message.{lengthOf, knownOf, namedOf, readOf, usedOf}
+use Rattle.sync.specs.Message.{lengthOf, knownOf, namedOf, readMessage, usedOf}
 use Rattle.sync.specs.Pieces.{Got, answerOf, receives}
 use Rattle.exchange.proofs.ExchangeLaws.{heads}
 use Rattle.sync.proofs.ReadLaws.{fields-front, length-front, says, used-within}
@@ -49,8 +49,8 @@ module _ (l m : List ℕ) where
   named-stays Unknown e = refl
   named-stays (Known id k) e = known-stays id k e
 
-  read-stays : (x : Exchange) → isWaiting (answerOf l (readOf x l)) ≡ false → readOf x (l ++ m) ≡ readOf x l
-  unfolding readOf answerOf isWaiting
+  read-stays : (x : Exchange) → isWaiting (answerOf l (readMessage x l)) ≡ false → readMessage x (l ++ m) ≡ readMessage x l
+  unfolding readMessage answerOf isWaiting
   read-stays x e =
       let la = length-append l m in
       by-test (ltb (length l) 4)
@@ -58,7 +58,7 @@ module _ (l m : List ℕ) where
       (λ t. let h = ltb-false (length l) 4 t in
       rw (le-ltb (length (l ++ m)) 4 (omega arith), t, part-front l m 0 4 h) (named-stays (foundOf x (numOf (part l 0 4))) (rw t at e)))
 
-  answer-stays : (x : Exchange) (r : Read) → readOf x l ≡ r → answerOf (l ++ m) r ≡ answerOf l r
+  answer-stays : (x : Exchange) (r : Read) → readMessage x l ≡ r → answerOf (l ++ m) r ≡ answerOf l r
   unfolding answerOf
   answer-stays x Waiting e = refl
   answer-stays x InvalidId e = refl
@@ -68,7 +68,7 @@ module _ (l m : List ℕ) where
       rw (part-front l m at n (omega (arith, a .at-is, a .length-is, a .whole)))
 
 -- a message uses its head at least
-whole-used : (x : Exchange) (l : List ℕ) (g : Got) (n : ℕ) (r : Read) → readOf x l ≡ r → answerOf l r ≡ message g n → (n ≡ usedOf r) × (0 < n)
+whole-used : (x : Exchange) (l : List ℕ) (g : Got) (n : ℕ) (r : Read) → readMessage x l ≡ r → answerOf l r ≡ message g n → (n ≡ usedOf r) × (0 < n)
 unfolding answerOf usedOf
 whole-used x l g n Waiting e f = let z : _≡_ {A = ℕ} 0 1 = cc in absurd (omega arith)
 whole-used x l g n InvalidId e f = let z : _≡_ {A = ℕ} 0 1 = cc in absurd (omega arith)
@@ -87,14 +87,14 @@ refusal-used l number n DataTooLarge f = cc
 refusal-used l number n (Whole m at k used) f = cc
 
 pub stable : (x : Exchange) → Stable (receives x)
-unfolding receives readOf answerOf
+unfolding receives readMessage answerOf
 stable x =
     record {
       none = refl;
-      stays = λ l m e. ap (answerOf (l ++ m)) (read-stays l m x e) ∙ answer-stays l m x (readOf x l) refl;
-      moves = λ l g n e. whole-used x l g n (readOf x l) refl e .1;
-      within = λ l g n e. omega (arith, whole-used x l g n (readOf x l) refl e .0, used-within x l);
-      refused-within = λ l number n e. omega (arith, refusal-used l number n (readOf x l) e, used-within x l);
+      stays = λ l m e. ap (answerOf (l ++ m)) (read-stays l m x e) ∙ answer-stays l m x (readMessage x l) refl;
+      moves = λ l g n e. whole-used x l g n (readMessage x l) refl e .1;
+      within = λ l g n e. omega (arith, whole-used x l g n (readMessage x l) refl e .0, used-within x l);
+      refused-within = λ l number n e. omega (arith, refusal-used l number n (readMessage x l) e, used-within x l);
     }
 
 pub pieces : (x : Exchange) (cs : List (List ℕ)) → feedAll (receives x) begun cs ≡ readAll (receives x) (joined cs)

@@ -20,12 +20,12 @@ use Rattle.sync.specs.declared.Message.{Message}
 use Rattle.sync.specs.declared.Read.{Read}
 use Rattle.sync.specs.declared.Read.the-variants.{Waiting, InvalidId, DataTooLarge, Whole}
 use Rattle.exchange.specs.Exchange.{headOf, foundOf, isOver}
-use Rattle.sync.specs.Message.{statOf, fieldsOf, lengthOf, knownOf, namedOf, readOf, usedOf}
+use Rattle.sync.specs.Message.{statOf, fieldsOf, lengthOf, knownOf, namedOf, readMessage, usedOf}
 
 -- with the id here, what it names gives the answer
 pub named-read : (x : Exchange) (s : List ℕ) (word : ℕ) (f : Found) → 4 ≤ length s → word ≡ numOf (part s 0 4) → f ≡ foundOf x word
-    → namedOf s f ≡ readOf x s
-unfolding readOf
+    → namedOf s f ≡ readMessage x s
+unfolding readMessage
 named-read x s word f h e g = rw (le-ltb (length s) 4 h) (cc)
 
 -- ---- with more behind
@@ -95,20 +95,20 @@ named-says x s m at n used (Known id k) e g =
     let i = sym (a .id-is) in
     record { layout = k; found = rw (a .id-is) e; known = rw i at a }
 
-pub says : (x : Exchange) (s : List ℕ) (m : Message) (at n used : ℕ) → readOf x s ≡ Whole m at n used → Says x s m at n used
-unfolding readOf
+pub says : (x : Exchange) (s : List ℕ) (m : Message) (at n used : ℕ) → readMessage x s ≡ Whole m at n used → Says x s m at n used
+unfolding readMessage
 says x s m at n used e =
     by-test (ltb (length s) 4)
     (λ t. let f = rw t at e in let z : _≡_ {A = ℕ} 0 1 = cc in absurd (omega arith))
     (λ t. named-says x s m at n used (foundOf x (numOf (part s 0 4))) refl (rw t at e))
 
 -- what is used is here
-used-of : (x : Exchange) (s : List ℕ) (r : Read) → readOf x s ≡ r → usedOf r ≤ length s
+used-of : (x : Exchange) (s : List ℕ) (r : Read) → readMessage x s ≡ r → usedOf r ≤ length s
 unfolding usedOf
 used-of x s Waiting e = omega arith
 used-of x s InvalidId e = omega arith
 used-of x s DataTooLarge e = omega arith
 used-of x s (Whole m at n used) e = let a = says x s m at n used e .known in omega (arith, a .used-is, a .whole)
 
-pub used-within : (x : Exchange) (s : List ℕ) → usedOf (readOf x s) ≤ length s
-used-within x s = used-of x s (readOf x s) refl
+pub used-within : (x : Exchange) (s : List ℕ) → usedOf (readMessage x s) ≤ length s
+used-within x s = used-of x s (readMessage x s) refl

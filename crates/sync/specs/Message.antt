@@ -52,15 +52,15 @@ namedOf s (Known id k) = knownOf s id k
 namedOf s Unknown = InvalidId
 
 -- under 4 bytes: waiting; then the id decides
-unfoldable pub readOf : Exchange → List ℕ → Read
-readOf x s = cond (ltb (length s) 4) Waiting (namedOf s (foundOf x (numOf (part s 0 4))))
+unfoldable pub readMessage : Exchange → List ℕ → Read
+readMessage x s = cond (ltb (length s) 4) Waiting (namedOf s (foundOf x (numOf (part s 0 4))))
 
 -- the number of an answer: a refusal's own, 100 for waiting, 0 for a message
-unfoldable pub numberOf : Read → ℕ
-numberOf Waiting = 100
-numberOf InvalidId = 14
-numberOf DataTooLarge = 15
-numberOf (Whole m at n used) = 0
+unfoldable pub readNumber : Read → ℕ
+readNumber Waiting = 100
+readNumber InvalidId = 14
+readNumber DataTooLarge = 15
+readNumber (Whole m at n used) = 0
 
 -- bytes used: those of a message with its text, none otherwise
 unfoldable pub usedOf : Read → ℕ

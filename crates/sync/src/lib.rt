@@ -8,7 +8,7 @@ ghost use mathlib.Core.Path.{_≡_};
 ghost use Prim.Native.Nat.{_≤_};
 ghost use lib.ListN.{length};
 ghost use Rattle.exchange.specs.Exchange.{headOf};
-ghost use Rattle.sync.specs.Message.{statOf, fieldsOf, lengthOf, knownOf, readOf, numberOf};
+ghost use Rattle.sync.specs.Message.{statOf, fieldsOf, lengthOf, knownOf, readMessage, readNumber};
 
 // A file's type and its permissions, as one number.
 pub struct FileMode(pub u32);
@@ -55,7 +55,7 @@ pub enum Read {
 impl Read {
     // The number of the answer: a refusal's own, 100 for waiting, 0 for a message.
     pub fn number(self) -> u32
-        ensures { λ r. ⌜ r ≡ numberOf self ⌝ }
+        ensures { λ r. ⌜ r ≡ readNumber self ⌝ }
     {
         match self {
             Read::Waiting => 100,
@@ -140,7 +140,7 @@ fn read_known(received: &[u8], id: SyncId, layout: Layout) -> Read
 impl Message {
     // The message of an exchange that received bytes begin with, or why there is none.
     pub fn read(exchange: Exchange, received: &[u8]) -> Read
-        ensures { λ r. ⌜ r ≡ readOf exchange (now (received .entry)) ⌝ }
+        ensures { λ r. ⌜ r ≡ readMessage exchange (now (received .entry)) ⌝ }
     {
         if received.len() < 4 {
             return Read::Waiting;

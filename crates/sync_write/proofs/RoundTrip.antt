@@ -1,6 +1,6 @@
 -- Sync messages from bytes and to bytes, both ways. Assumes nothing.
---     write-read                what `writeOf` makes, `readOf` gives back, whatever follows
---     read-write                what `readOf` accepts, `writeOf` makes byte for byte
+--     write-read                what `writeMessage` makes, `readMessage` gives back, whatever follows
+--     read-write                what `readMessage` accepts, `writeMessage` makes byte for byte
 --     foreign-read, over-read   what the writer refuses by 14 or 15, the reader does
 use mathlib.Core.Path.{_≡_, refl, sym, ap, _∙_}
 use mathlib.Core.Bool.{true, false}
@@ -24,8 +24,8 @@ use Rattle.sync.specs.declared.Message.{Message}
 use Rattle.sync.specs.declared.Read.the-variants.{InvalidId, DataTooLarge, Whole}
 use Rattle.sync_write.specs.declared.Written.the-variants.{Bytes as Written·Bytes}
 use Rattle.exchange.specs.Exchange.{wordOf, foundOf, headOf, longestOf, layoutNumber, isOver}
-use Rattle.sync.specs.Message.{fieldsOf, lengthOf, knownOf, namedOf, readOf}
-use Rattle.sync_write.specs.Write.{layoutOf, isOther, headBytes, messageBytes, Words, Outcome, writeKnown, writeNamed, writeOf}
+use Rattle.sync.specs.Message.{fieldsOf, lengthOf, knownOf, namedOf, readMessage}
+use Rattle.sync_write.specs.Write.{layoutOf, isOther, headBytes, messageBytes, Words, Composed, writeKnown, writeNamed, writeMessage}
 use Rattle.sync.proofs.ReadLaws.{Known-says, says}
 use Rattle.exchange.proofs.ExchangeLaws.{found-word, found-id, heads}
 use Rattle.sync_write.proofs.WriteLaws.{own-layout, length-head}
@@ -39,10 +39,10 @@ pub record Written-says (x : Exchange) (m : Message) (text out : List ℕ) (n : 
   pub long : length text ≤ longestOf (layoutOf (m .fields))
   pub room : headOf (layoutOf (m .fields)) + length text ≤ length out
   pub count-is : n ≡ headOf (layoutOf (m .fields)) + length text
-  pub out-is : writeOf x m text out .out ≡ put out 0 (messageBytes m text)
+  pub out-is : writeMessage x m text out .out ≡ put out 0 (messageBytes m text)
 
 known-written : (x : Exchange) (m : Message) (text out : List ℕ) (n : ℕ) (id : SyncId) (k : Layout) → foundOf x (wordOf (m .id)) ≡ Known id k
-    → writeKnown k m text out .result ≡ Written·Bytes n → writeOf x m text out ≡ writeKnown k m text out → Written-says x m text out n
+    → writeKnown k m text out .result ≡ Written·Bytes n → writeMessage x m text out ≡ writeKnown k m text out → Written-says x m text out n
 unfolding writeKnown
 known-written x m text out n id k g e w =
     by-test (isOther k (m .fields))
@@ -62,22 +62,22 @@ known-written x m text out n id k g e w =
       long = rw own (ltb-false _ _ t₃);
       room = rw own (ltb-false _ _ t₄);
       count-is = rw own (cc);
-      out-is = ap (λ (q : Outcome). q .out) o;
+      out-is = ap (λ (q : Composed). q .out) o;
     }))))
 
 named-written : (x : Exchange) (m : Message) (text out : List ℕ) (n : ℕ) (f : Found) → foundOf x (wordOf (m .id)) ≡ f
-    → writeNamed m text out f .result ≡ Written·Bytes n → writeOf x m text out ≡ writeNamed m text out f → Written-says x m text out n
+    → writeNamed m text out f .result ≡ Written·Bytes n → writeMessage x m text out ≡ writeNamed m text out f → Written-says x m text out n
 unfolding writeNamed
 named-written x m text out n Unknown g e w = let z : _≡_ {A = ℕ} 0 1 = cc in absurd (omega arith)
 named-written x m text out n (Known id k) g e w = known-written x m text out n id k g e w
 
-pub written-says : (x : Exchange) (m : Message) (text out : List ℕ) (n : ℕ) → writeOf x m text out .result ≡ Written·Bytes n → Written-says x m text out n
-unfolding writeOf
+pub written-says : (x : Exchange) (m : Message) (text out : List ℕ) (n : ℕ) → writeMessage x m text out .result ≡ Written·Bytes n → Written-says x m text out n
+unfolding writeMessage
 written-says x m text out n e = named-written x m text out n (foundOf x (wordOf (m .id))) refl e refl
 
 pub record Comes-back (x : Exchange) (m : Message) (text : List ℕ) (n : ℕ) (s : List ℕ) : Type 0 where
   pub at : ℕ
-  pub read-is : readOf x s ≡ Whole m at (length text) n
+  pub read-is : readMessage x s ≡ Whole m at (length text) n
   pub text-is : part s at (length text) ≡ text
 
 pub message-length : (m : Message) (text : List ℕ) → length (messageBytes m text) ≡ headOf (layoutOf (m .fields)) + length text
@@ -114,8 +114,8 @@ module _ (m : Message) (text rest : List ℕ) where
   -- they are read as that message
   pub not-refused : (x : Exchange) → Words (m .fields) → foundOf x (wordOf (m .id)) ≡ Known (m .id) (layoutOf (m .fields))
       → isOver (m .id) (length text) ≡ false → length text ≤ longestOf (layoutOf (m .fields))
-      → readOf x (messageBytes m text ++ rest) ≡ Whole m (headOf (layoutOf (m .fields))) (length text) (headOf (layoutOf (m .fields)) + length text)
-  unfolding readOf namedOf knownOf
+      → readMessage x (messageBytes m text ++ rest) ≡ Whole m (headOf (layoutOf (m .fields))) (length text) (headOf (layoutOf (m .fields)) + length text)
+  unfolding readMessage namedOf knownOf
   not-refused x h found small long =
       let k = layoutOf (m .fields) in
       let s = messageBytes m text ++ rest in
@@ -133,8 +133,8 @@ module _ (m : Message) (text rest : List ℕ) where
       )
 
   -- what the writer refuses by 14, the reader does
-  pub foreign-read : (x : Exchange) → foundOf x (wordOf (m .id)) ≡ Unknown → readOf x (messageBytes m text ++ rest) ≡ InvalidId
-  unfolding readOf namedOf
+  pub foreign-read : (x : Exchange) → foundOf x (wordOf (m .id)) ≡ Unknown → readMessage x (messageBytes m text ++ rest) ≡ InvalidId
+  unfolding readMessage namedOf
   foreign-read x unknown =
       let a = all-here in
       let b = heads (layoutOf (m .fields)) in
@@ -142,8 +142,8 @@ module _ (m : Message) (text rest : List ℕ) where
 
   -- and so by 15
   pub over-read : (x : Exchange) → foundOf x (wordOf (m .id)) ≡ Known (m .id) (layoutOf (m .fields)) → isOver (m .id) (length text) ≡ true
-      → length text ≤ longestOf (layoutOf (m .fields)) → readOf x (messageBytes m text ++ rest) ≡ DataTooLarge
-  unfolding readOf namedOf knownOf
+      → length text ≤ longestOf (layoutOf (m .fields)) → readMessage x (messageBytes m text ++ rest) ≡ DataTooLarge
+  unfolding readMessage namedOf knownOf
   over-read x found over long =
       let k = layoutOf (m .fields) in
       let s = messageBytes m text ++ rest in
@@ -152,15 +152,15 @@ module _ (m : Message) (text rest : List ℕ) where
       rw (le-ltb (length s) 4 (omega arith), word-here, found, le-ltb (length s) (headOf k) (omega arith), length-here long, over)
 
 -- what the writer made, with anything behind it, is read as the message that was written, its text with it
-pub write-read : (x : Exchange) (m : Message) (text out : List ℕ) (n : ℕ) (rest : List ℕ) → Words (m .fields) → writeOf x m text out .result ≡ Written·Bytes n
-    → Comes-back x m text n (take n (writeOf x m text out .out) ++ rest)
+pub write-read : (x : Exchange) (m : Message) (text out : List ℕ) (n : ℕ) (rest : List ℕ) → Words (m .fields) → writeMessage x m text out .result ≡ Written·Bytes n
+    → Comes-back x m text n (take n (writeMessage x m text out .out) ++ rest)
 unfolding part
 write-read x m text out n rest h e =
     let w = written-says x m text out n e in
     let b = messageBytes m text in
     let l : length b ≡ n = message-length m text ∙ sym (w .count-is) in
     let r = w .room in
-    let t : take n (writeOf x m text out .out) ≡ b =
+    let t : take n (writeMessage x m text out .out) ≡ b =
     ap (take n) (w .out-is) ∙ ap (λ (j : ℕ). take j (put out 0 b)) (sym l) ∙ part-put-same out 0 b (omega (arith, w .count-is)) in
     let i = not-refused m text rest x h (w .found) (w .small) (w .long) in
     rw t (record {
@@ -190,8 +190,8 @@ joined-parts s at n = rw (take-add at n s)
 
 known-back : (x : Exchange) (s : List ℕ) (m : Message) (at n used : ℕ) (out : List ℕ) (k : Layout) → Bytes s → foundOf x (numOf (part s 0 4)) ≡ Known (m .id) k
     → Known-says s (m .id) k m at n used → used ≤ length out
-    → writeOf x m (part s at n) out ≡ record { result = Written·Bytes used; out = put out 0 (take used s) }
-unfolding writeOf writeNamed writeKnown messageBytes
+    → writeMessage x m (part s at n) out ≡ record { result = Written·Bytes used; out = put out 0 (take used s) }
+unfolding writeMessage writeNamed writeKnown messageBytes
 known-back x s m at n used out k h f a room =
     let u : at + n ≡ used = omega (arith, a .at-is, a .length-is, a .used-is) in
     let word = found-word x (numOf (part s 0 4)) (m .id) k f in
@@ -215,8 +215,8 @@ known-back x s m at n used out k h f a room =
       u,
     )
 
-pub read-write : (x : Exchange) (s : List ℕ) (m : Message) (at n used : ℕ) (out : List ℕ) → Bytes s → readOf x s ≡ Whole m at n used → used ≤ length out
-    → writeOf x m (part s at n) out ≡ record { result = Written·Bytes used; out = put out 0 (take used s) }
+pub read-write : (x : Exchange) (s : List ℕ) (m : Message) (at n used : ℕ) (out : List ℕ) → Bytes s → readMessage x s ≡ Whole m at n used → used ≤ length out
+    → writeMessage x m (part s at n) out ≡ record { result = Written·Bytes used; out = put out 0 (take used s) }
 read-write x s m at n used out h e room =
     let y = says x s m at n used e in
     known-back x s m at n used out (y .layout) h (y .found) (y .known) room

@@ -20,7 +20,7 @@ use Rattle.sync_write.specs.declared.Written.{Written}
 use Rattle.sync_write.specs.declared.Written.the-variants.{Bytes}
 use Rattle.exchange.proofs.ExchangeLaws.{heads, same-layout-number}
 use Rattle.exchange.specs.Exchange.{wordOf, foundOf, headOf, longestOf, layoutNumber, isOver}
-use Rattle.sync_write.specs.Write.{layoutOf, isOther, statBytes, fieldBytes, headBytes, messageBytes, Room, Outcome, writeKnown, writeNamed, writeOf, Writes}
+use Rattle.sync_write.specs.Write.{layoutOf, isOther, statBytes, fieldBytes, headBytes, messageBytes, Room, Composed, writeKnown, writeNamed, writeMessage, Writes}
 
 -- three words are a stat
 pub put-three : (d : List ℕ) (s : StatV1) → 16 ≤ length d
@@ -89,8 +89,8 @@ written k m text d out r e₁ e₂ h g er eo =
 
 -- what the id names gives the answer
 pub named-write : (x : Exchange) (m : Message) (text d : List ℕ) (word : ℕ) (f : Found) (r : Written) (out : List ℕ) → word ≡ wordOf (m .id) → f ≡ foundOf x word
-    → Writes (writeNamed m text d f) r out → Writes (writeOf x m text d) r out
-unfolding writeOf
+    → Writes (writeNamed m text d f) r out → Writes (writeMessage x m text d) r out
+unfolding writeMessage
 named-write x m text d word f r out e g w =
-    let z : writeNamed m text d f ≡ writeOf x m text d = cc in
-    record { result-is = w .result-is ∙ ap (λ (o : Outcome). o .result) z; out-is = w .out-is ∙ ap (λ (o : Outcome). o .out) z }
+    let z : writeNamed m text d f ≡ writeMessage x m text d = cc in
+    record { result-is = w .result-is ∙ ap (λ (o : Composed). o .result) z; out-is = w .out-is ∙ ap (λ (o : Composed). o .out) z }

@@ -5,7 +5,7 @@ use mathlib.Core.List.{List}
 use Rattle.exchange.specs.declared.Exchange.{Exchange}
 use Rattle.sync.specs.Pieces.{Got}
 use Rattle.sync_write.specs.declared.Written.the-variants.{Bytes}
-use Rattle.sync_write.specs.Write.{Words, messageBytes, writeOf}
+use Rattle.sync_write.specs.Write.{Words, messageBytes, writeMessage}
 
 -- the bytes of a message with its text
 unfoldable pub bytesFor : Got → List ℕ
@@ -16,4 +16,4 @@ pub record Sent (x : Exchange) (g : Got) : Type 0 where
   pub words : Words (g .got .fields)
   pub buffer : List ℕ
   pub count : ℕ
-  pub was-written : writeOf x (g .got) (g .text) buffer .result ≡ Bytes count
+  pub was-written : writeMessage x (g .got) (g .text) buffer .result ≡ Bytes count

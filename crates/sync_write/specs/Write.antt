@@ -69,12 +69,12 @@ pub record Room (out : List ℕ) (m : Message) (text : List ℕ) : Type 0 where
   pub fits : headOf (layoutOf (m .fields)) + length text ≤ length out
 
 -- what writing gives: its answer, and the outgoing bytes after it
-pub record Outcome : Type 0 where
+pub record Composed : Type 0 where
   pub result : Written
   pub out : List ℕ
 
 -- fields of another layout are refused by 14, data over the maximum by 15, a text past its length's field and a short buffer by 9
-unfoldable pub writeKnown : Layout → Message → List ℕ → List ℕ → Outcome
+unfoldable pub writeKnown : Layout → Message → List ℕ → List ℕ → Composed
 writeKnown k m text out =
     cond (isOther k (m .fields)) (record { result = NotWritten; out = out })
     (cond (isOver (m .id) (length text)) (record { result = TooLarge; out = out })
@@ -83,16 +83,16 @@ writeKnown k m text out =
     (record { result = Bytes (headOf k + length text); out = put out 0 (messageBytes m text) }))))
 
 -- 14 for an id that is not the exchange's, or what its layout gives
-unfoldable pub writeNamed : Message → List ℕ → List ℕ → Found → Outcome
+unfoldable pub writeNamed : Message → List ℕ → List ℕ → Found → Composed
 writeNamed m text out (Known id k) = writeKnown k m text out
 writeNamed m text out Unknown = record { result = NotWritten; out = out }
 
 -- writing a message of an exchange with this text to out
-unfoldable pub writeOf : Exchange → Message → List ℕ → List ℕ → Outcome
-writeOf x m text out = writeNamed m text out (foundOf x (wordOf (m .id)))
+unfoldable pub writeMessage : Exchange → Message → List ℕ → List ℕ → Composed
+writeMessage x m text out = writeNamed m text out (foundOf x (wordOf (m .id)))
 
 -- what writing promises: the definition's answer, and every byte of out
-pub record Writes (o : Outcome) (r : Written) (out : List ℕ) : Type 0 where
+pub record Writes (o : Composed) (r : Written) (out : List ℕ) : Type 0 where
   pub result-is : r ≡ o .result
   pub out-is : out ≡ o .out
 

@@ -10,7 +10,8 @@ ghost use Prim.Native.Nat.{_≤_};
 ghost use lib.ListN.{length};
 ghost use Rattle.le.specs.Le.{put};
 ghost use Rattle.exchange.specs.Exchange.{headOf};
-ghost use Rattle.sync_write.specs.Write.{layoutOf, isOther, statBytes, fieldBytes, messageBytes, Room, writeKnown, writeOf, Writes, writtenNumber};
+ghost use Rattle.sync_write.specs.Write.{layoutOf, isOther, statBytes, fieldBytes, messageBytes, Room, writeKnown, writeMessage};
+ghost use Rattle.sync_write.specs.Write.{Writes, writtenNumber};
 
 // What became of a message that was to be written.
 pub enum Written {
@@ -126,7 +127,7 @@ fn write_known(layout: Layout, message: Message, text: &[u8], out: &mut [u8]) ->
 
 // A message with its text, written at the start of out where it fits.
 pub fn write(message: Message, exchange: Exchange, text: &[u8], out: &mut [u8]) -> Written
-    ensures { λ r. ⌜ Writes (writeOf exchange message (now (text .entry)) (now (out .entry))) r (now (out .exit)) ⌝ }
+    ensures { λ r. ⌜ Writes (writeMessage exchange message (now (text .entry)) (now (out .entry))) r (now (out .exit)) ⌝ }
 {
     let id = message.id;
     let found = exchange.find(id.word());

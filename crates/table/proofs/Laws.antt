@@ -10,7 +10,7 @@ use lib.ListN.{take, drop}
 use Rattle.slot.specs.declared.ChannelSlot.{ChannelSlot}
 use Rattle.state.specs.declared.Header.{Header}
 use Rattle.state.specs.State.{stateOf, slotAt}
-use Rattle.state.proofs.RowLaws.{walk-here, walk-over}
+use Rattle.le.proofs.RowLaws.{walk-here, walk-over}
 use Rattle.state.proofs.StateLaws.{slot-in, state-full}
 use Rattle.table.specs.declared.Allocated.the-variants.{Channel, NoFree}
 use Rattle.table.specs.declared.Want.the-variants.{Empty}

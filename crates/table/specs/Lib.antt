@@ -1,3 +1,1 @@
-pub mod Dispatch
-pub mod Numbers
 pub mod Table

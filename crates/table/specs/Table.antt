@@ -1,10 +1,11 @@
 -- The channel table (channel_table.rs): the 64 slots of a state, of which the first `channels` are used. Assumes nothing.
-use Prim.Native.Nat.{ℕ, zero, suc, _+_, _%_, max}
+use Prim.Native.Nat.{ℕ, suc, _+_, _%_, max}
 use mathlib.Core.Bool.{Bool, not, cond, _&&_}
 use mathlib.Core.List.{List, [], _∷_}
 use lib.Dec.{eqb, ltb}
-use lib.ListN.{take}
+use lib.ListN.{take, getD}
 use Rattle.slot.specs.declared.ChannelSlot.{ChannelSlot}
+use Rattle.slot.specs.Slot.{emptySlot}
 use Rattle.state.specs.declared.Header.{Header}
 use Rattle.table.specs.declared.Allocated.{Allocated}
 use Rattle.table.specs.declared.Allocated.the-variants.{Channel, NoFree}
@@ -42,7 +43,7 @@ nextLocal n = max ((n + 1) % 0x1_0000_0000) 1
 
 -- a header whose next number has moved on
 abbrev pub numbered : Header → Header
-numbered h = record { negotiated = h .negotiated; «next_local» = nextLocal (h .«next_local»); waiting = h .waiting; queued = h .queued }
+numbered h = record { negotiated = h .negotiated; «next_local» = nextLocal (h .«next_local»); pending = h .pending; queued = h .queued }
 
 -- the lowest empty place and the next number, or none
 unfoldable pub allocated : Header → List ChannelSlot → Allocated
@@ -50,3 +51,16 @@ allocated h ss =
     cond (ltb (placeOf Empty (h .negotiated .config .channels) ss) (h .negotiated .config .channels))
     (Channel (record { slot = placeOf Empty (h .negotiated .config .channels) ss; local = record { 0 = h .«next_local» } }))
     NoFree
+
+-- the slot at a place
+unfoldable pub slotIn : List ChannelSlot → ℕ → ChannelSlot
+slotIn ss i = getD ss i emptySlot
+
+-- 12: no slot is empty
+unfoldable pub allocatedNumber : Allocated → ℕ
+allocatedNumber (Channel ch) = 0
+allocatedNumber NoFree = 12
+
+-- whether a channel is in the table of the first n slots: its place is below n, filled, and has its number
+abbrev pub thereIn : ℕ → List ChannelSlot → ChannelId → Bool
+thereIn n ss ch = ltb (ch .slot) n && wantedBy (Local (ch .local)) (slotIn ss (ch .slot))

@@ -1,9 +1,5 @@
-// The channel table: which slot is free, which one a number names, and what a packet does to it.
-pub mod dispatch;
-
-use slot::ChannelFault;
+// The channel table: which slot is free, which one a number names.
 use slot::ChannelSlot;
-use slot::ids::ChannelIds;
 use slot::ids::LocalId;
 use slot::ids::RemoteId;
 use state::Header;
@@ -12,10 +8,9 @@ ghost use mathlib.Core.Path.{_≡_};
 ghost use mathlib.Core.Bool.{cond};
 ghost use Prim.Native.Nat.{_≤_};
 ghost use lib.ListN.{length};
-ghost use Rattle.state.specs.State.{stateOf};
+ghost use Rattle.state.specs.State.{stateLen, stateOf};
 ghost use Rattle.table.specs.declared.Want.the-variants.{Local, Remote};
-ghost use Rattle.table.specs.Numbers.{allocatedNumber, outcomeNumber};
-ghost use Rattle.table.specs.Table.{wantedBy, placeOf, inUse, nextLocal, numbered, allocated};
+ghost use Rattle.table.specs.Table.{allocatedNumber, wantedBy, placeOf, inUse, nextLocal, numbered, allocated};
 
 // A channel as its holder names it.
 pub struct ChannelId {
@@ -35,50 +30,14 @@ pub enum Allocated {
     NoFree,
 }
 
-// What a packet was, and what it did.
-pub enum DispatchOutcome {
-    // A WRTE was buffered and is to be acknowledged at once, with this length.
-    AckWrite(usize, ChannelIds, usize),
-    CreditGranted(usize),
-    SlotClosed(usize),
-    // A WRTE was buffered; its acknowledgement waits for the reader.
-    DataBuffered(usize),
-    // The device's number and credit; the destination is the payload.
-    IncomingOpen(RemoteId, u32),
-    CancelPendingOpen(RemoteId),
-    StrayReady(ChannelIds),
-    // Refusals 5, 6 and 11: the slot, its numbers, and whether it still was opening.
-    ChannelFault(usize, ChannelIds, bool, ChannelFault),
-    Unmatched,
-}
-
-// The number of each answer (docs/SCOPE.md, 6): a refusal's own, 0 where there is none.
-
 impl Allocated {
+    // The number of the answer (docs/SCOPE.md, 6): a refusal's own, 0 where there is none.
     pub fn number(self) -> u32
         ensures { λ r. ⌜ r ≡ allocatedNumber self ⌝ }
     {
         match self {
             Allocated::Channel(_) => 0,
             Allocated::NoFree => 12,
-        }
-    }
-}
-
-impl DispatchOutcome {
-    pub fn number(self) -> u32
-        ensures { λ r. ⌜ r ≡ outcomeNumber self ⌝ }
-    {
-        match self {
-            DispatchOutcome::AckWrite(_, _, _) => 0,
-            DispatchOutcome::CreditGranted(_) => 0,
-            DispatchOutcome::SlotClosed(_) => 0,
-            DispatchOutcome::DataBuffered(_) => 0,
-            DispatchOutcome::IncomingOpen(_, _) => 0,
-            DispatchOutcome::CancelPendingOpen(_) => 0,
-            DispatchOutcome::StrayReady(_) => 0,
-            DispatchOutcome::ChannelFault(_, _, _, fault) => fault.number(),
-            DispatchOutcome::Unmatched => 0,
         }
     }
 }
@@ -118,7 +77,7 @@ fn is_wanted(s: ChannelSlot, want: Want) -> bool
 
 // The lowest wanted place below n, or n.
 pub fn place_below(state: &[u8], n: usize, want: Want) -> usize
-    requires { ⌜ (n ≤ 64) × (4730 ≤ length (now state)) ⌝ }
+    requires { ⌜ (n ≤ 64) × (stateLen ≤ length (now state)) ⌝ }
     ensures { λ r. ⌜ r ≡ placeOf want n (stateOf (now (state .entry)) .slots) ⌝ }
 {
     let mut i = 0;
@@ -154,7 +113,7 @@ pub fn numbered(h: Header) -> Header
 
 // The lowest empty slot, and the number that its channel gets. The header is left to the caller, who stores it once.
 pub fn allocate(state: &[u8], h: Header) -> Allocated
-    requires { ⌜ (h .negotiated .config .channels ≤ 64) × (4730 ≤ length (now state)) ⌝ }
+    requires { ⌜ (h .negotiated .config .channels ≤ 64) × (stateLen ≤ length (now state)) ⌝ }
     ensures { λ r. ⌜ r ≡ allocated h (stateOf (now (state .entry)) .slots) ⌝ }
 {
     let negotiated = h.negotiated;
@@ -178,7 +137,7 @@ fn one_if(test: bool) -> usize
 
 // Slots that hold a channel.
 pub fn in_use(state: &[u8], n: usize) -> usize
-    requires { ⌜ (n ≤ 64) × (4730 ≤ length (now state)) ⌝ }
+    requires { ⌜ (n ≤ 64) × (stateLen ≤ length (now state)) ⌝ }
     ensures { λ r. ⌜ r ≡ inUse n (stateOf (now (state .entry)) .slots) ⌝ }
 {
     let mut used = 0;

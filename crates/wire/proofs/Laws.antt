@@ -12,14 +12,14 @@ use lib.Seq.{drop-at}
 use Rattle.le.specs.Le.{numOf, bytesOf, part, put}
 use Rattle.le.proofs.Laws.{length-bytesOf, write-read}
 use Rattle.le.proofs.Parts.{length-put, put-put, part-put-same, part-put-below}
-use Rattle.protocol.specs.declared.checksum.Checksum.{Checksum}
+use Rattle.checksum.specs.declared.Checksum.{Checksum}
 use Rattle.protocol.specs.declared.command.Command.{Command}
 use Rattle.protocol.specs.declared.command.Command.the-variants.{Ready, Close}
 use Rattle.protocol.specs.declared.packet.Packet.{Packet}
-use Rattle.protocol.specs.Checksum.{checkFor}
+use Rattle.checksum.specs.Checksum.{checkFor}
 use Rattle.protocol.specs.Packet.{maxPayload, emptyPacket, payloadOf, frameFor, Puts}
 use Rattle.protocol.proofs.PacketLaws.{frame-length}
-use Rattle.protocol.proofs.ChecksumLaws.{check-small}
+use Rattle.checksum.proofs.ChecksumLaws.{check-small}
 use Rattle.protocol.proofs.RoundTrip.{frame-payload, not-refused, own-check, Comes-back}
 use Rattle.slot.specs.declared.ids.ChannelIds.{ChannelIds}
 use Rattle.wire.specs.Wire.{creditBytes, okayBytes, closeBytes}

@@ -3,7 +3,7 @@ use Prim.Native.Nat.{ℕ}
 use mathlib.Core.Bool.{Bool, cond}
 use mathlib.Core.List.{List, []}
 use Rattle.le.specs.Le.{bytesOf}
-use Rattle.protocol.specs.declared.checksum.Checksum.{Checksum}
+use Rattle.checksum.specs.declared.Checksum.{Checksum}
 use Rattle.protocol.specs.declared.command.Command.the-variants.{Open, Ready, Close, Write}
 use Rattle.protocol.specs.Packet.{frameFor}
 use Rattle.slot.specs.declared.ids.LocalId.{LocalId}

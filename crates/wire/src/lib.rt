@@ -1,5 +1,5 @@
 // Outgoing frames, written into a buffer that the caller lends, at a place of it.
-use protocol::checksum::Checksum;
+use checksum::Checksum;
 use protocol::command::Command;
 use protocol::packet::Packet;
 use slot::ids::ChannelIds;
@@ -7,12 +7,13 @@ use slot::ids::LocalId;
 ghost use mathlib.Core.List.{[]};
 ghost use Prim.Native.Nat.{_+_, _≤_};
 ghost use lib.ListN.{length};
-ghost use Rattle.protocol.specs.Packet.{frameFor, Room, Puts};
+ghost use Rattle.protocol.specs.Packet.{frameFor, FrameRoom, Puts};
 ghost use Rattle.wire.specs.Wire.{okayBytes, closeBytes, openBytes, writeBytes};
+ghost use Rattle.protocol.specs.Message.{messageSize};
 
 // A frame with no payload.
 fn put_empty(out: &mut [u8], at: usize, frame: Packet, checksum: Checksum) -> usize
-    requires { ⌜ at + 24 ≤ length (now out) ⌝ }
+    requires { ⌜ at + messageSize ≤ length (now out) ⌝ }
     ensures { λ r. ⌜ Puts (now (out .entry)) at (frameFor (frame .command) (frame .arg0) (frame .arg1) [] checksum) r (now (out .exit)) ⌝ }
 {
     let command = frame.command;
@@ -60,7 +61,7 @@ pub fn send_okay(
 
 // A CLSE for a channel.
 pub fn send_close(out: &mut [u8], at: usize, ids: ChannelIds, checksum: Checksum) -> usize
-    requires { ⌜ at + 24 ≤ length (now out) ⌝ }
+    requires { ⌜ at + messageSize ≤ length (now out) ⌝ }
     ensures { λ r. ⌜ Puts (now (out .entry)) at (closeBytes ids checksum) r (now (out .exit)) ⌝ }
 {
     let local = ids.local;
@@ -78,7 +79,7 @@ pub fn send_open(
     destination: &[u8],
     checksum: Checksum,
 ) -> usize
-    requires { ⌜ Room (now out) at (now destination) ⌝ }
+    requires { ⌜ FrameRoom (now out) at (now destination) ⌝ }
     ensures { λ r. ⌜ Puts (now (out .entry)) at (openBytes local credit (now (destination .entry)) checksum) r (now (out .exit)) ⌝ }
 {
     Packet::put_at(
@@ -100,7 +101,7 @@ pub fn send_write(
     bytes: &[u8],
     checksum: Checksum,
 ) -> usize
-    requires { ⌜ Room (now out) at (now bytes) ⌝ }
+    requires { ⌜ FrameRoom (now out) at (now bytes) ⌝ }
     ensures { λ r. ⌜ Puts (now (out .entry)) at (writeBytes ids (now (bytes .entry)) checksum) r (now (out .exit)) ⌝ }
 {
     let local = ids.local;

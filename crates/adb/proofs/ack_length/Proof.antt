@@ -2,8 +2,6 @@ use Rattle.connection.specs.Answer.{ackLength}
 use borrow.Author.Needs.{needs}
 use Rattle.adb.proofs.ack_length.Statement.{statement}
 use Rattle.adb.proofs.ack_length.Tie as tie
-use Rattle.adb.proofs.ack_length.Reads as reads
-use Rattle.adb.proofs.ack_length.Lts as lts
 
 enum-known-ack : tie.Need-enum-known-ack
 enum-known-ack c = search needs

@@ -6,23 +6,25 @@ use mathlib.Core.Path.{sym, _∙_}
 use borrow.Author.Needs.{needs}
 use Rattle.adb.proofs.adb_dispatch.Statement.{statement}
 use Rattle.adb.proofs.adb_dispatch.Tie as tie
-use Rattle.adb.proofs.adb_dispatch.Reads as reads
-use Rattle.adb.proofs.adb_dispatch.Lts as lts
-use Rattle.adb.proofs.answered.Reads as answered-reads
-use Rattle.adb.proofs.is_short.Reads as is-short-reads
-use Rattle.calls.proofs.dispatch.dispatch.Reads as dispatch-reads
 
 is-short-requires : tie.Need-is-short-requires
 is-short-requires c κs = search needs
 
 returns : tie.Need-returns
-returns c = does-short (worldOf (c .before .before .before .before .before .before .before .before .args .state .now) (c .before .before .before .before .before .before .before .before .args .rx .now) (c .before .before .before .before .before .before .before .before .args .opens .now)) (dispatchCall (c .before .before .before .before .before .before .before .before .args .out .now) (c .before .before .before .before .before .before .before .before .args .received .now)) (c .before .before .before .before .before .before .before .before .args .out .now) [] (c .before .before .before .before .before .before .before .before .args .answer .now) (sym (c .before .is-short .ensures) ∙ c .if1 .taken)
+returns c =
+    let start = c .before .before .before .before .before .before .before .before in
+    does-short (worldOf (start .args .state .now) (start .args .rx .now) (start .args .opens .now))
+    (dispatchCall (start .args .out .now) (start .args .received .now)) (start .args .out .now) [] (start .args .answer .now)
+    (sym (c .before .is-short .ensures) ∙ c .if1 .taken)
 
 dispatch-requires : tie.Need-dispatch-requires
 dispatch-requires c κs = search needs
 
 answered-requires : tie.Need-answered-requires
-answered-requires c κs = long-answer _ _ (sym (c .before .before .before .before .before .before .before .before .before .before .before .before .before .before .before .is-short .ensures) ∙ c .before .before .before .before .before .before .before .before .before .before .before .before .before .before .if1 .left) .1
+answered-requires c κs =
+    let at-if1 = c .before .before .before .before .before .before .before .before .before .before .before .before .before .before in
+    let at-is-short = at-if1 .before in
+    long-answer _ _ (sym (at-is-short .is-short .ensures) ∙ at-if1 .if1 .left) .1
 
 same-length : tie.Need-same-length
 same-length c = search needs
@@ -40,7 +42,19 @@ same-length-5 : tie.Need-same-length-5
 same-length-5 c = search needs
 
 returns-2 : tie.Need-returns-2
-returns-2 c = does-call (worldOf (c .before .before .before .before .before .before .before .before .before .before .before .before .before .before .before .before .before .before .before .before .before .before .before .before .before .args .state .now) (c .before .before .before .before .before .before .before .before .before .before .before .before .before .before .before .before .before .before .before .before .before .before .before .before .before .args .rx .now) (c .before .before .before .before .before .before .before .before .before .before .before .before .before .before .before .before .before .before .before .before .before .before .before .before .before .args .opens .now)) (dispatchCall (c .before .before .before .before .before .before .before .before .before .before .before .before .before .before .before .before .before .before .before .before .before .before .before .before .before .args .out .now) (c .before .before .before .before .before .before .before .before .before .before .before .before .before .before .before .before .before .before .before .before .before .before .before .before .before .args .received .now)) (c .before .before .before .before .before .before .before .before .before .before .before .before .before .before .before .before .before .before .before .before .before .before .before .before .before .args .out .now) [] (c .before .before .before .before .before .before .before .before .before .before .before .before .before .before .before .before .before .before .before .before .before .before .before .before .before .args .answer .now) _ (c .before .before .before .before .before .before .before .before .before .before .before .before .dispatch .result) _ _ _ _ _ _ _ (sym (c .before .before .before .before .before .before .before .before .before .before .before .before .before .before .before .before .before .before .is-short .ensures) ∙ c .before .before .before .before .before .before .before .before .before .before .before .before .before .before .before .before .before .if1 .left) (dispatch-is (c .before .before .before .before .before .before .before .before .before .before .before .before .before .before .before .before .before .before .before .before .before .before .before .before .before .args .state .now) (c .before .before .before .before .before .before .before .before .before .before .before .before .before .before .before .before .before .before .before .before .before .before .before .before .before .args .rx .now) (c .before .before .before .before .before .before .before .before .before .before .before .before .before .before .before .before .before .before .before .before .before .before .before .before .before .args .opens .now) (c .before .before .before .before .before .before .before .before .before .before .before .before .before .before .before .before .before .before .before .before .before .before .before .before .before .args .out .now) (c .before .before .before .before .before .before .before .before .before .before .before .before .before .before .before .before .before .before .before .before .before .before .before .before .before .args .received .now) (λ j. c .before .before .before .before .before .before .before .before .before .before .before .before .before .before .before .before .before .before .before .before .before .shared-slice-known .given j .fits)) (c .before .before .before .before .before .before .before .before .before .before .before .before .dispatch .ensures) (c .before .before .answered .ensures .0) (c .before .before .answered .ensures .1) (c .before .before .answered .ensures .2)
+returns-2 c =
+    let at-answered = c .before .before in
+    let at-dispatch = at-answered .before .before .before .before .before .before .before .before .before .before in
+    let at-if1 = at-dispatch .before .before .before .before .before in
+    let at-is-short = at-if1 .before in
+    let at-shared-slice-known = at-is-short .before .before .before in
+    let start = at-shared-slice-known .before .before .before .before in
+    does-call (worldOf (start .args .state .now) (start .args .rx .now) (start .args .opens .now))
+    (dispatchCall (start .args .out .now) (start .args .received .now)) (start .args .out .now) [] (start .args .answer .now) _
+    (at-dispatch .dispatch .result) _ _ _ _ _ _ _ (sym (at-is-short .is-short .ensures) ∙ at-if1 .if1 .left)
+    (dispatch-is (start .args .state .now) (start .args .rx .now) (start .args .opens .now) (start .args .out .now) (start .args .received .now)
+    (λ j. at-shared-slice-known .shared-slice-known .given j .fits)) (at-dispatch .dispatch .ensures) (at-answered .answered .ensures .0)
+    (at-answered .answered .ensures .1) (at-answered .answered .ensures .2)
 
 pub adb-dispatch-spec : {M : Type 1} → statement M
 adb-dispatch-spec =

@@ -2,12 +2,6 @@ use Rattle.adb.proofs.ExportLaws.{answer-put, answer-said}
 use borrow.Author.Needs.{needs}
 use Rattle.adb.proofs.answered.Statement.{statement}
 use Rattle.adb.proofs.answered.Tie as tie
-use Rattle.adb.proofs.answered.Reads as reads
-use Rattle.adb.proofs.answered.Lts as lts
-use Rattle.adb.proofs.put_values.Reads as put-values-reads
-use Rattle.adb.proofs.values_of.Reads as values-of-reads
-use Rattle.connection.proofs.Answer.number.Reads as number-reads
-use Rattle.le.proofs.put_usize.Reads as put-usize-reads
 
 put-usize-requires : tie.Need-put-usize-requires
 put-usize-requires c κs = search needs

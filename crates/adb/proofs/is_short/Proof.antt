@@ -2,8 +2,6 @@ use Rattle.adb.proofs.ExportLaws.{short-state, short-answer}
 use native.Mathlib.Omega.{arith}
 use Rattle.adb.proofs.is_short.Statement.{statement}
 use Rattle.adb.proofs.is_short.Tie as tie
-use Rattle.adb.proofs.is_short.Reads as reads
-use Rattle.adb.proofs.is_short.Lts as lts
 
 returns : tie.Need-returns
 returns c = short-state (c .before .args .state) (c .before .args .answer) (omega arith)

@@ -2,9 +2,6 @@ use Rattle.adb.proofs.ExportLaws.{values-put}
 use borrow.Author.Needs.{needs}
 use Rattle.adb.proofs.put_values.Statement.{statement}
 use Rattle.adb.proofs.put_values.Tie as tie
-use Rattle.adb.proofs.put_values.Reads as reads
-use Rattle.adb.proofs.put_values.Lts as lts
-use Rattle.le.proofs.put_u64.Reads as put-u64-reads
 
 put-u64-requires : tie.Need-put-u64-requires
 put-u64-requires c κs = search needs
@@ -22,7 +19,14 @@ same-length : tie.Need-same-length
 same-length c = search needs
 
 returns : tie.Need-returns
-returns c = values-put (c .before .before .before .before .before .before .before .before .before .before .before .before .before .before .before .before .before .args .answer .now) (c .before .before .before .before .before .before .before .before .before .before .before .before .before .before .before .before .before .args .v) _ _ _ _ (c .before .before .before .before .before .before .before .before .before .before .before .before .before .before .before .before .before .pre) (c .before .before .before .before .before .before .before .before .before .before .before .before .before .before .put-u64 .ensures) (c .before .before .before .before .before .before .before .before .before .before .put-u642 .ensures) (c .before .before .before .before .before .before .put-u643 .ensures) (c .before .before .put-u644 .ensures)
+returns c =
+    let at-put-u644 = c .before .before in
+    let at-put-u643 = at-put-u644 .before .before .before .before in
+    let at-put-u642 = at-put-u643 .before .before .before .before in
+    let at-put-u64 = at-put-u642 .before .before .before .before in
+    let start = at-put-u64 .before .before .before in
+    values-put (start .args .answer .now) (start .args .v) _ _ _ _ (start .pre) (at-put-u64 .put-u64 .ensures) (at-put-u642 .put-u642 .ensures)
+    (at-put-u643 .put-u643 .ensures) (at-put-u644 .put-u644 .ensures)
 
 pub put-values-spec : {M : Type 1} → statement M
 put-values-spec =

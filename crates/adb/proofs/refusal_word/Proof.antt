@@ -2,8 +2,6 @@ use Rattle.connection.specs.Answer.{refusalWord}
 use borrow.Author.Needs.{needs}
 use Rattle.adb.proofs.refusal_word.Statement.{statement}
 use Rattle.adb.proofs.refusal_word.Tie as tie
-use Rattle.adb.proofs.refusal_word.Reads as reads
-use Rattle.adb.proofs.refusal_word.Lts as lts
 
 enum-known-refusal : tie.Need-enum-known-refusal
 enum-known-refusal c = search needs

@@ -1,16 +1,11 @@
 use Rattle.adb.specs.Export.{valuesIn}
-use Rattle.connection.specs.Answer.{valuesOf}
+use Rattle.connection.specs.Answer.{answerValues}
 use Prim.Native.Nat.{ℕ}
-use mathlib.Core.List.{List, [], _∷_}
+use mathlib.Core.List.{[], _∷_}
 use mathlib.Core.Path.{ap, _∙_}
 use borrow.Author.Needs.{needs}
 use Rattle.adb.proofs.values_of.Statement.{statement}
 use Rattle.adb.proofs.values_of.Tie as tie
-use Rattle.adb.proofs.values_of.Reads as reads
-use Rattle.adb.proofs.values_of.Lts as lts
-use Rattle.adb.proofs.ack_length.Reads as ack-length-reads
-use Rattle.adb.proofs.one.Reads as one-reads
-use Rattle.adb.proofs.refusal_word.Reads as refusal-word-reads
 
 enum-told : tie.Need-enum-told
 enum-told c = search needs
@@ -76,40 +71,44 @@ one-requires-7 : tie.Need-one-requires-7
 one-requires-7 c κs = search needs
 
 returns : tie.Need-returns
-unfolding valuesOf
+unfolding answerValues
 returns c = rw (c .before .enum-told .given .1) (ap valuesIn (c .one .ensures))
 
 returns-2 : tie.Need-returns-2
-unfolding valuesOf
+unfolding answerValues
 returns-2 c = rw (c .before .enum-told2 .given .1) (ap valuesIn (c .one2 .ensures))
 
 returns-3 : tie.Need-returns-3
-unfolding valuesOf
+unfolding answerValues
 returns-3 c = rw (c .before .enum-told3 .given .1) (ap valuesIn (c .one3 .ensures))
 
 returns-4 : tie.Need-returns-4
-unfolding valuesOf
+unfolding answerValues
 returns-4 c = rw (c .before .before .before .answer .given .1)
 
 returns-5 : tie.Need-returns-5
-unfolding valuesOf
-returns-5 c = rw (c .before .before .before .answer2 .given .1) (ap valuesIn (c .one4 .ensures) ∙ ap (λ (x : ℕ). x ∷ 0 ∷ 0 ∷ 0 ∷ []) (c .before .ack-length .ensures))
+unfolding answerValues
+returns-5 c =
+    let at-answer2 = c .before .before .before in
+    rw (at-answer2 .answer2 .given .1) (ap valuesIn (c .one4 .ensures) ∙ ap (λ (x : ℕ). x ∷ 0 ∷ 0 ∷ 0 ∷ []) (c .before .ack-length .ensures))
 
 returns-6 : tie.Need-returns-6
-unfolding valuesOf
+unfolding answerValues
 returns-6 c = rw (c .before .before .answer3 .given .1) (ap valuesIn (c .one5 .ensures))
 
 returns-7 : tie.Need-returns-7
-unfolding valuesOf
+unfolding answerValues
 returns-7 c = rw (c .before .before .answer4 .given .1) (ap valuesIn (c .one6 .ensures))
 
 returns-8 : tie.Need-returns-8
-unfolding valuesOf
+unfolding answerValues
 returns-8 c = rw (c .before .before .answer5 .given .1)
 
 returns-9 : tie.Need-returns-9
-unfolding valuesOf
-returns-9 c = rw (c .before .before .before .answer6 .given .1) (ap valuesIn (c .one7 .ensures) ∙ ap (λ (x : ℕ). x ∷ 0 ∷ 0 ∷ 0 ∷ []) (c .before .refusal-word .ensures))
+unfolding answerValues
+returns-9 c =
+    let at-answer6 = c .before .before .before in
+    rw (at-answer6 .answer6 .given .1) (ap valuesIn (c .one7 .ensures) ∙ ap (λ (x : ℕ). x ∷ 0 ∷ 0 ∷ 0 ∷ []) (c .before .refusal-word .ensures))
 
 pub values-of-spec : {M : Type 1} → statement M
 values-of-spec =

@@ -23,10 +23,21 @@ same-length : tie.Need-same-length
 same-length c = search needs
 
 returns : tie.Need-returns
-returns c = known-write (c .before .before .before .before .before .before .before .before .before .before .before .args .exchange) (c .before .before .before .before .before .before .before .before .before .before .before .args .v) (c .before .before .before .before .before .before .before .before .before .before .before .args .text .now) (c .before .before .before .before .before .before .before .before .before .before .before .args .out .now) (c .before .before .before .before .before .before .before .before .before .before .before .args .word) _ _ _ _ _ (sym (c .before .before .before .before .before .before .found .given .1) ∙ c .before .before .before .before .before .before .before .before .find .ensures) (c .before .before .before .before .fields-from .ensures) (c .before .before .write .ensures)
+returns c =
+    let at-write = c .before .before in
+    let at-fields-from = at-write .before .before in
+    let at-found = at-fields-from .before .before in
+    let at-find = at-found .before .before in
+    let start = at-find .before .before .before in
+    known-write (start .args .exchange) (start .args .v) (start .args .text .now) (start .args .out .now) (start .args .word) _ _ _ _ _
+    (sym (at-found .found .given .1) ∙ at-find .find .ensures) (at-fields-from .fields-from .ensures) (at-write .write .ensures)
 
 returns-2 : tie.Need-returns-2
-returns-2 c = unknown-write (c .before .before .before .before .before .args .exchange) (c .before .before .before .before .before .args .v) (c .before .before .before .before .before .args .text .now) (c .before .before .before .before .before .args .out .now) (c .before .before .before .before .before .args .word) (sym (c .enum-told .given .1) ∙ c .before .before .find .ensures)
+returns-2 c =
+    let at-find = c .before .before in
+    let start = at-find .before .before .before in
+    unknown-write (start .args .exchange) (start .args .v) (start .args .text .now) (start .args .out .now) (start .args .word)
+    (sym (c .enum-told .given .1) ∙ at-find .find .ensures)
 
 pub write-found-spec : {M : Type 1} → statement M
 write-found-spec =

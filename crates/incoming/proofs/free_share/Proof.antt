@@ -10,13 +10,13 @@ use Rattle.incoming.proofs.free_share.Statement.{statement}
 use Rattle.incoming.proofs.free_share.Tie as tie
 
 abbrev Inv-loop : tie.InvT-loop
-Inv-loop state queued n k₀ k = (k ≤ n) × (freeShare n (take queued (stateOf state .opens)) ≡ freeFrom k (n - k) (take queued (stateOf state .opens)))
+Inv-loop state queued n k₀ k = (k ≤ n) × (freeShare n (take queued (stateOf state .queue)) ≡ freeFrom k (n - k) (take queued (stateOf state .queue)))
 
 abbrev μ-loop : tie.MeasureT-loop
 μ-loop state queued n k₀ k = n - k
 
 loop-holds : tie.Need-loop-holds Inv-loop μ-loop
-loop-holds c = (omega arith, free-start (c .before .args .n) (take (c .before .args .queued) (stateOf (c .before .args .state .now) .opens)))
+loop-holds c = (omega arith, free-start (c .before .args .n) (take (c .before .args .queued) (stateOf (c .before .args .state .now) .queue)))
 
 is-named-requires : tie.Need-is-named-requires Inv-loop μ-loop
 is-named-requires c κs = search needs
@@ -28,13 +28,13 @@ loop-less : tie.Need-loop-less Inv-loop μ-loop
 loop-less c = search needs
 
 loop-again : tie.Need-loop-again Inv-loop μ-loop
-loop-again c = (omega arith, c .before .before .before .loop .inv .1 ∙ free-step (c .before .before .before .loop .k) (c .before .before .before .before .before .args .n) (take (c .before .before .before .before .before .args .queued) (stateOf (c .before .before .before .before .before .args .state .now) .opens)) (omega arith) (sym (c .before .is-named .ensures) ∙ c .if1 .taken))
+loop-again c = (omega arith, c .before .before .before .loop .inv .1 ∙ free-step (c .before .before .before .loop .k) (c .before .before .before .before .before .args .n) (take (c .before .before .before .before .before .args .queued) (stateOf (c .before .before .before .before .before .args .state .now) .queue)) (omega arith) (sym (c .before .is-named .ensures) ∙ c .if1 .taken))
 
 returns : tie.Need-returns Inv-loop μ-loop
-returns c = sym (c .before .before .before .loop .inv .1 ∙ free-stop (c .before .before .before .loop .k) (c .before .before .before .before .before .args .n) (take (c .before .before .before .before .before .args .queued) (stateOf (c .before .before .before .before .before .args .state .now) .opens)) (omega arith) (sym (c .before .is-named .ensures) ∙ c .if1 .left))
+returns c = sym (c .before .before .before .loop .inv .1 ∙ free-stop (c .before .before .before .loop .k) (c .before .before .before .before .before .args .n) (take (c .before .before .before .before .before .args .queued) (stateOf (c .before .before .before .before .before .args .state .now) .queue)) (omega arith) (sym (c .before .is-named .ensures) ∙ c .if1 .left))
 
 returns-2 : tie.Need-returns-2 Inv-loop μ-loop
-returns-2 c = let e : c .before .before .before .args .n ≡ c .before .loop .k = omega arith in e ∙ sym (c .before .loop .inv .1 ∙ free-end (c .before .loop .k) (c .before .before .before .args .n) (take (c .before .before .before .args .queued) (stateOf (c .before .before .before .args .state .now) .opens)) (omega arith))
+returns-2 c = let e : c .before .before .before .args .n ≡ c .before .loop .k = omega arith in e ∙ sym (c .before .loop .inv .1 ∙ free-end (c .before .loop .k) (c .before .before .before .args .n) (take (c .before .before .before .args .queued) (stateOf (c .before .before .before .args .state .now) .queue)) (omega arith))
 
 pub free-share-spec : {M : Type 1} → statement M
 free-share-spec =

@@ -10,7 +10,7 @@ use Rattle.incoming.proofs.is_named.Statement.{statement}
 use Rattle.incoming.proofs.is_named.Tie as tie
 
 abbrev Inv-loop : tie.InvT-loop
-Inv-loop state queued k i₀ i = (i ≤ queued) × (named k (take queued (stateOf state .opens)) ≡ named k (drop i (take queued (stateOf state .opens))))
+Inv-loop state queued k i₀ i = (i ≤ queued) × (named k (take queued (stateOf state .queue)) ≡ named k (drop i (take queued (stateOf state .queue))))
 
 abbrev μ-loop : tie.MeasureT-loop
 μ-loop state queued k i₀ i = queued - i
@@ -18,11 +18,11 @@ abbrev μ-loop : tie.MeasureT-loop
 loop-holds : tie.Need-loop-holds Inv-loop μ-loop
 loop-holds c = (omega arith, refl)
 
-open-at-requires : tie.Need-open-at-requires Inv-loop μ-loop
-open-at-requires c κs = search needs
+queued-at-requires : tie.Need-queued-at-requires Inv-loop μ-loop
+queued-at-requires c κs = search needs
 
 returns : tie.Need-returns Inv-loop μ-loop
-returns c = sym (c .before .before .before .before .loop .inv .1 ∙ named-stop (c .before .before .before .before .before .before .args .k) (c .before .before .before .before .before .before .args .state .now) (c .before .before .before .before .before .before .args .queued) (c .before .before .before .before .loop .i) (omega arith) (omega arith) (rw (c .before .before .open-at .ensures) at (c .if1 .taken)))
+returns c = sym (c .before .before .before .before .loop .inv .1 ∙ named-stop (c .before .before .before .before .before .before .args .k) (c .before .before .before .before .before .before .args .state .now) (c .before .before .before .before .before .before .args .queued) (c .before .before .before .before .loop .i) (omega arith) (omega arith) (rw (c .before .before .queued-at .ensures) at (c .if1 .taken)))
 
 add-i : tie.Need-add-i Inv-loop μ-loop
 add-i c = search needs
@@ -31,7 +31,7 @@ loop-less : tie.Need-loop-less Inv-loop μ-loop
 loop-less c = search needs
 
 loop-again : tie.Need-loop-again Inv-loop μ-loop
-loop-again c = (omega arith, c .before .before .before .before .loop .inv .1 ∙ named-step (c .before .before .before .before .before .before .args .k) (c .before .before .before .before .before .before .args .state .now) (c .before .before .before .before .before .before .args .queued) (c .before .before .before .before .loop .i) (omega arith) (omega arith) (rw (c .before .before .open-at .ensures) at (c .if1 .left)))
+loop-again c = (omega arith, c .before .before .before .before .loop .inv .1 ∙ named-step (c .before .before .before .before .before .before .args .k) (c .before .before .before .before .before .before .args .state .now) (c .before .before .before .before .before .before .args .queued) (c .before .before .before .before .loop .i) (omega arith) (omega arith) (rw (c .before .before .queued-at .ensures) at (c .if1 .left)))
 
 returns-2 : tie.Need-returns-2 Inv-loop μ-loop
 returns-2 c = sym (c .before .loop .inv .1 ∙ named-end (c .before .before .before .args .k) (c .before .before .before .args .state .now) (c .before .before .before .args .queued) (c .before .loop .i) (omega arith))
@@ -43,7 +43,7 @@ is-named-spec =
     Inv-loop
     μ-loop
     loop-holds
-    open-at-requires
+    queued-at-requires
     returns
     add-i
     loop-less

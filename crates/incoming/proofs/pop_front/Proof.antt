@@ -7,8 +7,8 @@ use Rattle.incoming.proofs.pop_front.Tie as tie
 returns : tie.Need-returns
 returns c = pop-nothing (c .before .before .before .args .h) (c .before .before .before .args .state .now) (c .if1 .taken)
 
-open-at-requires : tie.Need-open-at-requires
-open-at-requires c κs = search needs
+queued-at-requires : tie.Need-queued-at-requires
+queued-at-requires c κs = search needs
 
 retain-requires : tie.Need-retain-requires
 retain-requires c κs = search needs
@@ -20,9 +20,9 @@ same-length : tie.Need-same-length
 same-length c = search needs
 
 returns-2 : tie.Need-returns-2
-returns-2 c = pop-gives (c .before .before .before .before .before .before .before .before .before .before .args .h) (c .before .before .before .before .before .before .before .before .before .before .args .state .now) (c .before .before .before .before .before .open-at .result) (c .before .before .before .retain .result) (c .before .before .before .retain .last .0) (c .with-queued .result) (c .before .before .before .before .before .before .before .if1 .left) (omega arith) (c .before .before .before .before .before .open-at .ensures) (c .before .before .before .retain .ensures) (c .with-queued .ensures)
+returns-2 c = pop-gives (c .before .before .before .before .before .before .before .before .before .before .args .h) (c .before .before .before .before .before .before .before .before .before .before .args .state .now) (c .before .before .before .before .before .queued-at .result) (c .before .before .before .retain .result) (c .before .before .before .retain .last .0) (c .with-queued .result) (c .before .before .before .before .before .before .before .if1 .left) (omega arith) (c .before .before .before .before .before .queued-at .ensures) (c .before .before .before .retain .ensures) (c .with-queued .ensures)
 
 pub pop-front-spec : {M : Type 1} → statement M
 pop-front-spec =
     tie.close
-    (tie.spec returns open-at-requires retain-requires with-queued-requires same-length returns-2)
+    (tie.spec returns queued-at-requires retain-requires with-queued-requires same-length returns-2)

@@ -16,13 +16,13 @@ cast-at : tie.Need-cast-at
 cast-at c = search needs
 
 mul-at : tie.Need-mul-at
-mul-at c = let z = share-fits (c .before .before .before .before .before .before .before .before .before .before .args .h .negotiated .config .channels) (c .before .before .before .before .before .before .before .before .before .before .args .h .negotiated .config .«max_payload») (c .before .before .before .before .before .before .before .before .before .before .args .h .queued) (c .before .free-share .result) (stateOf (c .before .before .before .before .before .before .before .before .before .before .args .state .now) .opens) (omega arith) (c .before .free-share .ensures) in omega arith
+mul-at c = let z = share-fits (c .before .before .before .before .before .before .before .before .before .before .args .h .negotiated .config .channels) (c .before .before .before .before .before .before .before .before .before .before .args .h .negotiated .config .«max_payload») (c .before .before .before .before .before .before .before .before .before .before .args .h .queued) (c .before .free-share .result) (stateOf (c .before .before .before .before .before .before .before .before .before .before .args .state .now) .queue) (omega arith) (c .before .free-share .ensures) in omega arith
 
 copy-at-requires : tie.Need-copy-at-requires
-copy-at-requires c κs = let z = share-fits (c .before .before .before .before .before .before .before .before .before .before .before .args .h .negotiated .config .channels) (c .before .before .before .before .before .before .before .before .before .before .before .args .h .negotiated .config .«max_payload») (c .before .before .before .before .before .before .before .before .before .before .before .args .h .queued) (c .before .before .free-share .result) (stateOf (c .before .before .before .before .before .before .before .before .before .before .before .args .state .now) .opens) (omega arith) (c .before .before .free-share .ensures) in omega arith
+copy-at-requires c κs = let z = share-fits (c .before .before .before .before .before .before .before .before .before .before .before .args .h .negotiated .config .channels) (c .before .before .before .before .before .before .before .before .before .before .before .args .h .negotiated .config .«max_payload») (c .before .before .before .before .before .before .before .before .before .before .before .args .h .queued) (c .before .before .free-share .result) (stateOf (c .before .before .before .before .before .before .before .before .before .before .before .args .state .now) .queue) (omega arith) (c .before .before .free-share .ensures) in omega arith
 
-put-open-requires : tie.Need-put-open-requires
-put-open-requires c κs = search needs
+put-queued-requires : tie.Need-put-queued-requires
+put-queued-requires c κs = search needs
 
 add-with-queued : tie.Need-add-with-queued
 add-with-queued c = search needs
@@ -37,7 +37,7 @@ same-length-2 : tie.Need-same-length-2
 same-length-2 c = search needs
 
 returns-2 : tie.Need-returns-2
-returns-2 c = push-queued (c .before .before .before .before .before .before .before .before .before .before .before .before .before .before .before .before .before .before .before .args .h) (c .before .before .before .before .before .before .before .before .before .before .before .before .before .before .before .before .before .before .before .args .state .now) (c .before .before .before .before .before .before .before .before .before .before .before .before .before .before .before .before .before .before .before .args .remote) (c .before .before .before .before .before .before .before .before .before .before .before .before .before .before .before .before .before .before .before .args .credit) (c .before .before .before .before .before .before .before .before .before .before .before .before .before .before .before .before .before .before .before .args .destination .now) (c .before .before .before .before .before .before .before .before .before .before .before .before .before .before .before .before .before .before .before .args .store .now) (c .before .before .before .before .before .before .before .before .before .before .free-share .result) (c .before .before .before .put-open .last .0) (c .before .before .before .before .before .before .before .copy-at .last .0) (c .with-queued .result) (omega arith) (c .before .before .before .before .before .before .before .before .before .before .free-share .ensures) (c .before .before .before .put-open .ensures) (c .before .before .before .before .before .before .before .copy-at .ensures) (c .with-queued .ensures)
+returns-2 c = push-queued (c .before .before .before .before .before .before .before .before .before .before .before .before .before .before .before .before .before .before .before .args .h) (c .before .before .before .before .before .before .before .before .before .before .before .before .before .before .before .before .before .before .before .args .state .now) (c .before .before .before .before .before .before .before .before .before .before .before .before .before .before .before .before .before .before .before .args .remote) (c .before .before .before .before .before .before .before .before .before .before .before .before .before .before .before .before .before .before .before .args .credit) (c .before .before .before .before .before .before .before .before .before .before .before .before .before .before .before .before .before .before .before .args .destination .now) (c .before .before .before .before .before .before .before .before .before .before .before .before .before .before .before .before .before .before .before .args .store .now) (c .before .before .before .before .before .before .before .before .before .before .free-share .result) (c .before .before .before .put-queued .last .0) (c .before .before .before .before .before .before .before .copy-at .last .0) (c .with-queued .result) (omega arith) (c .before .before .before .before .before .before .before .before .before .before .free-share .ensures) (c .before .before .before .put-queued .ensures) (c .before .before .before .before .before .before .before .copy-at .ensures) (c .with-queued .ensures)
 
 pub push-back-spec : {M : Type 1} → statement M
 push-back-spec =
@@ -48,7 +48,7 @@ push-back-spec =
     cast-at
     mul-at
     copy-at-requires
-    put-open-requires
+    put-queued-requires
     add-with-queued
     with-queued-requires
     same-length

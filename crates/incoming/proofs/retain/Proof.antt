@@ -10,7 +10,7 @@ use Rattle.incoming.proofs.retain.Statement.{statement}
 use Rattle.incoming.proofs.retain.Tie as tie
 
 abbrev Inv-loop : tie.InvT-loop
-Inv-loop state₀ from queued keep w₀ i₀ state w i = (from ≤ i) × (i ≤ queued) × (w ≤ i) × (length state ≡ length state₀) × Retains (kept keep (drop from (take i (stateOf state₀ .opens)))) state₀ w state
+Inv-loop state₀ from queued keep w₀ i₀ state w i = (from ≤ i) × (i ≤ queued) × (w ≤ i) × (length state ≡ length state₀) × Retains (kept keep (drop from (take i (stateOf state₀ .queue)))) state₀ w state
 
 abbrev μ-loop : tie.MeasureT-loop
 μ-loop state₀ from queued keep w₀ i₀ state w i = queued - i
@@ -18,14 +18,14 @@ abbrev μ-loop : tie.MeasureT-loop
 loop-holds : tie.Need-loop-holds Inv-loop μ-loop
 loop-holds c = (omega arith, omega arith, omega arith, refl, retain-none (c .before .args .keep) (c .before .args .state .now) (c .before .args .from))
 
-open-at-requires : tie.Need-open-at-requires Inv-loop μ-loop
-open-at-requires c κs = search needs
+queued-at-requires : tie.Need-queued-at-requires Inv-loop μ-loop
+queued-at-requires c κs = search needs
 
 stays-requires : tie.Need-stays-requires Inv-loop μ-loop
 stays-requires c κs = search needs
 
-put-open-requires : tie.Need-put-open-requires Inv-loop μ-loop
-put-open-requires c κs = search needs
+put-queued-requires : tie.Need-put-queued-requires Inv-loop μ-loop
+put-queued-requires c κs = search needs
 
 add-w : tie.Need-add-w Inv-loop μ-loop
 add-w c = search needs
@@ -37,7 +37,7 @@ loop-less : tie.Need-loop-less Inv-loop μ-loop
 loop-less c = search needs
 
 loop-again : tie.Need-loop-again Inv-loop μ-loop
-loop-again c = (omega arith, omega arith, omega arith, omega arith, retain-puts (c .before .before .before .before .before .before .before .before .before .before .before .args .keep) (c .before .before .before .before .before .before .before .before .before .before .before .args .state .now) (c .before .before .before .before .before .before .before .before .before .before .before .args .from) (c .before .before .before .before .before .before .before .before .before .loop .i) (omega arith) (omega arith) (c .before .before .before .before .before .before .before .before .before .loop .w) (c .before .before .before .before .before .before .before .before .before .loop .state) (c .before .before .before .before .before .before .open-at .result) (omega arith) (omega arith) (c .before .before .before .before .before .before .before .before .before .loop .inv .4) (c .before .before .before .before .before .before .open-at .ensures) (c .before .before .put-open .last .0) (sym (c .before .before .before .before .before .stays .ensures) ∙ c .before .before .before .before .if1 .taken) (c .before .before .put-open .ensures))
+loop-again c = (omega arith, omega arith, omega arith, omega arith, retain-puts (c .before .before .before .before .before .before .before .before .before .before .before .args .keep) (c .before .before .before .before .before .before .before .before .before .before .before .args .state .now) (c .before .before .before .before .before .before .before .before .before .before .before .args .from) (c .before .before .before .before .before .before .before .before .before .loop .i) (omega arith) (omega arith) (c .before .before .before .before .before .before .before .before .before .loop .w) (c .before .before .before .before .before .before .before .before .before .loop .state) (c .before .before .before .before .before .before .queued-at .result) (omega arith) (omega arith) (c .before .before .before .before .before .before .before .before .before .loop .inv .4) (c .before .before .before .before .before .before .queued-at .ensures) (c .before .before .put-queued .last .0) (sym (c .before .before .before .before .before .stays .ensures) ∙ c .before .before .before .before .if1 .taken) (c .before .before .put-queued .ensures))
 
 add-i-2 : tie.Need-add-i-2 Inv-loop μ-loop
 add-i-2 c = search needs
@@ -46,7 +46,7 @@ loop-less-2 : tie.Need-loop-less-2 Inv-loop μ-loop
 loop-less-2 c = search needs
 
 loop-again-2 : tie.Need-loop-again-2 Inv-loop μ-loop
-loop-again-2 c = (omega arith, omega arith, omega arith, omega arith, retain-skips (c .before .before .before .before .before .before .before .args .keep) (c .before .before .before .before .before .before .before .args .state .now) (c .before .before .before .before .before .before .before .args .from) (c .before .before .before .before .before .loop .i) (omega arith) (omega arith) (c .before .before .before .before .before .loop .w) (c .before .before .before .before .before .loop .state) (c .before .before .open-at .result) (omega arith) (omega arith) (c .before .before .before .before .before .loop .inv .4) (c .before .before .open-at .ensures) (sym (c .before .stays .ensures) ∙ c .if1 .left))
+loop-again-2 c = (omega arith, omega arith, omega arith, omega arith, retain-skips (c .before .before .before .before .before .before .before .args .keep) (c .before .before .before .before .before .before .before .args .state .now) (c .before .before .before .before .before .before .before .args .from) (c .before .before .before .before .before .loop .i) (omega arith) (omega arith) (c .before .before .before .before .before .loop .w) (c .before .before .before .before .before .loop .state) (c .before .before .queued-at .result) (omega arith) (omega arith) (c .before .before .before .before .before .loop .inv .4) (c .before .before .queued-at .ensures) (sym (c .before .stays .ensures) ∙ c .if1 .left))
 
 same-length : tie.Need-same-length Inv-loop μ-loop
 same-length c = search needs
@@ -61,9 +61,9 @@ retain-spec =
     Inv-loop
     μ-loop
     loop-holds
-    open-at-requires
+    queued-at-requires
     stays-requires
-    put-open-requires
+    put-queued-requires
     add-w
     add-i
     loop-less

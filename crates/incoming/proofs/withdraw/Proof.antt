@@ -13,7 +13,11 @@ same-length : tie.Need-same-length
 same-length c = search needs
 
 returns : tie.Need-returns
-returns c = withdraw-gives (c .before .before .before .before .before .before .args .h) (c .before .before .before .before .before .before .args .state .now) (c .before .before .before .before .before .before .args .remote) (c .before .before .before .retain .result) (c .before .before .before .retain .last .0) (c .with-queued .result) (c .before .before .before .retain .ensures) (c .with-queued .ensures)
+returns c =
+    let at-retain = c .before .before .before in
+    let start = at-retain .before .before .before in
+    withdraw-gives (start .args .h) (start .args .state .now) (start .args .remote) (at-retain .retain .result) (at-retain .retain .last .0)
+    (c .with-queued .result) (at-retain .retain .ensures) (c .with-queued .ensures)
 
 pub withdraw-spec : {M : Type 1} → statement M
 withdraw-spec = tie.close (tie.spec retain-requires with-queued-requires same-length returns)

@@ -22,7 +22,10 @@ same-length : tie.Need-same-length
 same-length c = search needs
 
 returns : tie.Need-returns
-returns c = copied (c .before .before .before .before .before .before .args .dst .now) (c .before .before .before .before .before .before .args .at) (c .before .before .before .before .before .before .args .src .now) (c .before .before .copy .last .1 .0) (c .before .before .before .before .before .before .pre) (c .before .before .copy .ensures .1)
+returns c =
+    let at-copy = c .before .before in
+    let start = at-copy .before .before .before .before in
+    copied (start .args .dst .now) (start .args .at) (start .args .src .now) (at-copy .copy .last .1 .0) (start .pre) (at-copy .copy .ensures .1)
 
 pub copy-at-spec : {M : Type 1} → statement M
 copy-at-spec =

@@ -29,7 +29,9 @@ le4-requires : tie.Need-le4-requires
 le4-requires c κs = search needs
 
 returns : tie.Need-returns
-returns c = c .le4 .ensures ∙ read-four (c .before .before .before .before .before .before .args .s .now) (c .before .before .before .before .before .before .args .at) (c .before .before .before .before .before .before .pre)
+returns c =
+    let start = c .before .before .before .before .before .before in
+    c .le4 .ensures ∙ read-four (start .args .s .now) (start .args .at) (start .pre)
 
 pub get-u32-spec : {M : Type 1} → statement M
 get-u32-spec =

@@ -13,7 +13,11 @@ same-length : tie.Need-same-length
 same-length c = search needs
 
 returns : tie.Need-returns
-returns c = rw (c .before .before .before .bits-of-i32 .ensures, toZ-ofZ (c .before .before .before .before .before .before .fits .z)) at (c .before .before .put-u32 .ensures)
+returns c =
+    let at-put-u32 = c .before .before in
+    let at-bits-of-i32 = at-put-u32 .before in
+    let at-fits = at-bits-of-i32 .before .before .before in
+    rw (at-bits-of-i32 .bits-of-i32 .ensures, toZ-ofZ (at-fits .fits .z)) at (at-put-u32 .put-u32 .ensures)
 
 pub put-i32-spec : {M : Type 1} → statement M
 put-i32-spec = tie.close (tie.spec bits-of-i32-requires put-u32-requires same-length returns)

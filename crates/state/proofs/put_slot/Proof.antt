@@ -1,6 +1,6 @@
 use native.Mathlib.Omega.{arith}
 use Prim.Native.Nat.{_+_, _*_}
-use Rattle.state.specs.State.{slotBytes, putSlot}
+use Rattle.state.specs.State.{headerLen, slotLen, slotBytes, putSlot}
 use Rattle.state.proofs.Fields.{length-slot, put-lent}
 use borrow.Author.Needs.{needs}
 use Rattle.state.proofs.put_slot.Statement.{statement}
@@ -32,7 +32,7 @@ same-length c = search needs
 
 returns : tie.Need-returns
 unfolding putSlot
-returns c = put-lent (c .before .before .before .before .before .args .state .now) (58 + c .before .before .before .before .before .args .i * 49) 49 (slotBytes (c .before .before .before .before .before .args .s)) _ (length-slot (c .before .before .before .before .before .args .s)) (omega arith) (c .before .before .fill-slot .ensures)
+returns c = put-lent (c .before .before .before .before .before .args .state .now) (headerLen + c .before .before .before .before .before .args .i * slotLen) slotLen (slotBytes (c .before .before .before .before .before .args .s)) _ (length-slot (c .before .before .before .before .before .args .s)) (omega arith) (c .before .before .fill-slot .ensures)
 
 pub put-slot-spec : {M : Type 1} → statement M
 put-slot-spec =

@@ -1,5 +1,5 @@
 use Prim.Native.Nat.{_+_, _*_}
-use Rattle.state.specs.State.{slotAt}
+use Rattle.state.specs.State.{headerLen, slotLen, slotAt}
 use Rattle.le.proofs.Parts.{lent-part}
 use borrow.Author.Needs.{needs}
 use Rattle.state.proofs.slot_at.Statement.{statement}
@@ -28,7 +28,9 @@ slot-of-requires c κs = search needs
 
 returns : tie.Need-returns
 unfolding slotAt
-returns c = rw (lent-part (c .before .before .before .args .state .now) (58 + c .before .before .before .args .i * 49) 49) at (c .slot-of .ensures)
+returns c =
+    let start = c .before .before .before in
+    rw (lent-part (start .args .state .now) (headerLen + start .args .i * slotLen) slotLen) at (c .slot-of .ensures)
 
 pub slot-at-spec : {M : Type 1} → statement M
 slot-at-spec =

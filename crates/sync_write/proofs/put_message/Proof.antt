@@ -33,7 +33,17 @@ same-length : tie.Need-same-length
 same-length c = search needs
 
 returns : tie.Need-returns
-returns c = put-message _ _ _ _ (c .before .before .before .before .before .before .before .before .before .before .before .before .before .before .before .before .before .args .message) (c .before .before .before .before .before .before .before .before .before .before .before .before .before .before .before .before .before .args .text .now) _ _ _ (c .before .before .before .before .before .before .before .before .before .before .before .before .before .before .before .before .before .pre .fits) (c .before .before .before .before .before .before .before .before .before .before .before .word .ensures) refl (c .before .before .before .before .before .before .before .before .before .before .before .before .before .head-length .ensures ∙ ap headOf (c .before .before .before .before .before .before .before .before .before .before .before .before .before .before .layout-of .ensures)) (c .before .before .before .before .before .before .before .before .before .before .put-u32 .ensures) (c .before .before .before .before .before .before .put-fields .ensures) (c .before .before .copy-at .ensures)
+returns c =
+    let at-copy-at = c .before .before in
+    let at-put-fields = at-copy-at .before .before .before .before in
+    let at-put-u32 = at-put-fields .before .before .before .before in
+    let at-word = at-put-u32 .before in
+    let at-head-length = at-word .before .before in
+    let at-layout-of = at-head-length .before in
+    let start = at-layout-of .before .before .before in
+    put-message _ _ _ _ (start .args .message) (start .args .text .now) _ _ _ (start .pre .fits) (at-word .word .ensures) refl
+    (at-head-length .head-length .ensures ∙ ap headOf (at-layout-of .layout-of .ensures)) (at-put-u32 .put-u32 .ensures)
+    (at-put-fields .put-fields .ensures) (at-copy-at .copy-at .ensures)
 
 pub put-message-spec : {M : Type 1} → statement M
 put-message-spec =

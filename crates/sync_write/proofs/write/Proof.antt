@@ -25,11 +25,23 @@ same-length c = search needs
 
 returns : tie.Need-returns
 unfolding writeNamed
-returns c = named-write (c .before .before .before .before .before .before .before .before .before .before .before .args .exchange) (c .before .before .before .before .before .before .before .before .before .before .before .args .message) (c .before .before .before .before .before .before .before .before .before .before .before .args .text .now) (c .before .before .before .before .before .before .before .before .before .before .before .args .out .now) (c .before .before .before .before .before .before .before .before .word .result) _ _ _ (c .before .before .before .before .before .before .before .before .word .ensures) (sym (c .before .before .before .before .before .found .given .1) ∙ c .before .before .before .before .before .before .before .find .ensures) (c .before .before .write-known .ensures)
+returns c =
+    let at-write-known = c .before .before in
+    let at-found = at-write-known .before .before .before in
+    let at-find = at-found .before .before in
+    let at-word = at-find .before in
+    let start = at-word .before .before .before in
+    named-write (start .args .exchange) (start .args .message) (start .args .text .now) (start .args .out .now) (at-word .word .result) _ _ _
+    (at-word .word .ensures) (sym (at-found .found .given .1) ∙ at-find .find .ensures) (at-write-known .write-known .ensures)
 
 returns-2 : tie.Need-returns-2
 unfolding writeNamed
-returns-2 c = named-write (c .before .before .before .before .before .before .args .exchange) (c .before .before .before .before .before .before .args .message) (c .before .before .before .before .before .before .args .text .now) (c .before .before .before .before .before .before .args .out .now) (c .before .before .before .word .result) _ _ _ (c .before .before .before .word .ensures) (sym (c .enum-told .given .1) ∙ c .before .before .find .ensures) (record { result-is = refl; out-is = refl })
+returns-2 c =
+    let at-find = c .before .before in
+    let at-word = at-find .before in
+    let start = at-word .before .before .before in
+    named-write (start .args .exchange) (start .args .message) (start .args .text .now) (start .args .out .now) (at-word .word .result) _ _ _
+    (at-word .word .ensures) (sym (c .enum-told .given .1) ∙ at-find .find .ensures) (record { result-is = refl; out-is = refl })
 
 pub write-spec : {M : Type 1} → statement M
 write-spec =

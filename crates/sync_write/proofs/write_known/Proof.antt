@@ -23,7 +23,11 @@ is-over-requires c κs = search needs
 
 returns-2 : tie.Need-returns-2
 unfolding writeKnown
-returns-2 c = rw (sym (c .before .before .before .is-other .ensures) ∙ c .before .before .if1 .left, sym (c .before .is-over .ensures) ∙ c .if2 .taken) (record { result-is = refl; out-is = refl })
+returns-2 c =
+    let at-if1 = c .before .before in
+    let at-is-other = at-if1 .before in
+    rw (sym (at-is-other .is-other .ensures) ∙ at-if1 .if1 .left, sym (c .before .is-over .ensures) ∙ c .if2 .taken)
+    (record { result-is = refl; out-is = refl })
 
 longest-requires : tie.Need-longest-requires
 longest-requires c κs = search needs

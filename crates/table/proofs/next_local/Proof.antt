@@ -3,12 +3,8 @@ use mathlib.Core.Path.{_≡_}
 use Prim.Native.Nat.{ℕ, _+_, _%_, _^_}
 use Rattle.table.specs.Table.{nextLocal}
 use borrow.Author.Needs.{needs}
-use borrow.Author.Tests.{eqb-true, eqb-false}
 use Rattle.table.proofs.next_local.Statement.{statement}
 use Rattle.table.proofs.next_local.Tie as tie
-use Rattle.table.proofs.next_local.Reads as reads
-use Rattle.table.proofs.next_local.Lts as lts
-use Rattle.std.proofs.num.wrapping_add_u32.Reads as wrapping-add-u32-reads
 
 -- the sum that wraps to 0, and any other
 wrapped : (n m : ℕ) → m ≡ (n + 1) % 2 ^ 32 → m ≡ 0 → 1 ≡ nextLocal n

@@ -3,10 +3,6 @@ use Rattle.wire.specs.Wire.{closeBytes}
 use borrow.Author.Needs.{needs}
 use Rattle.wire.proofs.send_close.Statement.{statement}
 use Rattle.wire.proofs.send_close.Tie as tie
-use Rattle.wire.proofs.send_close.Reads as reads
-use Rattle.wire.proofs.send_close.Lts as lts
-use Rattle.protocol.proofs.packet.Packet.empty.Reads as empty-reads
-use Rattle.wire.proofs.put_empty.Reads as put-empty-reads
 
 empty-requires : tie.Need-empty-requires
 empty-requires c κs = search needs

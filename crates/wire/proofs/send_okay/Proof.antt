@@ -20,8 +20,12 @@ same-length c = search needs
 
 returns : tie.Need-returns
 returns c =
-    let a = c .before .before .before .before .before .before .before .before .before .before .before .before .args in
-    delayed-okay _ _ _ _ _ (a .len) (a .ids) (a .delayed) _ (c .before .before .before .before .before .before .before .before .if1 .taken) (c .before .before .before .before .before .before .put-u32 .ensures) (c .before .before .put-at .ensures)
+    let at-put-at = c .before .before in
+    let at-put-u32 = at-put-at .before .before .before .before in
+    let at-if1 = at-put-u32 .before .before in
+    let start = at-if1 .before .before .before .before in
+    let a = start .args in
+    delayed-okay _ _ _ _ _ (a .len) (a .ids) (a .delayed) _ (at-if1 .if1 .taken) (at-put-u32 .put-u32 .ensures) (at-put-at .put-at .ensures)
 
 empty-requires : tie.Need-empty-requires
 empty-requires c κs = search needs

@@ -1,4 +1,4 @@
-use Rattle.connection.specs.Answer.{numberOf}
+use Rattle.connection.specs.Answer.{answerNumber}
 use borrow.Author.Needs.{needs}
 use Rattle.connection.proofs.Answer.number.Statement.{statement}
 use Rattle.connection.proofs.Answer.number.Tie as tie
@@ -34,39 +34,39 @@ number-requires : tie.Need-number-requires
 number-requires c κs = search needs
 
 returns : tie.Need-returns
-unfolding numberOf
+unfolding answerNumber
 returns c = rw (c .enum-told .given .1)
 
 returns-2 : tie.Need-returns-2
-unfolding numberOf
+unfolding answerNumber
 returns-2 c = rw (c .enum-told2 .given .1)
 
 returns-3 : tie.Need-returns-3
-unfolding numberOf
+unfolding answerNumber
 returns-3 c = rw (c .enum-told3 .given .1)
 
 returns-4 : tie.Need-returns-4
-unfolding numberOf
+unfolding answerNumber
 returns-4 c = rw (c .enum-told4 .given .1)
 
 returns-5 : tie.Need-returns-5
-unfolding numberOf
+unfolding answerNumber
 returns-5 c = rw (c .enum-told5 .given .1)
 
 returns-6 : tie.Need-returns-6
-unfolding numberOf
+unfolding answerNumber
 returns-6 c = rw (c .enum-told6 .given .1)
 
 returns-7 : tie.Need-returns-7
-unfolding numberOf
+unfolding answerNumber
 returns-7 c = rw (c .enum-told7 .given .1)
 
 returns-8 : tie.Need-returns-8
-unfolding numberOf
+unfolding answerNumber
 returns-8 c = rw (c .enum-told8 .given .1)
 
 returns-9 : tie.Need-returns-9
-unfolding numberOf
+unfolding answerNumber
 returns-9 c = rw (c .before .before .self .given .1) (c .number .ensures)
 
 pub number-spec : {M : Type 1} → statement M

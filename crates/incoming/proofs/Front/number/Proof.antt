@@ -2,8 +2,6 @@ use Rattle.incoming.specs.Numbers.{frontNumber}
 use borrow.Author.Needs.{needs}
 use Rattle.incoming.proofs.Front.number.Statement.{statement}
 use Rattle.incoming.proofs.Front.number.Tie as tie
-use Rattle.incoming.proofs.Front.number.Reads as reads
-use Rattle.incoming.proofs.Front.number.Lts as lts
 
 enum-told : tie.Need-enum-told
 enum-told c = search needs

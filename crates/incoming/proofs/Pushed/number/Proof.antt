@@ -2,8 +2,6 @@ use Rattle.incoming.specs.Numbers.{pushedNumber}
 use borrow.Author.Needs.{needs}
 use Rattle.incoming.proofs.Pushed.number.Statement.{statement}
 use Rattle.incoming.proofs.Pushed.number.Tie as tie
-use Rattle.incoming.proofs.Pushed.number.Reads as reads
-use Rattle.incoming.proofs.Pushed.number.Lts as lts
 
 enum-told : tie.Need-enum-told
 enum-told c = search needs

@@ -16,10 +16,13 @@ magic-requires c κs = search needs
 
 returns : tie.Need-returns
 unfolding knownOf packetOf
-returns c = rw (ne-eqb (c .before .before .before .before .args .message .magic) (magicOf (c .before .before .before .before .args .command)) (λ e. c .if1 .taken (e ∙ sym (c .before .before .magic .ensures))))
+returns c =
+    let at-magic = c .before .before in
+    let start = at-magic .before .before in
+    rw (ne-eqb (start .args .message .magic) (magicOf (start .args .command)) (λ e. c .if1 .taken (e ∙ sym (at-magic .magic .ensures))))
 
-least-requires : tie.Need-least-requires
-least-requires c κs = search needs
+least-u32-requires : tie.Need-least-u32-requires
+least-u32-requires c κs = search needs
 
 returns-2 : tie.Need-returns-2
 unfolding knownOf packetOf
@@ -61,7 +64,7 @@ decode-known-spec =
     (tie.spec
     magic-requires
     returns
-    least-requires
+    least-u32-requires
     returns-2
     cast-len
     add-end

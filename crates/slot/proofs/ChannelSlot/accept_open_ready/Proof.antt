@@ -33,7 +33,12 @@ with-sending-requires c κs = search needs
 
 returns : tie.Need-returns
 unfolding openedOf openedBy
-returns c = ap (openedBy (c .before .before .before .before .before .before .before .args .self) (c .before .before .before .before .before .before .before .args .remote)) (sym (sym (c .before .before .parse-ready-credit .ensures) ∙ c .enum-told .given .1)) ∙ sym (cond-true _ _ _ (c .before .before .before .if1 .taken))
+returns c =
+    let at-parse-ready-credit = c .before .before in
+    let at-if1 = at-parse-ready-credit .before in
+    let start = at-if1 .before .before .before .before in
+    ap (openedBy (start .args .self) (start .args .remote)) (sym (sym (at-parse-ready-credit .parse-ready-credit .ensures) ∙ c .enum-told .given .1))
+    ∙ sym (cond-true _ _ _ (at-if1 .if1 .taken))
 
 returns-2 : tie.Need-returns-2
 returns-2 c =
@@ -44,7 +49,10 @@ returns-2 c =
 
 returns-3 : tie.Need-returns-3
 unfolding openedOf
-returns-3 c = ap Slot (c .before .with-state .ensures ∙ ap (λ x. withState x Open) (c .before .before .with-remote .ensures)) ∙ sym (cond-false _ _ _ (c .if1 .left))
+returns-3 c =
+    let at-with-remote = c .before .before in
+    ap Slot (c .before .with-state .ensures ∙ ap (λ x. withState x Open) (at-with-remote .with-remote .ensures)) ∙ sym
+    (cond-false _ _ _ (c .if1 .left))
 
 pub accept-open-ready-spec : {M : Type 1} → statement M
 accept-open-ready-spec =

@@ -38,8 +38,13 @@ returns c =
 returns-2 : tie.Need-returns-2
 unfolding acceptedSlot openingSlot
 returns-2 c =
-    (c .before .with-state .ensures ∙ ap (λ x. withState x Open) (c .before .before .with-remote .ensures ∙ ap (λ x. withRemote x (c .before .before .before .before .before .before .args .ids .remote)) (c .before .before .before .opening .ensures)))
-    ∙ ap (withSending (withState (withRemote (openingSlot (c .before .before .before .before .before .before .args .ids .local)) (c .before .before .before .before .before .before .args .ids .remote)) Open) true) (sym (cond-false _ _ _ (c .if1 .left)))
+    let at-with-remote = c .before .before in
+    let at-opening = at-with-remote .before in
+    let start = at-opening .before .before .before in
+    (c .before .with-state .ensures ∙ ap (λ x. withState x Open)
+    (at-with-remote .with-remote .ensures ∙ ap (λ x. withRemote x (start .args .ids .remote)) (at-opening .opening .ensures)))
+    ∙ ap (withSending (withState (withRemote (openingSlot (start .args .ids .local)) (start .args .ids .remote)) Open) true)
+    (sym (cond-false _ _ _ (c .if1 .left)))
 
 pub accepted-spec : {M : Type 1} → statement M
 accepted-spec =

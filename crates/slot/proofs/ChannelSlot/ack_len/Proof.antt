@@ -18,7 +18,11 @@ some-len-requires c κs = search needs
 
 returns-2 : tie.Need-returns-2
 unfolding ackLenOf
-returns-2 c = rw (ne-eqb (c .before .before .before .before .before .args .self .unacked) 0 (c .before .before .before .if1 .left), c .before .before .if2 .taken) (c .some-len .ensures ∙ ap someLen (c .before .least .ensures))
+returns-2 c =
+    let at-if2 = c .before .before in
+    let at-if1 = at-if2 .before in
+    let start = at-if1 .before .before in
+    rw (ne-eqb (start .args .self .unacked) 0 (at-if1 .if1 .left), at-if2 .if2 .taken) (c .some-len .ensures ∙ ap someLen (c .before .least .ensures))
 
 returns-3 : tie.Need-returns-3
 unfolding ackLenOf

@@ -13,7 +13,10 @@ with-numbers-requires c κs = search needs
 
 returns : tie.Need-returns
 unfolding closedSlot
-returns c = c .with-numbers .ensures ∙ ap (λ (x : ChannelSlot). withNumbers x 0 (c .before .before .args .self .settled) (c .before .before .args .self .head) (c .before .before .args .self .buffered)) (c .before .with-state .ensures)
+returns c =
+    let start = c .before .before in
+    c .with-numbers .ensures ∙ ap (λ (x : ChannelSlot). withNumbers x 0 (start .args .self .settled) (start .args .self .head)
+    (start .args .self .buffered)) (c .before .with-state .ensures)
 
 pub apply-close-spec : {M : Type 1} → statement M
 apply-close-spec = tie.close (tie.spec with-state-requires with-numbers-requires returns)

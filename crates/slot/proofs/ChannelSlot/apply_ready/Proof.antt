@@ -32,7 +32,12 @@ with-sending-requires c κs = search needs
 
 returns : tie.Need-returns
 unfolding readyOf readyBy
-returns c = ap (readyBy (c .before .before .before .before .before .before .args .self)) (sym (sym (c .before .before .parse-ready-credit .ensures) ∙ c .enum-told .given .1)) ∙ sym (cond-true _ _ _ (c .before .before .before .if1 .taken))
+returns c =
+    let at-parse-ready-credit = c .before .before in
+    let at-if1 = at-parse-ready-credit .before in
+    let start = at-if1 .before .before .before in
+    ap (readyBy (start .args .self)) (sym (sym (at-parse-ready-credit .parse-ready-credit .ensures) ∙ c .enum-told .given .1)) ∙ sym
+    (cond-true _ _ _ (at-if1 .if1 .taken))
 
 returns-2 : tie.Need-returns-2
 returns-2 c =

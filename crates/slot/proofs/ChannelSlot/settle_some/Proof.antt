@@ -18,7 +18,11 @@ enum-known-ack : tie.Need-enum-known-ack
 enum-known-ack c = search needs
 
 sub-with-numbers : tie.Need-sub-with-numbers
-sub-with-numbers c = ack-small (c .before .before .before .before .before .before .args .self) (c .before .before .before .before .before .before .args .policy) (c .before .before .before .before .before .before .args .n) _ _ (sym (c .before .before .before .before .ack-len .ensures) ∙ c .before .before .ack .given .1)
+sub-with-numbers c =
+    let at-ack = c .before .before in
+    let at-ack-len = at-ack .before .before in
+    let start = at-ack-len .before .before in
+    ack-small (start .args .self) (start .args .policy) (start .args .n) _ _ (sym (at-ack-len .ack-len .ensures) ∙ at-ack .ack .given .1)
 
 with-numbers-requires : tie.Need-with-numbers-requires
 with-numbers-requires c κs = search needs
@@ -29,7 +33,10 @@ returns c = rw (sym (c .before .before .ack-len .ensures) ∙ c .enum-told .give
 
 returns-2 : tie.Need-returns-2
 unfolding settledSome settledBy
-returns-2 c = rw (sym (c .before .before .before .before .before .ack-len .ensures) ∙ c .before .before .before .ack .given .1, c .with-numbers .ensures)
+returns-2 c =
+    let at-ack = c .before .before .before in
+    let at-ack-len = at-ack .before .before in
+    rw (sym (at-ack-len .ack-len .ensures) ∙ at-ack .ack .given .1, c .with-numbers .ensures)
 
 pub settle-some-spec : {M : Type 1} → statement M
 settle-some-spec =

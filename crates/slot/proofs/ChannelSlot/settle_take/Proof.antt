@@ -14,7 +14,12 @@ settle-some-requires c κs = search needs
 
 returns : tie.Need-returns
 unfolding settledOf
-returns c = c .settle-some .ensures ∙ ap (settledSome (c .before .before .before .before .before .args .self) (c .before .before .before .before .before .args .policy)) (c .before .least .ensures) ∙ sym (cond-true _ _ _ (eq-eqb (c .before .before .before .before .before .args .self .settled) 0 (c .before .before .if2 .taken))) ∙ sym (cond-true _ _ _ (c .before .before .before .before .if1 .taken))
+returns c =
+    let at-if2 = c .before .before in
+    let at-if1 = at-if2 .before .before in
+    let start = at-if1 .before in
+    c .settle-some .ensures ∙ ap (settledSome (start .args .self) (start .args .policy)) (c .before .least .ensures) ∙ sym
+    (cond-true _ _ _ (eq-eqb (start .args .self .settled) 0 (at-if2 .if2 .taken))) ∙ sym (cond-true _ _ _ (at-if1 .if1 .taken))
 
 returns-2 : tie.Need-returns-2
 unfolding settledOf

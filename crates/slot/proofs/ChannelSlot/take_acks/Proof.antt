@@ -26,7 +26,11 @@ returns c = rw (sym (c .before .before .before .before .before .before .before .
 
 returns-2 : tie.Need-returns-2
 unfolding takeAcks
-returns-2 c = rw (sym (c .before .before .before .has-data .ensures) ∙ c .before .before .if1 .taken, ne-eqb (c .before .before .before .before .args .self .settled) 0 (c .if2 .left))
+returns-2 c =
+    let at-if1 = c .before .before in
+    let at-has-data = at-if1 .before in
+    let start = at-has-data .before in
+    rw (sym (at-has-data .has-data .ensures) ∙ at-if1 .if1 .taken, ne-eqb (start .args .self .settled) 0 (c .if2 .left))
 
 returns-3 : tie.Need-returns-3
 unfolding takeAcks

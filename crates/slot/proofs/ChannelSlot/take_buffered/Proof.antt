@@ -27,11 +27,23 @@ closed-error-requires c κs = search needs
 
 returns-2 : tie.Need-returns-2
 unfolding takenOf
-returns-2 c = rw (sym (c .before .before .before .before .has-data .ensures) ∙ c .before .before .before .if1 .left, sym (c .before .before .is-closed .ensures) ∙ c .before .if2 .taken, c .closed-error .ensures)
+returns-2 c =
+    let at-is-closed = c .before .before in
+    let at-if1 = at-is-closed .before in
+    let at-has-data = at-if1 .before in
+    rw (
+      sym (at-has-data .has-data .ensures) ∙ at-if1 .if1 .left,
+      sym (at-is-closed .is-closed .ensures) ∙ c .before .if2 .taken,
+      c .closed-error
+          .ensures,
+    )
 
 returns-3 : tie.Need-returns-3
 unfolding takenOf
-returns-3 c = rw (sym (c .before .before .before .has-data .ensures) ∙ c .before .before .if1 .left, sym (c .before .is-closed .ensures) ∙ c .if2 .left)
+returns-3 c =
+    let at-if1 = c .before .before in
+    let at-has-data = at-if1 .before in
+    rw (sym (at-has-data .has-data .ensures) ∙ at-if1 .if1 .left, sym (c .before .is-closed .ensures) ∙ c .if2 .left)
 
 pub take-buffered-spec : {M : Type 1} → statement M
 take-buffered-spec =

@@ -2,13 +2,13 @@ use Rattle.sync.proofs.ReadLaws.{named-read}
 use native.Mathlib.Omega.{arith}
 use mathlib.Core.Path.{sym, _∙_}
 use borrow.Author.Tests.{lt-ltb}
-use Rattle.sync.specs.Message.{readOf, namedOf}
+use Rattle.sync.specs.Message.{readMessage, namedOf}
 use borrow.Author.Needs.{needs}
 use Rattle.sync.proofs.Message.read.Statement.{statement}
 use Rattle.sync.proofs.Message.read.Tie as tie
 
 returns : tie.Need-returns
-unfolding readOf
+unfolding readMessage
 returns c = rw (lt-ltb _ _ (c .if1 .taken))
 
 get-u32-requires : tie.Need-get-u32-requires

@@ -1,4 +1,4 @@
-use Rattle.sync.specs.Message.{numberOf}
+use Rattle.sync.specs.Message.{readNumber}
 use borrow.Author.Needs.{needs}
 use Rattle.sync.proofs.Read.number.Statement.{statement}
 use Rattle.sync.proofs.Read.number.Tie as tie
@@ -16,19 +16,19 @@ enum-told-4 : tie.Need-enum-told-4
 enum-told-4 c = search needs
 
 returns : tie.Need-returns
-unfolding numberOf
+unfolding readNumber
 returns c = rw (c .enum-told .given .1)
 
 returns-2 : tie.Need-returns-2
-unfolding numberOf
+unfolding readNumber
 returns-2 c = rw (c .enum-told2 .given .1)
 
 returns-3 : tie.Need-returns-3
-unfolding numberOf
+unfolding readNumber
 returns-3 c = rw (c .enum-told3 .given .1)
 
 returns-4 : tie.Need-returns-4
-unfolding numberOf
+unfolding readNumber
 returns-4 c = rw (c .enum-told4 .given .1)
 
 pub number-spec : {M : Type 1} → statement M

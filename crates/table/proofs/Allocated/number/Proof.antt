@@ -1,9 +1,7 @@
-use Rattle.table.specs.Numbers.{allocatedNumber}
+use Rattle.table.specs.Table.{allocatedNumber}
 use borrow.Author.Needs.{needs}
 use Rattle.table.proofs.Allocated.number.Statement.{statement}
 use Rattle.table.proofs.Allocated.number.Tie as tie
-use Rattle.table.proofs.Allocated.number.Reads as reads
-use Rattle.table.proofs.Allocated.number.Lts as lts
 
 enum-told : tie.Need-enum-told
 enum-told c = search needs

@@ -1,4 +1,4 @@
-use Rattle.protocol.specs.Packet.{numberOf}
+use Rattle.protocol.specs.Packet.{decodedNumber}
 use borrow.Author.Needs.{needs}
 use Rattle.protocol.proofs.packet.Decoded.number.Statement.{statement}
 use Rattle.protocol.proofs.packet.Decoded.number.Tie as tie
@@ -22,27 +22,27 @@ enum-told-6 : tie.Need-enum-told-6
 enum-told-6 c = search needs
 
 returns : tie.Need-returns
-unfolding numberOf
+unfolding decodedNumber
 returns c = rw (c .enum-told .given .1)
 
 returns-2 : tie.Need-returns-2
-unfolding numberOf
+unfolding decodedNumber
 returns-2 c = rw (c .enum-told2 .given .1)
 
 returns-3 : tie.Need-returns-3
-unfolding numberOf
+unfolding decodedNumber
 returns-3 c = rw (c .enum-told3 .given .1)
 
 returns-4 : tie.Need-returns-4
-unfolding numberOf
+unfolding decodedNumber
 returns-4 c = rw (c .enum-told4 .given .1)
 
 returns-5 : tie.Need-returns-5
-unfolding numberOf
+unfolding decodedNumber
 returns-5 c = rw (c .enum-told5 .given .1)
 
 returns-6 : tie.Need-returns-6
-unfolding numberOf
+unfolding decodedNumber
 returns-6 c = rw (c .enum-told6 .given .1)
 
 pub number-spec : {M : Type 1} → statement M

@@ -1,0 +1,58 @@
+-- What each exported function promises, in the terms of `exported` and of `makeIn`. Assumes nothing.
+use mathlib.Core.List.{List, []}
+use Prim.Native.Nat.{ℕ}
+use Rattle.call_make.specs.Make.{makeIn}
+use Rattle.history.specs.Run.{openCall, dispatchCall, settleCall, takeCall, readCall, writeCall, closeCall, frontTaken}
+use Rattle.adb.specs.Export.{worldOf, exported, Does, isYes, MakesState}
+
+-- what `adb_open` promises
+abbrev pub AdbOpenDoes : List ℕ → List ℕ → List ℕ → List ℕ → List ℕ → List ℕ → List ℕ → ℕ → List ℕ → List ℕ → List ℕ → List ℕ → List ℕ → Type 0
+AdbOpenDoes state rx opens destination received out answer r state' rx' opens' out' answer' =
+    Does (exported (worldOf state rx opens) (openCall out destination received) out [] answer) r state' rx' opens' out' [] answer'
+
+-- what `adb_dispatch` promises
+abbrev pub AdbDispatchDoes : List ℕ → List ℕ → List ℕ → List ℕ → List ℕ → List ℕ → ℕ → List ℕ → List ℕ → List ℕ → List ℕ → List ℕ → Type 0
+AdbDispatchDoes state rx opens received out answer r state' rx' opens' out' answer' =
+    Does (exported (worldOf state rx opens) (dispatchCall out received) out [] answer) r state' rx' opens' out' [] answer'
+
+-- what `adb_settle` promises
+abbrev pub AdbSettleDoes : List ℕ → List ℕ → List ℕ → ℕ → ℕ → ℕ → List ℕ → List ℕ → ℕ → List ℕ → List ℕ → List ℕ → Type 0
+AdbSettleDoes state rx opens slot local want out answer r state' out' answer' =
+    Does (exported (worldOf state rx opens) (settleCall out (record { slot = slot; local = record { 0 = local } }) want) out [] answer) r state' rx
+    opens out' [] answer'
+
+-- what `adb_take` promises
+abbrev pub AdbTakeDoes : List ℕ → List ℕ → List ℕ → ℕ → ℕ → List ℕ → List ℕ → ℕ → List ℕ → List ℕ → List ℕ → Type 0
+AdbTakeDoes state rx opens slot local buf answer r state' buf' answer' =
+    Does (exported (worldOf state rx opens) (takeCall (record { slot = slot; local = record { 0 = local } }) buf) [] buf answer) r state' rx opens
+    [] buf' answer'
+
+-- what `adb_read` promises
+abbrev pub AdbReadDoes : List ℕ → List ℕ → List ℕ → ℕ → ℕ → List ℕ → List ℕ → List ℕ → List ℕ → ℕ → List ℕ → List ℕ → List ℕ → List ℕ → List ℕ → List ℕ → Type 0
+AdbReadDoes state rx opens slot local received out buf answer r state' rx' opens' out' buf' answer' =
+    Does (exported (worldOf state rx opens) (readCall out (record { slot = slot; local = record { 0 = local } }) buf received) out buf answer) r
+    state' rx' opens' out' buf' answer'
+
+-- what `adb_write` promises
+abbrev pub AdbWriteDoes : List ℕ → List ℕ → List ℕ → ℕ → ℕ → List ℕ → List ℕ → List ℕ → List ℕ → ℕ → List ℕ → List ℕ → List ℕ → List ℕ → List ℕ → Type 0
+AdbWriteDoes state rx opens slot local bytes received out answer r state' rx' opens' out' answer' =
+    Does (exported (worldOf state rx opens) (writeCall out (record { slot = slot; local = record { 0 = local } }) bytes received) out [] answer) r
+    state' rx' opens' out' [] answer'
+
+-- what `adb_close` promises
+abbrev pub AdbCloseDoes : List ℕ → List ℕ → List ℕ → ℕ → ℕ → List ℕ → List ℕ → ℕ → List ℕ → List ℕ → List ℕ → Type 0
+AdbCloseDoes state rx opens slot local out answer r state' out' answer' =
+    Does (exported (worldOf state rx opens) (closeCall out (record { slot = slot; local = record { 0 = local } })) out [] answer) r state' rx opens
+    out' [] answer'
+
+-- what `adb_take_front` promises
+abbrev pub AdbTakeFrontDoes : List ℕ → List ℕ → List ℕ → List ℕ → ℕ → List ℕ → List ℕ → Type 0
+AdbTakeFrontDoes state rx opens answer r state' answer' =
+    Does (exported (worldOf state rx opens) frontTaken [] [] answer) r state' rx opens [] [] answer'
+
+-- what `adb_make` promises
+abbrev pub AdbMakeDoes : List ℕ → ℕ → ℕ → ℕ → ℕ → ℕ → ℕ → ℕ → ℕ → ℕ → List ℕ → Type 0
+AdbMakeDoes state channels «max_payload» «max_rx_per_channel» «initial_ack_bytes» version «device_max_payload» «host_delayed_ack» «device_delayed_ack» r state' =
+    MakesState
+    (makeIn (record { channels = channels; «max_payload» = «max_payload»; «max_rx_per_channel» = «max_rx_per_channel»; «initial_ack_bytes» = «initial_ack_bytes» }) version «device_max_payload» (isYes «host_delayed_ack») (isYes «device_delayed_ack») state)
+    r state'

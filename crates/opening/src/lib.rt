@@ -1,2 +1,0 @@
-// Opening a channel.
-pub mod open;

@@ -1,2 +1,0 @@
-// Reading a channel.
-pub mod read;

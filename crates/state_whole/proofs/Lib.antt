@@ -1,0 +1,3 @@
+pub mod LiveLaws
+pub mod ValidLaws
+pub mod WholeLaws

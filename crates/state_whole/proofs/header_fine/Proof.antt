@@ -1,0 +1,34 @@
+use native.Mathlib.Omega.{arith}
+use borrow.Author.Tests.{eq-eqb, ne-eqb, le-leb, lt-leb}
+use mathlib.Core.Path.{sym, _∙_}
+use Rattle.state_whole.specs.Whole.{headerFine}
+use borrow.Author.Needs.{needs}
+use Rattle.state_whole.proofs.header_fine.Statement.{statement}
+use Rattle.state_whole.proofs.header_fine.Tie as tie
+
+within-limits-requires : tie.Need-within-limits-requires
+within-limits-requires c κs = search needs
+
+returns : tie.Need-returns
+unfolding headerFine
+returns c = rw (sym (c .before .before .before .within-limits .ensures) ∙ c .before .before .if1 .taken, lt-leb (c .before .before .before .before .before .before .args .h .negotiated .«max_payload») 1_048_576 (omega arith))
+
+returns-2 : tie.Need-returns-2
+unfolding headerFine
+returns-2 c = rw (sym (c .before .before .before .before .before .within-limits .ensures) ∙ c .before .before .before .before .if1 .taken, le-leb (c .before .before .before .before .before .before .before .before .args .h .negotiated .«max_payload») 1_048_576 (omega arith), lt-leb (c .before .before .before .before .before .before .before .before .args .h .negotiated .«protocol_version») 0x0100_0001 (omega arith))
+
+returns-3 : tie.Need-returns-3
+unfolding headerFine
+returns-3 c = rw (sym (c .before .before .before .before .before .before .before .within-limits .ensures) ∙ c .before .before .before .before .before .before .if1 .taken, le-leb (c .before .before .before .before .before .before .before .before .before .before .args .h .negotiated .«max_payload») 1_048_576 (omega arith), le-leb (c .before .before .before .before .before .before .before .before .before .before .args .h .negotiated .«protocol_version») 0x0100_0001 (omega arith), eq-eqb (c .before .before .before .before .before .before .before .before .before .before .args .h .«next_local») 0 (c .if4 .taken))
+
+returns-4 : tie.Need-returns-4
+unfolding headerFine
+returns-4 c = rw (sym (c .before .before .before .before .before .before .before .before .before .within-limits .ensures) ∙ c .before .before .before .before .before .before .before .before .if1 .taken, le-leb (c .before .before .before .before .before .before .before .before .before .before .before .before .args .h .negotiated .«max_payload») 1_048_576 (omega arith), le-leb (c .before .before .before .before .before .before .before .before .before .before .before .before .args .h .negotiated .«protocol_version») 0x0100_0001 (omega arith), ne-eqb (c .before .before .before .before .before .before .before .before .before .before .before .before .args .h .«next_local») 0 (c .before .before .if4 .left))
+
+returns-5 : tie.Need-returns-5
+unfolding headerFine
+returns-5 c = rw (sym (c .before .within-limits .ensures) ∙ c .if1 .left)
+
+pub header-fine-spec : {M : Type 1} → statement M
+header-fine-spec =
+    tie.close (tie.spec within-limits-requires returns returns-2 returns-3 returns-4 returns-5)

@@ -1,0 +1,22 @@
+use native.Mathlib.Omega.{arith}
+use Rattle.state_whole.proofs.ValidLaws.{waits-in, waits-out, waits-not}
+use borrow.Author.Needs.{needs}
+use Rattle.state_whole.proofs.pending_fine.Statement.{statement}
+use Rattle.state_whole.proofs.pending_fine.Tie as tie
+
+slot-at-requires : tie.Need-slot-at-requires
+slot-at-requires c κs = search needs
+
+returns : tie.Need-returns
+returns c = waits-in (c .before .before .before .before .before .before .before .before .before .args .h) (c .before .before .before .before .before .before .before .before .before .args .state .now) (c .before .slot-at .result) (c .before .before .before .before .if1 .taken) (omega arith) (omega arith) (c .before .slot-at .ensures)
+
+returns-2 : tie.Need-returns-2
+returns-2 c = waits-out (c .before .before .before .before .before .before .before .args .h) (c .before .before .before .before .before .before .before .args .state .now) (c .before .before .if1 .taken) (omega arith)
+
+returns-3 : tie.Need-returns-3
+returns-3 c =
+    let start = c .before .before .before .before .before in
+    waits-not (start .args .h) (start .args .state .now) (c .if1 .left)
+
+pub pending-fine-spec : {M : Type 1} → statement M
+pending-fine-spec = tie.close (tie.spec slot-at-requires returns returns-2 returns-3)

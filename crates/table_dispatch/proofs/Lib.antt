@@ -1,0 +1,3 @@
+pub mod DispatchLaws
+pub mod KeepLaws
+pub mod RouteLaws

@@ -1,2 +1,0 @@
-// Writing to a channel.
-pub mod write;
