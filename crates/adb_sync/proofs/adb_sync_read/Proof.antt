@@ -5,7 +5,9 @@ use Rattle.adb_sync.proofs.adb_sync_read.Statement.{statement}
 use Rattle.adb_sync.proofs.adb_sync_read.Tie as tie
 
 returns : tie.Need-returns
-returns c = read-short (c .before .before .before .args .exchange) (c .before .before .before .args .received .now) (c .before .before .before .args .answer .now) (omega arith)
+returns c =
+    let start = c .before .before .before in
+    read-short (start .args .exchange) (start .args .received .now) (start .args .answer .now) (omega arith)
 
 from-number-requires : tie.Need-from-number-requires
 from-number-requires c κs = search needs
@@ -26,7 +28,15 @@ same-length : tie.Need-same-length
 same-length c = search needs
 
 returns-2 : tie.Need-returns-2
-returns-2 c = read-done (c .before .before .before .before .before .before .before .before .before .before .before .args .exchange) (c .before .before .before .before .before .before .before .before .before .before .before .args .received .now) (c .before .before .before .before .before .before .before .before .before .before .before .args .answer .now) _ _ (c .before .before .before .before .before .before .read .result) _ _ (omega arith) (c .before .before .before .before .before .before .before .from-number .ensures) (c .before .before .before .before .before .before .read .ensures) (c .before .before .before .before .said-of .ensures) (c .before .before .before .put-said .ensures) (c .number .ensures)
+returns-2 c =
+    let at-put-said = c .before .before .before in
+    let at-said-of = at-put-said .before in
+    let at-read = at-said-of .before .before in
+    let at-from-number = at-read .before in
+    let start = at-from-number .before .before .before .before in
+    read-done (start .args .exchange) (start .args .received .now) (start .args .answer .now) _ _ (at-read .read .result) _ _ (omega arith)
+    (at-from-number .from-number .ensures) (at-read .read .ensures) (at-said-of .said-of .ensures) (at-put-said .put-said .ensures)
+    (c .number .ensures)
 
 pub adb-sync-read-spec : {M : Type 1} → statement M
 adb-sync-read-spec =

@@ -5,7 +5,10 @@ use Rattle.adb_sync.proofs.adb_sync_write.Statement.{statement}
 use Rattle.adb_sync.proofs.adb_sync_write.Tie as tie
 
 returns : tie.Need-returns
-returns c = write-short (c .before .before .before .before .args .exchange) (c .before .before .before .before .args .id) (record { a = c .before .before .before .before .args .a; b = c .before .before .before .before .args .b; c = c .before .before .before .before .args .c; d = c .before .before .before .before .args .d }) (c .before .before .before .before .args .text .now) (c .before .before .before .before .args .out .now) (c .before .before .before .before .args .answer .now) (omega arith)
+returns c =
+    let start = c .before .before .before .before in
+    write-short (start .args .exchange) (start .args .id) (record { a = start .args .a; b = start .args .b; c = start .args .c; d = start .args .d })
+    (start .args .text .now) (start .args .out .now) (start .args .answer .now) (omega arith)
 
 from-number-requires : tie.Need-from-number-requires
 from-number-requires c κs = search needs
@@ -29,7 +32,16 @@ same-length-2 : tie.Need-same-length-2
 same-length-2 c = search needs
 
 returns-2 : tie.Need-returns-2
-returns-2 c = write-done (c .before .before .before .before .before .before .before .before .before .before .before .before .before .before .before .args .exchange) (c .before .before .before .before .before .before .before .before .before .before .before .before .before .before .before .args .id) (record { a = c .before .before .before .before .before .before .before .before .before .before .before .before .before .before .before .args .a; b = c .before .before .before .before .before .before .before .before .before .before .before .before .before .before .before .args .b; c = c .before .before .before .before .before .before .before .before .before .before .before .before .before .before .before .args .c; d = c .before .before .before .before .before .before .before .before .before .before .before .before .before .before .before .args .d }) (c .before .before .before .before .before .before .before .before .before .before .before .before .before .before .before .args .text .now) (c .before .before .before .before .before .before .before .before .before .before .before .before .before .before .before .args .out .now) (c .before .before .before .before .before .before .before .before .before .before .before .before .before .before .before .args .answer .now) _ _ _ (c .before .before .before .before .before .before .before .before .write-found .result) _ _ (omega arith) (c .before .before .before .before .before .before .before .before .before .before .from-number .ensures) (c .before .before .before .before .before .before .before .before .write-found .ensures) (c .before .before .before .before .count-of .ensures) (search needs) (c .before .before .before .put-usize .ensures) (c .number .ensures)
+returns-2 c =
+    let at-put-usize = c .before .before .before in
+    let at-count-of = at-put-usize .before in
+    let at-write-found = at-count-of .before .before .before .before in
+    let at-from-number = at-write-found .before .before in
+    let start = at-from-number .before .before .before .before .before in
+    write-done (start .args .exchange) (start .args .id) (record { a = start .args .a; b = start .args .b; c = start .args .c; d = start .args .d })
+    (start .args .text .now) (start .args .out .now) (start .args .answer .now) _ _ _ (at-write-found .write-found .result) _ _ (omega arith)
+    (at-from-number .from-number .ensures) (at-write-found .write-found .ensures) (at-count-of .count-of .ensures) (search needs)
+    (at-put-usize .put-usize .ensures) (c .number .ensures)
 
 pub adb-sync-write-spec : {M : Type 1} → statement M
 adb-sync-write-spec =

@@ -27,14 +27,26 @@ payload-requires c κs =
     (at-recv-pkt .recv-pkt .ensures) (c .before .found2 .given .1)) .whole
 
 act-on-requires : tie.Need-act-on-requires
-act-on-requires c κs = let k = c .before .before .before .before .before .before .before .before .before .before .before .before .before .before .before .before .pre .0 .room in call-room (c .before .before .before .before .before .before .before .before .before .before .before .before .before .before .before .before .args .state .now) (c .before .before .before .before .before .before .before .before .before .before .before .before .before .before .before .before .args .rx .now) (c .before .before .before .before .before .before .before .before .before .before .before .before .before .before .before .before .args .store .now) (c .before .before .before .before .before .before .before .before .before .before .before .before .before .before .before .before .args .out .now) (c .before .before .before .before .before .before .before .before .before .before .before .before .before .before .before .before .args .h) (c .before .before .before .before .before .before .before .before .before .before .before .before .before .before .before .before .pre .1) (c .before .before .before .before .before .before .before .before .before .before .before .before .before .before .before .before .args .received .now) (c .before .before .before .before .payload .result .now) _ 0 (c .before .before .before .before .before .before .before .before .before .before .before .before .before .before .before .before .pre .0) (packet-room (c .before .before .before .before .before .before .before .before .before .before .before .before .before .before .before .before .args .received .now) (c .before .before .before .before .before .before .before .before .before .before .before .before .before .before .before .before .args .h .negotiated .config .«max_payload») (c .before .before .before .before .before .before .before .before .recv-pkt .result) _ (c .before .before .before .before .before .before .before .before .recv-pkt .ensures) (c .before .before .before .before .before .before .found2 .given .1)) (c .before .before .before .before .payload .ensures) (omega arith)
+act-on-requires c κs =
+    let at-payload = c .before .before .before .before in
+    let at-found2 = at-payload .before .before in
+    let at-recv-pkt = at-found2 .before .before in
+    let start = at-recv-pkt .before .before .before .before .before .before .before .before in
+    let k = start .pre .0 .room in call-room (start .args .state .now) (start .args .rx .now) (start .args .store .now) (start .args .out .now)
+    (start .args .h) (start .pre .1) (start .args .received .now) (at-payload .payload .result .now) _ 0 (start .pre .0)
+    (packet-room (start .args .received .now) (start .args .h .negotiated .config .«max_payload») (at-recv-pkt .recv-pkt .result) _
+    (at-recv-pkt .recv-pkt .ensures) (at-found2 .found2 .given .1)) (at-payload .payload .ensures) (omega arith)
 
 put-header-requires-2 : tie.Need-put-header-requires-2
-put-header-requires-2 c κs = omega (arith, c .before .before .before .before .before .before .before .before .before .before .before .before .before .before .before .before .before .before .before .before .before .before .before .before .before .before .before .pre, c .before .before .before .before .before .before .before .before .before .state2 .given)
+put-header-requires-2 c κs =
+    let at-state2 = c .before .before .before .before .before .before .before .before .before in
+    let start = at-state2 .before .before .before .before .before .before .before .before .before .before .before .before .before .before .before .before .before .before in
+    omega (arith, start .pre, at-state2 .state2 .given)
 
 frame-len-requires : tie.Need-frame-len-requires
 frame-len-requires c κs =
-    let at-found2 = c .before .before .before .before .before .before .before .before .before .before .before .before .before .before .before .before .before .before .before .before in
+    let there = c .before .before .before .before .before .before .before .before .before .before .before .before .before .before .before .before .before .before .before .before in
+    let at-found2 = there in
     let at-recv-pkt = at-found2 .before .before in
     let start = at-recv-pkt .before .before .before .before .before .before .before .before in
     (packet-room (start .args .received .now) (start .args .h .negotiated .config .«max_payload») (at-recv-pkt .recv-pkt .result) _

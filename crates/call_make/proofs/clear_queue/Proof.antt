@@ -32,13 +32,25 @@ loop-less : tie.Need-loop-less Inv-loop μ-loop
 loop-less c = search needs
 
 loop-again : tie.Need-loop-again Inv-loop μ-loop
-loop-again c = (omega arith, omega arith, opens-more (c .before .before .before .before .before .before .before .before .args .state .now) (c .before .before .before .before .before .before .loop .state) _ (c .before .before .before .none-queued .result) (c .before .before .before .before .before .before .loop .i) (omega arith) (omega arith) (c .before .before .before .before .before .before .loop .inv .2) (c .before .before .before .none-queued .ensures) (c .before .before .put-queued .ensures))
+loop-again c =
+    let at-put-queued = c .before .before in
+    let at-none-queued = at-put-queued .before in
+    let at-loop = at-none-queued .before .before .before in
+    let start = at-loop .before .before in (
+      omega arith,
+      omega arith,
+      opens-more (start .args .state .now) (at-loop .loop .state) _ (at-none-queued .none-queued .result) (at-loop .loop .i)
+          (omega arith) (omega arith) (at-loop .loop .inv .2) (at-none-queued .none-queued .ensures) (at-put-queued .put-queued .ensures),
+    )
 
 same-length : tie.Need-same-length Inv-loop μ-loop
 same-length c = search needs
 
 returns : tie.Need-returns Inv-loop μ-loop
-returns c = let e : c .before .loop .i ≡ 64 = omega arith in subst (λ (x : ℕ). c .before .loop .state ≡ put (c .before .before .before .args .state .now) queueAt (emptyQueue x)) e (c .before .loop .inv .2)
+returns c =
+    let start = c .before .before .before in
+    let e : c .before .loop .i ≡ 64 = omega arith in subst (λ (x : ℕ). c .before .loop .state ≡ put (start .args .state .now) queueAt (emptyQueue x))
+    e (c .before .loop .inv .2)
 
 pub clear-queue-spec : {M : Type 1} → statement M
 clear-queue-spec =

@@ -32,13 +32,25 @@ loop-less : tie.Need-loop-less Inv-loop μ-loop
 loop-less c = search needs
 
 loop-again : tie.Need-loop-again Inv-loop μ-loop
-loop-again c = (omega arith, omega arith, slots-more (c .before .before .before .before .before .before .before .before .args .state .now) (c .before .before .before .before .before .before .loop .state) _ (c .before .before .before .empty .result) (c .before .before .before .before .before .before .loop .i) (omega arith) (omega arith) (c .before .before .before .before .before .before .loop .inv .2) (c .before .before .before .empty .ensures) (c .before .before .put-slot .ensures))
+loop-again c =
+    let at-put-slot = c .before .before in
+    let at-empty = at-put-slot .before in
+    let at-loop = at-empty .before .before .before in
+    let start = at-loop .before .before in (
+      omega arith,
+      omega arith,
+      slots-more (start .args .state .now) (at-loop .loop .state) _ (at-empty .empty .result) (at-loop .loop .i)
+          (omega arith) (omega arith) (at-loop .loop .inv .2) (at-empty .empty .ensures) (at-put-slot .put-slot .ensures),
+    )
 
 same-length : tie.Need-same-length Inv-loop μ-loop
 same-length c = search needs
 
 returns : tie.Need-returns Inv-loop μ-loop
-returns c = let e : c .before .loop .i ≡ 64 = omega arith in subst (λ (x : ℕ). c .before .loop .state ≡ put (c .before .before .before .args .state .now) headerLen (emptySlots x)) e (c .before .loop .inv .2)
+returns c =
+    let start = c .before .before .before in
+    let e : c .before .loop .i ≡ 64 = omega arith in subst (λ (x : ℕ). c .before .loop .state ≡ put (start .args .state .now) headerLen
+    (emptySlots x)) e (c .before .loop .inv .2)
 
 pub clear-slots-spec : {M : Type 1} → statement M
 clear-slots-spec =

@@ -6,7 +6,10 @@ use Rattle.call_make.proofs.make.Statement.{statement}
 use Rattle.call_make.proofs.make.Tie as tie
 
 returns : tie.Need-returns
-returns c = make-short (c .before .before .args .state .now) (c .before .before .args .config) (c .before .before .args .version) (c .before .before .args .max-payload) (c .before .before .args .host-delayed-ack) (c .before .before .args .device-delayed-ack) _ (omega arith) refl
+returns c =
+    let start = c .before .before in
+    make-short (start .args .state .now) (start .args .config) (start .args .version) (start .args .max-payload) (start .args .host-delayed-ack)
+    (start .args .device-delayed-ack) _ (omega arith) refl
 
 within-limits-requires : tie.Need-within-limits-requires
 within-limits-requires c κs = search needs
@@ -30,10 +33,25 @@ same-length : tie.Need-same-length
 same-length c = search needs
 
 returns-2 : tie.Need-returns-2
-returns-2 c = make-done (c .before .before .before .before .before .before .before .before .before .before .before .before .before .before .before .before .before .before .args .state .now) (c .before .before .before .before .before .before .before .before .before .before .before .before .before .before .before .before .before .before .args .config) (c .before .before .before .before .before .before .before .before .before .before .before .before .before .before .before .before .before .before .args .version) (c .before .before .before .before .before .before .before .before .before .before .before .before .before .before .before .before .before .before .args .max-payload) (c .before .before .before .before .before .before .before .before .before .before .before .before .before .before .before .before .before .before .args .host-delayed-ack) (c .before .before .before .before .before .before .before .before .before .before .before .before .before .before .before .before .before .before .args .device-delayed-ack) _ (c .before .before .before .before .before .before .before .before .before .before .before .before .before .new .result) (c .before .before .before .fresh-header .result) _ _ _ (omega arith) (sym (c .before .before .before .before .before .before .before .before .before .before .before .before .before .before .before .within-limits .ensures) ∙ c .before .before .before .before .before .before .before .before .before .before .before .before .before .before .if2 .taken) (c .before .before .before .before .before .before .before .before .before .before .before .before .before .new .ensures) (c .before .before .before .before .before .before .before .before .before .before .before .clear-slots .ensures) (c .before .before .before .before .before .before .before .clear-queue .ensures) (c .before .before .before .fresh-header .ensures) (c .before .before .put-header .ensures) refl
+returns-2 c =
+    let at-put-header = c .before .before in
+    let at-fresh-header = at-put-header .before in
+    let at-clear-queue = at-fresh-header .before .before .before .before in
+    let at-clear-slots = at-clear-queue .before .before .before .before in
+    let at-new = at-clear-slots .before .before in
+    let at-if2 = at-new .before in
+    let at-within-limits = at-if2 .before in
+    let start = at-within-limits .before .before .before in
+    make-done (start .args .state .now) (start .args .config) (start .args .version) (start .args .max-payload) (start .args .host-delayed-ack)
+    (start .args .device-delayed-ack) _ (at-new .new .result) (at-fresh-header .fresh-header .result) _ _ _ (omega arith)
+    (sym (at-within-limits .within-limits .ensures) ∙ at-if2 .if2 .taken) (at-new .new .ensures) (at-clear-slots .clear-slots .ensures)
+    (at-clear-queue .clear-queue .ensures) (at-fresh-header .fresh-header .ensures) (at-put-header .put-header .ensures) refl
 
 returns-3 : tie.Need-returns-3
-returns-3 c = make-bad (c .before .before .before .before .args .state .now) (c .before .before .before .before .args .config) (c .before .before .before .before .args .version) (c .before .before .before .before .args .max-payload) (c .before .before .before .before .args .host-delayed-ack) (c .before .before .before .before .args .device-delayed-ack) _ (omega arith) (sym (c .before .within-limits .ensures) ∙ c .if2 .left) refl
+returns-3 c =
+    let start = c .before .before .before .before in
+    make-bad (start .args .state .now) (start .args .config) (start .args .version) (start .args .max-payload) (start .args .host-delayed-ack)
+    (start .args .device-delayed-ack) _ (omega arith) (sym (c .before .within-limits .ensures) ∙ c .if2 .left) refl
 
 pub make-spec : {M : Type 1} → statement M
 make-spec =

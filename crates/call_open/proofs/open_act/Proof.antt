@@ -33,7 +33,10 @@ still-pending-requires : tie.Need-still-pending-requires
 still-pending-requires c κs = search needs
 
 put-header-requires : tie.Need-put-header-requires
-put-header-requires c κs = omega (arith, c .before .before .before .before .before .before .before .before .before .before .before .before .before .before .before .before .before .before .before .before .before .before .before .before .pre, c .before .before .before .before .before .before .before .before .before .before .before .state .given)
+put-header-requires c κs =
+    let at-state = c .before .before .before .before .before .before .before .before .before .before .before in
+    let start = at-state .before .before .before .before .before .before .before .before .before .before .before .before .before in
+    omega (arith, start .pre, at-state .state .given)
 
 same-length : tie.Need-same-length
 same-length c = search needs

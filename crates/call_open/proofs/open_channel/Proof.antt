@@ -87,7 +87,10 @@ pending-for-requires : tie.Need-pending-for-requires
 pending-for-requires c κs = search needs
 
 put-header-requires-3 : tie.Need-put-header-requires-3
-put-header-requires-3 c κs = omega (arith, c .before .before .before .before .before .before .before .before .before .before .before .before .before .before .before .before .before .before .before .before .before .pre, c .before .before .before .before .out .given)
+put-header-requires-3 c κs =
+    let at-out = c .before .before .before .before in
+    let start = at-out .before .before .before .before .before .before .before .before .before .before .before .before .before .before .before .before .before in
+    omega (arith, start .pre, at-out .out .given)
 
 same-length-3 : tie.Need-same-length-3
 same-length-3 c = search needs

@@ -58,7 +58,8 @@ close-open-requires c κs = search needs
 
 frame-len-requires : tie.Need-frame-len-requires
 frame-len-requires c κs =
-    let start = c .before .before .before .before .before .before .before .before .before .before .before .before .before .before .before .before .before .before .before .before in
+    let there = c .before .before .before .before .before .before .before .before .before .before .before .before .before .before .before .before .before .before .before .before in
+    let start = there in
     (packet-fits (start .args .state .now) (start .args .rx .now) (start .args .store .now) (start .args .out .now) (start .args .h) (start .pre .1)
     (start .args .received .now) (start .args .packet) (start .pre .3)) .most
 
@@ -101,11 +102,14 @@ drop-pending-requires : tie.Need-drop-pending-requires
 drop-pending-requires c κs = search needs
 
 put-header-requires : tie.Need-put-header-requires
-put-header-requires c κs = omega (arith, c .before .before .before .before .before .before .before .before .before .before .before .before .before .before .before .before .before .before .pre)
+put-header-requires c κs =
+    let start = c .before .before .before .before .before .before .before .before .before .before .before .before .before .before .before .before .before .before in
+    omega (arith, start .pre)
 
 frame-len-requires-2 : tie.Need-frame-len-requires-2
 frame-len-requires-2 c κs =
-    let start = c .before .before .before .before .before .before .before .before .before .before .before .before .before .before .before .before .before .before .before .before .before in
+    let there = c .before .before .before .before .before .before .before .before .before .before .before .before .before .before .before .before .before .before .before .before .before in
+    let start = there in
     (packet-fits (start .args .state .now) (start .args .rx .now) (start .args .store .now) (start .args .out .now) (start .args .h) (start .pre .1)
     (start .args .received .now) (start .args .packet) (start .pre .3)) .most
 

@@ -56,7 +56,9 @@ enum-told : tie.Need-enum-told
 enum-told c = search needs
 
 close-open-requires : tie.Need-close-open-requires
-close-open-requires c κs = let k = c .before .before .before .before .before .before .before .before .before .before .before .before .before .before .before .before .before .pre .0 .room in let j = c .before .before .before .before .before .before .before .before .before .before .before .before .before .before .before .before .before .pre .0 .state-fits in (j, omega arith)
+close-open-requires c κs =
+    let start = c .before .before .before .before .before .before .before .before .before .before .before .before .before .before .before .before .before in
+    let k = start .pre .0 .room in let j = start .pre .0 .state-fits in (j, omega arith)
 
 same-length : tie.Need-same-length
 same-length c = search needs

@@ -20,7 +20,10 @@ enum-known-tried-2 : tie.Need-enum-known-tried-2
 enum-known-tried-2 c = search needs
 
 store-slot-requires : tie.Need-store-slot-requires
-store-slot-requires c κs = (c .before .before .before .before .before .before .before .before .before .before .before .before .before .before .before .before .before .before .before .before .pre .place-fits, omega (arith, c .before .before .before .before .before .before .before .before .before .before .before .before .before .before .before .before .before .before .before .before .pre .state-fits, c .before .before .before .before .before .before .before .before .before .state .given))
+store-slot-requires c κs =
+    let at-state = c .before .before .before .before .before .before .before .before .before in
+    let start = at-state .before .before .before .before .before .before .before .before .before .before .before in
+    (start .pre .place-fits, omega (arith, start .pre .state-fits, at-state .state .given))
 
 unless-fault-requires : tie.Need-unless-fault-requires
 unless-fault-requires c κs = search needs

@@ -27,7 +27,25 @@ is-direct-requires : tie.Need-is-direct-requires
 is-direct-requires c κs = search needs
 
 read-direct-requires : tie.Need-read-direct-requires
-read-direct-requires c κs = let big = c .before .before .before .before .before .before .before .before .before .before .before .before .before .pre .0 .room in let small = c .before .before .before .before .before .before .before .before .before .before .before .before .before .pre .1 .at-small in (look-place (c .before .before .before .before .before .before .before .before .before .before .before .before .before .args .state .now) (c .before .before .before .before .before .before .before .before .before .before .before .before .before .args .rx .now) (c .before .before .before .before .before .before .before .before .before .before .before .before .before .args .store .now) (c .before .before .before .before .before .before .before .before .before .before .before .before .before .args .out .now) (c .before .before .before .before .before .before .before .before .before .before .before .before .before .args .h) (c .before .before .before .before .before .before .before .before .before .before .before .before .before .args .ch) (c .before .before .before .before .before .before .before .before .before .before .before .before .before .args .s) _ (c .before .before .before .before .before .before .before .before .before .before .before .before .before .args .at) (c .before .before .before .before .before .before .before .before .before .before .before .before .before .pre .0) (c .before .before .before .before .before .before .before .before .before .before .before .before .before .pre .1), c .before .before .before .before .before .before .before .before .before .before .before .before .before .pre .0 .state-fits, look-within (c .before .before .before .before .before .before .before .before .before .before .before .before .before .args .state .now) (c .before .before .before .before .before .before .before .before .before .before .before .before .before .args .rx .now) (c .before .before .before .before .before .before .before .before .before .before .before .before .before .args .store .now) (c .before .before .before .before .before .before .before .before .before .before .before .before .before .args .out .now) (c .before .before .before .before .before .before .before .before .before .before .before .before .before .args .h) (c .before .before .before .before .before .before .before .before .before .before .before .before .before .args .ch) (c .before .before .before .before .before .before .before .before .before .before .before .before .before .args .s) _ (c .before .before .before .before .before .before .before .before .before .before .before .before .before .args .at) (c .before .before .before .before .before .before .before .before .before .before .before .before .before .pre .0) (c .before .before .before .before .before .before .before .before .before .before .before .before .before .pre .1), direct-fits (c .before .before .before .before .before .before .before .before .before .before .before .before .before .args .s) _ (c .before .before .before .before .before .before .before .before .before .before .before .before .before .args .packet) (c .before .before .before .before .before .before .before .before .before .before .before .before .before .args .received .now) (c .before .before .before .before .before .before .payload .result .now) _ (look-packet (c .before .before .before .before .before .before .before .before .before .before .before .before .before .args .state .now) (c .before .before .before .before .before .before .before .before .before .before .before .before .before .args .rx .now) (c .before .before .before .before .before .before .before .before .before .before .before .before .before .args .store .now) (c .before .before .before .before .before .before .before .before .before .before .before .before .before .args .out .now) (c .before .before .before .before .before .before .before .before .before .before .before .before .before .args .h) (c .before .before .before .before .before .before .before .before .before .before .before .before .before .args .ch) (c .before .before .before .before .before .before .before .before .before .before .before .before .before .args .s) _ (c .before .before .before .before .before .before .before .before .before .before .before .before .before .args .at) (c .before .before .before .before .before .before .before .before .before .before .before .before .before .pre .0) (c .before .before .before .before .before .before .before .before .before .before .before .before .before .pre .1) (c .before .before .before .before .before .before .before .before .before .before .before .before .before .args .received .now) (c .before .before .before .before .before .before .before .before .before .before .before .before .before .args .packet) (c .before .before .before .before .before .before .before .before .before .before .before .before .before .pre .2)) (c .before .before .before .before .before .before .payload .ensures) (sym (c .before .before .before .before .is-direct .ensures) ∙ c .before .before .before .if1 .taken), omega arith)
+read-direct-requires c κs =
+    let at-if1 = c .before .before .before in
+    let at-is-direct = at-if1 .before in
+    let at-payload = at-is-direct .before .before in
+    let start = at-payload .before .before .before .before .before .before .before in
+    let big = start .pre .0 .room in let small = start .pre .1 .at-small in (
+      look-place (start .args .state .now) (start .args .rx .now) (start .args .store .now) (start .args .out .now) (start .args .h) (start .args .ch)
+          (start .args .s) _ (start .args .at) (start .pre .0) (start .pre .1),
+      start .pre .0 .state-fits,
+      look-within (start .args .state .now)
+          (start .args .rx .now) (start .args .store .now) (start .args .out .now) (start .args .h) (start .args .ch) (start .args .s) _ (start .args .at)
+          (start .pre .0) (start .pre .1),
+      direct-fits (start .args .s) _ (start .args .packet) (start .args .received .now)
+          (at-payload .payload .result .now) _ (look-packet (start .args .state .now) (start .args .rx .now) (start .args .store .now)
+          (start .args .out .now) (start .args .h) (start .args .ch) (start .args .s) _ (start .args .at) (start .pre .0) (start .pre .1)
+          (start .args .received .now) (start .args .packet) (start .pre .2)) (at-payload .payload .ensures)
+          (sym (at-is-direct .is-direct .ensures) ∙ at-if1 .if1 .taken),
+      omega arith,
+    )
 
 same-length : tie.Need-same-length
 same-length c = search needs

@@ -37,7 +37,8 @@ enum-known-taken c = search needs
 
 store-slot-requires : tie.Need-store-slot-requires
 store-slot-requires c κs =
-    let start = c .before .before .before .before .before .before .before .before .before .before .before .before .before .before .before .before .before in
+    let there = c .before .before .before .before .before .before .before .before .before .before .before .before .before .before .before .before .before in
+    let start = there in
     (start .pre .0 .place-fits, start .pre .0 .state-fits)
 
 error-refusal-requires : tie.Need-error-refusal-requires
@@ -63,7 +64,8 @@ hand-over-requires c κs =
 
 store-slot-requires-2 : tie.Need-store-slot-requires-2
 store-slot-requires-2 c κs =
-    let start = c .before .before .before .before .before .before .before .before .before .before .before .before .before .before .before .before .before .before .before .before .before in
+    let there = c .before .before .before .before .before .before .before .before .before .before .before .before .before .before .before .before .before .before .before .before .before in
+    let start = there in
     (start .pre .0 .place-fits, start .pre .0 .state-fits)
 
 same-length : tie.Need-same-length

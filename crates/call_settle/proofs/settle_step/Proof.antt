@@ -23,7 +23,9 @@ settle-take-requires : tie.Need-settle-take-requires
 settle-take-requires c κs = search needs
 
 put-ack-requires : tie.Need-put-ack-requires
-put-ack-requires c κs = let k = c .before .before .before .before .before .before .before .before .before .before .before .before .before .before .before .pre .0 .room in λ e. omega arith
+put-ack-requires c κs =
+    let start = c .before .before .before .before .before .before .before .before .before .before .before .before .before .before .before in
+    let k = start .pre .0 .room in λ e. omega arith
 
 store-slot-requires : tie.Need-store-slot-requires
 store-slot-requires c κs =

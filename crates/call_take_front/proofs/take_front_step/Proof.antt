@@ -26,7 +26,12 @@ cast-place : tie.Need-cast-place
 cast-place c = search needs
 
 mul-place : tie.Need-mul-place
-mul-place c = let k = front-place (c .before .before .before .before .before .before .before .before .before .before .before .before .before .before .before .before .before .before .before .args .state .now) (c .before .before .before .before .before .before .before .before .before .before .before .before .before .before .before .before .before .before .before .args .rx .now) (c .before .before .before .before .before .before .before .before .before .before .before .before .before .before .before .before .before .before .before .args .store .now) (c .before .before .before .before .before .before .before .before .before .before .before .before .before .before .before .before .before .before .before .args .h) (c .before .before .before .before .before .before .before .before .before .before .before .before .before .before .before .before .before .before .before .pre .1) (c .before .before .before .before .before .before .before .before .before .before .before .before .before .before .before .before .before .before .before .pre .0) (c .before .before .before .before .before .before .before .before .before .before .before .before .pop-front .result) _ (c .before .before .before .before .before .before .before .before .before .before .before .before .pop-front .ensures) _ _ (c .before .before .before .before .before .before .before .before .front .given .1) in omega arith
+mul-place c =
+    let at-front = c .before .before .before .before .before .before .before .before in
+    let at-pop-front = at-front .before .before .before .before in
+    let start = at-pop-front .before .before .before .before .before .before .before in
+    let k = front-place (start .args .state .now) (start .args .rx .now) (start .args .store .now) (start .args .h) (start .pre .1) (start .pre .0)
+    (at-pop-front .pop-front .result) _ (at-pop-front .pop-front .ensures) _ _ (at-front .front .given .1) in omega arith
 
 same-length : tie.Need-same-length
 same-length c = search needs

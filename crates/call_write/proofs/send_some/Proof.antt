@@ -15,7 +15,12 @@ refused-requires : tie.Need-refused-requires
 refused-requires c κs = search needs
 
 returns : tie.Need-returns
-returns c = λ rx store. send-short (c .before .before .before .before .before .before .before .args .state .now) (c .before .before .before .before .before .before .before .args .out .now) (c .before .before .before .before .before .before .before .args .bytes .now) (c .before .before .before .before .before .before .before .args .ch) (c .before .before .before .before .before .before .before .args .h) (c .before .before .before .before .before .before .before .pre) (c .before .before .before .before .before .before .before .args .used) (c .before .before .before .before .before .before .before .args .s) (c .before .before .before .before .before .before .before .args .most) (c .before .before .send-len .result) (c .before .before .send-len .ensures) rx store _ (omega (arith, c .before .if1 .taken)) (c .refused .ensures)
+returns c =
+    let at-send-len = c .before .before in
+    let start = at-send-len .before .before .before .before .before in
+    λ rx store. send-short (start .args .state .now) (start .args .out .now) (start .args .bytes .now) (start .args .ch) (start .args .h)
+    (start .pre) (start .args .used) (start .args .s) (start .args .most) (at-send-len .send-len .result) (at-send-len .send-len .ensures) rx store _
+    (omega (arith, c .before .if1 .taken)) (c .refused .ensures)
 
 ids-in-requires : tie.Need-ids-in-requires
 ids-in-requires c κs = search needs
@@ -50,7 +55,20 @@ same-length-2 : tie.Need-same-length-2
 same-length-2 c = search needs
 
 returns-2 : tie.Need-returns-2
-returns-2 c = λ rx store. send-sent (c .before .before .before .before .before .before .before .before .before .before .before .before .before .before .before .before .before .before .args .state .now) (c .before .before .before .before .before .before .before .before .before .before .before .before .before .before .before .before .before .before .args .out .now) (c .before .before .before .before .before .before .before .before .before .before .before .before .before .before .before .before .before .before .args .bytes .now) (c .before .before .before .before .before .before .before .before .before .before .before .before .before .before .before .before .before .before .args .ch) (c .before .before .before .before .before .before .before .before .before .before .before .before .before .before .before .before .before .before .args .h) (c .before .before .before .before .before .before .before .before .before .before .before .before .before .before .before .before .before .before .pre) (c .before .before .before .before .before .before .before .before .before .before .before .before .before .before .before .before .before .before .args .used) (c .before .before .before .before .before .before .before .before .before .before .before .before .before .before .before .before .before .before .args .s) (c .before .before .before .before .before .before .before .before .before .before .before .before .before .before .before .before .before .before .args .most) (c .before .before .before .before .before .before .before .before .before .before .before .before .before .send-len .result) (c .before .before .before .before .before .before .before .before .before .before .before .before .before .send-len .ensures) rx store _ (c .before .before .before .before .before .before .before .before .before .before .ids-in .result) (c .before .before .before .before .rx-policy .result) (c .before .before .before .spend .result) (c .before .before .before .before .before .before .before .before .put-write .result) _ _ _ (omega (arith, c .before .before .before .before .before .before .before .before .before .before .before .before .if1 .left)) (part-first (c .before .before .before .before .before .before .before .before .before .before .before .before .before .send-len .result) (c .before .before .before .before .before .before .before .before .before .before .before .before .before .before .before .before .before .before .args .bytes .now)) (c .before .before .before .before .before .before .before .before .before .before .ids-in .ensures) (c .before .before .before .before .before .before .before .before .put-write .ensures) (c .before .before .before .before .rx-policy .ensures) (c .before .before .before .spend .ensures) (c .before .before .store-slot .ensures) refl
+returns-2 c =
+    let at-store-slot = c .before .before in
+    let at-spend = at-store-slot .before in
+    let at-rx-policy = at-spend .before in
+    let at-put-write = at-rx-policy .before .before .before .before in
+    let at-ids-in = at-put-write .before .before in
+    let at-if1 = at-ids-in .before .before in
+    let at-send-len = at-if1 .before in
+    let start = at-send-len .before .before .before .before .before in
+    λ rx store. send-sent (start .args .state .now) (start .args .out .now) (start .args .bytes .now) (start .args .ch) (start .args .h) (start .pre)
+    (start .args .used) (start .args .s) (start .args .most) (at-send-len .send-len .result) (at-send-len .send-len .ensures) rx store _
+    (at-ids-in .ids-in .result) (at-rx-policy .rx-policy .result) (at-spend .spend .result) (at-put-write .put-write .result) _ _ _
+    (omega (arith, at-if1 .if1 .left)) (part-first (at-send-len .send-len .result) (start .args .bytes .now)) (at-ids-in .ids-in .ensures)
+    (at-put-write .put-write .ensures) (at-rx-policy .rx-policy .ensures) (at-spend .spend .ensures) (at-store-slot .store-slot .ensures) refl
 
 pub send-some-spec : {M : Type 1} → statement M
 send-some-spec =

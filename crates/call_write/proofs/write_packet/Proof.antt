@@ -65,7 +65,8 @@ apply-close-requires c κs = search needs
 
 store-slot-requires : tie.Need-store-slot-requires
 store-slot-requires c κs =
-    let start = c .before .before .before .before .before .before .before .before .before .before .before .before .before .before .before .before .before in (
+    let there = c .before .before .before .before .before .before .before .before .before .before .before .before .before .before .before .before .before in
+    let start = there in (
       finds-place (start .args .state .now) (start .args .rx .now) (start .args .store .now) _ (start .args .ch) (start .args .h) (start .args .s)
           (start .pre .0 .finds),
       start .pre .0 .finds .admits .state-fits,
@@ -95,10 +96,20 @@ returns-2 c =
     (at-frame-len .frame-len .ensures))
 
 act-on-requires : tie.Need-act-on-requires
-act-on-requires c κs = let k = c .before .before .before .before .before .before .before .before .before .before .before .before .before .before .before .before .before .before .before .pre .0 .finds .admits .room in call-room (c .before .before .before .before .before .before .before .before .before .before .before .before .before .before .before .before .before .before .before .args .state .now) (c .before .before .before .before .before .before .before .before .before .before .before .before .before .before .before .before .before .before .before .args .rx .now) (c .before .before .before .before .before .before .before .before .before .before .before .before .before .before .before .before .before .before .before .args .store .now) (c .before .before .before .before .before .before .before .before .before .before .before .before .before .before .before .before .before .before .before .args .out .now) (c .before .before .before .before .before .before .before .before .before .before .before .before .before .before .before .before .before .before .before .args .h) (c .before .before .before .before .before .before .before .before .before .before .before .before .before .before .before .before .before .before .before .pre .0 .finds .header) (c .before .before .before .before .before .before .before .before .before .before .before .before .before .before .before .before .before .before .before .args .received .now) (c .before .before .before .before .before .before .before .before .before .before .before .before .payload .result .now) (c .before .before .before .before .before .before .before .before .before .before .before .before .before .before .before .before .before .before .before .args .packet) 0 (c .before .before .before .before .before .before .before .before .before .before .before .before .before .before .before .before .before .before .before .pre .0 .finds .admits) (packet-place (c .before .before .before .before .before .before .before .before .before .before .before .before .before .before .before .before .before .before .before .args .state .now) (c .before .before .before .before .before .before .before .before .before .before .before .before .before .before .before .before .before .before .before .args .rx .now) (c .before .before .before .before .before .before .before .before .before .before .before .before .before .before .before .before .before .before .before .args .store .now) (c .before .before .before .before .before .before .before .before .before .before .before .before .before .before .before .before .before .before .before .args .out .now) (c .before .before .before .before .before .before .before .before .before .before .before .before .before .before .before .before .before .before .before .args .received .now) (c .before .before .before .before .before .before .before .before .before .before .before .before .before .before .before .before .before .before .before .args .bytes .now) (c .before .before .before .before .before .before .before .before .before .before .before .before .before .before .before .before .before .before .before .args .ch) (c .before .before .before .before .before .before .before .before .before .before .before .before .before .before .before .before .before .before .before .args .h) (c .before .before .before .before .before .before .before .before .before .before .before .before .before .before .before .before .before .before .before .args .s) (c .before .before .before .before .before .before .before .before .before .before .before .before .before .before .before .before .before .before .before .args .packet) (c .before .before .before .before .before .before .before .before .before .before .before .before .before .before .before .before .before .before .before .pre .0) (c .before .before .before .before .before .before .before .before .before .before .before .before .before .before .before .before .before .before .before .pre .1)) (c .before .before .before .before .before .before .before .before .before .before .before .before .payload .ensures) (omega arith)
+act-on-requires c κs =
+    let at-payload = c .before .before .before .before .before .before .before .before .before .before .before .before in
+    let start = at-payload .before .before .before .before .before .before .before in
+    let k = start .pre .0 .finds .admits .room in call-room (start .args .state .now) (start .args .rx .now) (start .args .store .now)
+    (start .args .out .now) (start .args .h) (start .pre .0 .finds .header) (start .args .received .now) (at-payload .payload .result .now)
+    (start .args .packet) 0 (start .pre .0 .finds .admits) (packet-place (start .args .state .now) (start .args .rx .now) (start .args .store .now)
+    (start .args .out .now) (start .args .received .now) (start .args .bytes .now) (start .args .ch) (start .args .h) (start .args .s)
+    (start .args .packet) (start .pre .0) (start .pre .1)) (at-payload .payload .ensures) (omega arith)
 
 put-header-requires : tie.Need-put-header-requires
-put-header-requires c κs = let k = c .before .before .before .before .before .before .before .before .before .before .before .before .before .before .before .before .before .before .before .before .before .before .before .before .before .before .before .before .before .before .pre .0 .finds .admits .state-fits in omega (arith, c .before .before .before .before .before .before .before .before .before .state3 .given)
+put-header-requires c κs =
+    let at-state3 = c .before .before .before .before .before .before .before .before .before in
+    let start = at-state3 .before .before .before .before .before .before .before .before .before .before .before .before .before .before .before .before .before .before .before .before .before in
+    let k = start .pre .0 .finds .admits .state-fits in omega (arith, at-state3 .state3 .given)
 
 unless-fault-requires : tie.Need-unless-fault-requires
 unless-fault-requires c κs = search needs

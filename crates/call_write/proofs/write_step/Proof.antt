@@ -13,7 +13,13 @@ same-length : tie.Need-same-length
 same-length c = search needs
 
 returns : tie.Need-returns
-returns c = step-none (c .before .before .before .before .before .before .before .before .before .before .before .args .state .now) (c .before .before .before .before .before .before .before .before .before .before .before .args .rx .now) (c .before .before .before .before .before .before .before .before .before .before .before .args .store .now) (c .before .before .before .before .before .before .before .before .before .before .before .args .out .now) (c .before .before .before .before .before .before .before .before .before .before .before .args .received .now) (c .before .before .before .before .before .before .before .before .before .before .before .args .bytes .now) (c .before .before .before .before .before .before .before .before .before .before .before .args .ch) (c .before .before .before .before .before .before .before .before .before .before .before .args .h) (c .before .before .before .before .before .before .before .before .before .before .before .pre .0) (c .before .before .before .before .before .before .before .before .before .before .before .pre .1) _ _ (omega (arith, c .before .before .before .before .if1 .taken)) (c .before .before .put-header .ensures) refl
+returns c =
+    let at-put-header = c .before .before in
+    let at-if1 = at-put-header .before .before in
+    let start = at-if1 .before .before .before .before .before .before .before in
+    step-none (start .args .state .now) (start .args .rx .now) (start .args .store .now) (start .args .out .now) (start .args .received .now)
+    (start .args .bytes .now) (start .args .ch) (start .args .h) (start .pre .0) (start .pre .1) _ _ (omega (arith, at-if1 .if1 .taken))
+    (at-put-header .put-header .ensures) refl
 
 get-requires : tie.Need-get-requires
 get-requires c κs =
@@ -54,13 +60,29 @@ same-length-5 : tie.Need-same-length-5
 same-length-5 c = search needs
 
 returns-2 : tie.Need-returns-2
-returns-2 c = step-there (c .before .before .before .before .before .before .before .before .before .before .before .before .before .before .before .before .before .before .before .before .before .before .before .before .before .before .before .args .state .now) (c .before .before .before .before .before .before .before .before .before .before .before .before .before .before .before .before .before .before .before .before .before .before .before .before .before .before .before .args .rx .now) (c .before .before .before .before .before .before .before .before .before .before .before .before .before .before .before .before .before .before .before .before .before .before .before .before .before .before .before .args .store .now) (c .before .before .before .before .before .before .before .before .before .before .before .before .before .before .before .before .before .before .before .before .before .before .before .before .before .before .before .args .out .now) (c .before .before .before .before .before .before .before .before .before .before .before .before .before .before .before .before .before .before .before .before .before .before .before .before .before .before .before .args .received .now) (c .before .before .before .before .before .before .before .before .before .before .before .before .before .before .before .before .before .before .before .before .before .before .before .before .before .before .before .args .bytes .now) (c .before .before .before .before .before .before .before .before .before .before .before .before .before .before .before .before .before .before .before .before .before .before .before .before .before .before .before .args .ch) (c .before .before .before .before .before .before .before .before .before .before .before .before .before .before .before .before .before .before .before .before .before .before .before .before .before .before .before .args .h) (c .before .before .before .before .before .before .before .before .before .before .before .before .before .before .before .before .before .before .before .before .before .before .before .before .before .before .before .pre .0) (c .before .before .before .before .before .before .before .before .before .before .before .before .before .before .before .before .before .before .before .before .before .before .before .before .before .before .before .pre .1) (c .before .before .before .before .before .before .before .before .before .before .before .before .before .before .before .before .get .result) (c .before .before .before .before .before .before .before .before .before .before .before .before .before .before .before .before .get .ensures) (λ z. omega (arith, c .before .before .before .before .before .before .before .before .before .before .before .before .before .before .before .before .before .before .before .before .if1 .left)) _ _ _ _ _ _ (c .before .before .before .before .before .before .before .before .before .before .before .before .before .before .found .given .1) (c .before .before .before .before .before .before .before .before .write-channel .ensures)
+returns-2 c =
+    let at-write-channel = c .before .before .before .before .before .before .before .before in
+    let at-found = at-write-channel .before .before .before .before .before .before in
+    let at-get = at-found .before .before in
+    let at-if1 = at-get .before .before .before .before in
+    let start = at-if1 .before .before .before .before .before .before .before in
+    step-there (start .args .state .now) (start .args .rx .now) (start .args .store .now) (start .args .out .now) (start .args .received .now)
+    (start .args .bytes .now) (start .args .ch) (start .args .h) (start .pre .0) (start .pre .1) (at-get .get .result) (at-get .get .ensures)
+    (λ z. omega (arith, at-if1 .if1 .left)) _ _ _ _ _ _ (at-found .found .given .1) (at-write-channel .write-channel .ensures)
 
 same-length-6 : tie.Need-same-length-6
 same-length-6 c = search needs
 
 returns-3 : tie.Need-returns-3
-returns-3 c = step-gone (c .before .before .before .before .before .before .before .before .before .before .before .before .before .before .before .before .before .before .args .state .now) (c .before .before .before .before .before .before .before .before .before .before .before .before .before .before .before .before .before .before .args .rx .now) (c .before .before .before .before .before .before .before .before .before .before .before .before .before .before .before .before .before .before .args .store .now) (c .before .before .before .before .before .before .before .before .before .before .before .before .before .before .before .before .before .before .args .out .now) (c .before .before .before .before .before .before .before .before .before .before .before .before .before .before .before .before .before .before .args .received .now) (c .before .before .before .before .before .before .before .before .before .before .before .before .before .before .before .before .before .before .args .bytes .now) (c .before .before .before .before .before .before .before .before .before .before .before .before .before .before .before .before .before .before .args .ch) (c .before .before .before .before .before .before .before .before .before .before .before .before .before .before .before .before .before .before .args .h) (c .before .before .before .before .before .before .before .before .before .before .before .before .before .before .before .before .before .before .pre .0) (c .before .before .before .before .before .before .before .before .before .before .before .before .before .before .before .before .before .before .pre .1) (c .before .before .before .before .before .before .before .get .result) (c .before .before .before .before .before .before .before .get .ensures) (λ z. omega (arith, c .before .before .before .before .before .before .before .before .before .before .before .if1 .left)) _ _ (c .before .before .before .before .before .enum-told .given .1) (c .before .before .before .put-header2 .ensures) (c .refused .ensures)
+returns-3 c =
+    let at-put-header2 = c .before .before .before in
+    let at-enum-told = at-put-header2 .before .before in
+    let at-get = at-enum-told .before .before in
+    let at-if1 = at-get .before .before .before .before in
+    let start = at-if1 .before .before .before .before .before .before .before in
+    step-gone (start .args .state .now) (start .args .rx .now) (start .args .store .now) (start .args .out .now) (start .args .received .now)
+    (start .args .bytes .now) (start .args .ch) (start .args .h) (start .pre .0) (start .pre .1) (at-get .get .result) (at-get .get .ensures)
+    (λ z. omega (arith, at-if1 .if1 .left)) _ _ (at-enum-told .enum-told .given .1) (at-put-header2 .put-header2 .ensures) (c .refused .ensures)
 
 pub write-step-spec : {M : Type 1} → statement M
 write-step-spec =

@@ -48,7 +48,8 @@ add-result-3 c = search needs
 
 returns : tie.Need-returns
 returns c =
-    let e = total-bytes (c .before .before .before .before .before .before .before .before .before .args .p .now) (c .before .before .before .before .before .before .before .before .before .args .i) (omega arith) in
+    let start = c .before .before .before .before .before .before .before .before .before in
+    let e = total-bytes (start .args .p .now) (start .args .i) (omega arith) in
     (omega arith, omega arith)
 
 pub sum-4-spec : {M : Type 1} → statement M

@@ -17,7 +17,9 @@ get-i32-requires c κs = search needs
 
 returns-2 : tie.Need-returns-2
 unfolding creditOf
-returns-2 c = rw (toZ-ofZ {w = w32} {z = c .get-i32 .result} (search needs), le-ltb (length (c .before .before .before .args .payload .now)) 4 (omega arith), c .get-i32 .ensures)
+returns-2 c =
+    let start = c .before .before .before in
+    rw (toZ-ofZ {w = w32} {z = c .get-i32 .result} (search needs), le-ltb (length (start .args .payload .now)) 4 (omega arith), c .get-i32 .ensures)
 
 pub parse-ready-credit-spec : {M : Type 1} → statement M
 parse-ready-credit-spec = tie.close (tie.spec returns get-i32-requires returns-2)

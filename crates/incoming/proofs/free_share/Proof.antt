@@ -28,13 +28,27 @@ loop-less : tie.Need-loop-less Inv-loop μ-loop
 loop-less c = search needs
 
 loop-again : tie.Need-loop-again Inv-loop μ-loop
-loop-again c = (omega arith, c .before .before .before .loop .inv .1 ∙ free-step (c .before .before .before .loop .k) (c .before .before .before .before .before .args .n) (take (c .before .before .before .before .before .args .queued) (stateOf (c .before .before .before .before .before .args .state .now) .queue)) (omega arith) (sym (c .before .is-named .ensures) ∙ c .if1 .taken))
+loop-again c =
+    let at-loop = c .before .before .before in
+    let start = at-loop .before .before in (
+      omega arith,
+      at-loop .loop .inv .1 ∙ free-step (at-loop .loop .k) (start .args .n)
+          (take (start .args .queued) (stateOf (start .args .state .now) .queue)) (omega arith) (sym (c .before .is-named .ensures) ∙ c .if1 .taken),
+    )
 
 returns : tie.Need-returns Inv-loop μ-loop
-returns c = sym (c .before .before .before .loop .inv .1 ∙ free-stop (c .before .before .before .loop .k) (c .before .before .before .before .before .args .n) (take (c .before .before .before .before .before .args .queued) (stateOf (c .before .before .before .before .before .args .state .now) .queue)) (omega arith) (sym (c .before .is-named .ensures) ∙ c .if1 .left))
+returns c =
+    let at-loop = c .before .before .before in
+    let start = at-loop .before .before in
+    sym (at-loop .loop .inv .1 ∙ free-stop (at-loop .loop .k) (start .args .n)
+    (take (start .args .queued) (stateOf (start .args .state .now) .queue)) (omega arith) (sym (c .before .is-named .ensures) ∙ c .if1 .left))
 
 returns-2 : tie.Need-returns-2 Inv-loop μ-loop
-returns-2 c = let e : c .before .before .before .args .n ≡ c .before .loop .k = omega arith in e ∙ sym (c .before .loop .inv .1 ∙ free-end (c .before .loop .k) (c .before .before .before .args .n) (take (c .before .before .before .args .queued) (stateOf (c .before .before .before .args .state .now) .queue)) (omega arith))
+returns-2 c =
+    let start = c .before .before .before in
+    let e : start .args .n ≡ c .before .loop .k = omega arith in e ∙ sym
+    (c .before .loop .inv .1 ∙ free-end (c .before .loop .k) (start .args .n) (take (start .args .queued) (stateOf (start .args .state .now) .queue))
+    (omega arith))
 
 pub free-share-spec : {M : Type 1} → statement M
 free-share-spec =

@@ -22,7 +22,12 @@ queued-at-requires : tie.Need-queued-at-requires Inv-loop μ-loop
 queued-at-requires c κs = search needs
 
 returns : tie.Need-returns Inv-loop μ-loop
-returns c = sym (c .before .before .before .before .loop .inv .1 ∙ named-stop (c .before .before .before .before .before .before .args .k) (c .before .before .before .before .before .before .args .state .now) (c .before .before .before .before .before .before .args .queued) (c .before .before .before .before .loop .i) (omega arith) (omega arith) (rw (c .before .before .queued-at .ensures) at (c .if1 .taken)))
+returns c =
+    let at-queued-at = c .before .before in
+    let at-loop = at-queued-at .before .before in
+    let start = at-loop .before .before in
+    sym (at-loop .loop .inv .1 ∙ named-stop (start .args .k) (start .args .state .now) (start .args .queued) (at-loop .loop .i) (omega arith)
+    (omega arith) (rw (at-queued-at .queued-at .ensures) at (c .if1 .taken)))
 
 add-i : tie.Need-add-i Inv-loop μ-loop
 add-i c = search needs
@@ -31,10 +36,19 @@ loop-less : tie.Need-loop-less Inv-loop μ-loop
 loop-less c = search needs
 
 loop-again : tie.Need-loop-again Inv-loop μ-loop
-loop-again c = (omega arith, c .before .before .before .before .loop .inv .1 ∙ named-step (c .before .before .before .before .before .before .args .k) (c .before .before .before .before .before .before .args .state .now) (c .before .before .before .before .before .before .args .queued) (c .before .before .before .before .loop .i) (omega arith) (omega arith) (rw (c .before .before .queued-at .ensures) at (c .if1 .left)))
+loop-again c =
+    let at-queued-at = c .before .before in
+    let at-loop = at-queued-at .before .before in
+    let start = at-loop .before .before in (
+      omega arith,
+      at-loop .loop .inv .1 ∙ named-step (start .args .k) (start .args .state .now) (start .args .queued) (at-loop .loop .i)
+          (omega arith) (omega arith) (rw (at-queued-at .queued-at .ensures) at (c .if1 .left)),
+    )
 
 returns-2 : tie.Need-returns-2 Inv-loop μ-loop
-returns-2 c = sym (c .before .loop .inv .1 ∙ named-end (c .before .before .before .args .k) (c .before .before .before .args .state .now) (c .before .before .before .args .queued) (c .before .loop .i) (omega arith))
+returns-2 c =
+    let start = c .before .before .before in
+    sym (c .before .loop .inv .1 ∙ named-end (start .args .k) (start .args .state .now) (start .args .queued) (c .before .loop .i) (omega arith))
 
 pub is-named-spec : {M : Type 1} → statement M
 is-named-spec =

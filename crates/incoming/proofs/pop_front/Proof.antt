@@ -20,7 +20,14 @@ same-length : tie.Need-same-length
 same-length c = search needs
 
 returns-2 : tie.Need-returns-2
-returns-2 c = pop-gives (c .before .before .before .before .before .before .before .before .before .before .args .h) (c .before .before .before .before .before .before .before .before .before .before .args .state .now) (c .before .before .before .before .before .queued-at .result) (c .before .before .before .retain .result) (c .before .before .before .retain .last .0) (c .with-queued .result) (c .before .before .before .before .before .before .before .if1 .left) (omega arith) (c .before .before .before .before .before .queued-at .ensures) (c .before .before .before .retain .ensures) (c .with-queued .ensures)
+returns-2 c =
+    let at-retain = c .before .before .before in
+    let at-queued-at = at-retain .before .before in
+    let at-if1 = at-queued-at .before .before in
+    let start = at-if1 .before .before .before in
+    pop-gives (start .args .h) (start .args .state .now) (at-queued-at .queued-at .result) (at-retain .retain .result) (at-retain .retain .last .0)
+    (c .with-queued .result) (at-if1 .if1 .left) (omega arith) (at-queued-at .queued-at .ensures) (at-retain .retain .ensures)
+    (c .with-queued .ensures)
 
 pub pop-front-spec : {M : Type 1} → statement M
 pop-front-spec =

@@ -37,7 +37,22 @@ loop-less : tie.Need-loop-less Inv-loop μ-loop
 loop-less c = search needs
 
 loop-again : tie.Need-loop-again Inv-loop μ-loop
-loop-again c = (omega arith, omega arith, omega arith, omega arith, retain-puts (c .before .before .before .before .before .before .before .before .before .before .before .args .keep) (c .before .before .before .before .before .before .before .before .before .before .before .args .state .now) (c .before .before .before .before .before .before .before .before .before .before .before .args .from) (c .before .before .before .before .before .before .before .before .before .loop .i) (omega arith) (omega arith) (c .before .before .before .before .before .before .before .before .before .loop .w) (c .before .before .before .before .before .before .before .before .before .loop .state) (c .before .before .before .before .before .before .queued-at .result) (omega arith) (omega arith) (c .before .before .before .before .before .before .before .before .before .loop .inv .4) (c .before .before .before .before .before .before .queued-at .ensures) (c .before .before .put-queued .last .0) (sym (c .before .before .before .before .before .stays .ensures) ∙ c .before .before .before .before .if1 .taken) (c .before .before .put-queued .ensures))
+loop-again c =
+    let at-put-queued = c .before .before in
+    let at-if1 = at-put-queued .before .before in
+    let at-stays = at-if1 .before in
+    let at-queued-at = at-stays .before in
+    let at-loop = at-queued-at .before .before .before in
+    let start = at-loop .before .before in (
+      omega arith,
+      omega arith,
+      omega arith,
+      omega arith,
+      retain-puts (start .args .keep) (start .args .state .now) (start .args .from)
+          (at-loop .loop .i) (omega arith) (omega arith) (at-loop .loop .w) (at-loop .loop .state) (at-queued-at .queued-at .result) (omega arith)
+          (omega arith) (at-loop .loop .inv .4) (at-queued-at .queued-at .ensures) (at-put-queued .put-queued .last .0)
+          (sym (at-stays .stays .ensures) ∙ at-if1 .if1 .taken) (at-put-queued .put-queued .ensures),
+    )
 
 add-i-2 : tie.Need-add-i-2 Inv-loop μ-loop
 add-i-2 c = search needs
@@ -46,7 +61,18 @@ loop-less-2 : tie.Need-loop-less-2 Inv-loop μ-loop
 loop-less-2 c = search needs
 
 loop-again-2 : tie.Need-loop-again-2 Inv-loop μ-loop
-loop-again-2 c = (omega arith, omega arith, omega arith, omega arith, retain-skips (c .before .before .before .before .before .before .before .args .keep) (c .before .before .before .before .before .before .before .args .state .now) (c .before .before .before .before .before .before .before .args .from) (c .before .before .before .before .before .loop .i) (omega arith) (omega arith) (c .before .before .before .before .before .loop .w) (c .before .before .before .before .before .loop .state) (c .before .before .queued-at .result) (omega arith) (omega arith) (c .before .before .before .before .before .loop .inv .4) (c .before .before .queued-at .ensures) (sym (c .before .stays .ensures) ∙ c .if1 .left))
+loop-again-2 c =
+    let at-queued-at = c .before .before in
+    let at-loop = at-queued-at .before .before .before in
+    let start = at-loop .before .before in (
+      omega arith,
+      omega arith,
+      omega arith,
+      omega arith,
+      retain-skips (start .args .keep) (start .args .state .now) (start .args .from)
+          (at-loop .loop .i) (omega arith) (omega arith) (at-loop .loop .w) (at-loop .loop .state) (at-queued-at .queued-at .result) (omega arith)
+          (omega arith) (at-loop .loop .inv .4) (at-queued-at .queued-at .ensures) (sym (c .before .stays .ensures) ∙ c .if1 .left),
+    )
 
 same-length : tie.Need-same-length Inv-loop μ-loop
 same-length c = search needs

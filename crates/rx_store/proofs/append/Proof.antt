@@ -32,8 +32,12 @@ same-length-2 c = search needs
 
 returns-2 : tie.Need-returns-2
 returns-2 c =
-    let a = c .before .before .before .before .before .before .before .before .before .before .before .args in
-    rw (c .before .before .copy-at2 .ensures, c .before .before .before .before .before .before .move-down .ensures) (appends-moved (a .share .now) (a .head) (a .buffered) (a .payload .now) (omega arith))
+    let at-copy-at2 = c .before .before in
+    let at-move-down = at-copy-at2 .before .before .before .before in
+    let start = at-move-down .before .before .before .before .before in
+    let a = start .args in
+    rw (at-copy-at2 .copy-at2 .ensures, at-move-down .move-down .ensures)
+    (appends-moved (a .share .now) (a .head) (a .buffered) (a .payload .now) (omega arith))
 
 pub append-spec : {M : Type 1} → statement M
 append-spec =

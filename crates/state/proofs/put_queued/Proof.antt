@@ -32,7 +32,11 @@ same-length c = search needs
 
 returns : tie.Need-returns
 unfolding putQueued
-returns c = put-lent (c .before .before .before .before .before .args .state .now) (queueAt + c .before .before .before .before .before .args .i * queuedLen) queuedLen (queuedBytes (c .before .before .before .before .before .args .q)) _ (length-open (c .before .before .before .before .before .args .q)) (omega arith) (c .before .before .fill-queued .ensures)
+returns c =
+    let at-fill-queued = c .before .before in
+    let start = at-fill-queued .before .before .before in
+    put-lent (start .args .state .now) (queueAt + start .args .i * queuedLen) queuedLen (queuedBytes (start .args .q)) _
+    (length-open (start .args .q)) (omega arith) (at-fill-queued .fill-queued .ensures)
 
 pub put-queued-spec : {M : Type 1} → statement M
 put-queued-spec =

@@ -32,7 +32,11 @@ same-length c = search needs
 
 returns : tie.Need-returns
 unfolding putSlot
-returns c = put-lent (c .before .before .before .before .before .args .state .now) (headerLen + c .before .before .before .before .before .args .i * slotLen) slotLen (slotBytes (c .before .before .before .before .before .args .s)) _ (length-slot (c .before .before .before .before .before .args .s)) (omega arith) (c .before .before .fill-slot .ensures)
+returns c =
+    let at-fill-slot = c .before .before in
+    let start = at-fill-slot .before .before .before in
+    put-lent (start .args .state .now) (headerLen + start .args .i * slotLen) slotLen (slotBytes (start .args .s)) _ (length-slot (start .args .s))
+    (omega arith) (at-fill-slot .fill-slot .ensures)
 
 pub put-slot-spec : {M : Type 1} → statement M
 put-slot-spec =

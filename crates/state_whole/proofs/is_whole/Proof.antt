@@ -18,14 +18,23 @@ shared-slice-read-if2 c = search needs
 
 returns-2 : tie.Need-returns-2
 unfolding isWhole isState
-returns-2 c = rw (le-leb stateLen (length (c .before .before .before .before .args .state .now)) (omega arith), lt-leb (getD (c .before .before .before .before .args .state .now) 56 0) 1 (omega arith))
+returns-2 c =
+    let start = c .before .before .before .before in
+    rw (le-leb stateLen (length (start .args .state .now)) (omega arith), lt-leb (getD (start .args .state .now) 56 0) 1 (omega arith))
 
 shared-slice-read-if3 : tie.Need-shared-slice-read-if3
 shared-slice-read-if3 c = search needs
 
 returns-3 : tie.Need-returns-3
 unfolding isWhole isState
-returns-3 c = rw (le-leb stateLen (length (c .before .before .before .before .before .before .args .state .now)) (omega arith), le-leb (getD (c .before .before .before .before .before .before .args .state .now) 56 0) 1 (omega arith), lt-leb (getD (c .before .before .before .before .before .before .args .state .now) 57 0) 1 (omega arith))
+returns-3 c =
+    let start = c .before .before .before .before .before .before in
+    rw (
+      le-leb stateLen (length (start .args .state .now)) (omega arith),
+      le-leb (getD (start .args .state .now) 56 0) 1 (omega arith),
+      lt-leb
+          (getD (start .args .state .now) 57 0) 1 (omega arith),
+    )
 
 header-of-requires : tie.Need-header-of-requires
 header-of-requires c κs = search needs
@@ -38,9 +47,13 @@ rest-whole-requires c κs = (header-ok (c .before .before .header-of .result) (s
 
 returns-4 : tie.Need-returns-4
 returns-4 c =
+    let at-header-fine = c .before .before in
+    let at-header-of = at-header-fine .before in
+    let start = at-header-of .before .before .before .before .before .before .before in
     c .rest-whole .ensures
-    ∙ ap (λ h. restWhole h (c .before .before .before .before .before .before .before .before .before .before .args .state .now)) (c .before .before .before .header-of .ensures)
-    ∙ rest-is-whole (c .before .before .before .before .before .before .before .before .before .before .args .state .now) (omega arith) (omega arith) (omega arith) (ap headerFine (sym (c .before .before .before .header-of .ensures)) ∙ sym (c .before .before .header-fine .ensures) ∙ c .before .if4 .taken)
+    ∙ ap (λ h. restWhole h (start .args .state .now)) (at-header-of .header-of .ensures)
+    ∙ rest-is-whole (start .args .state .now) (omega arith) (omega arith) (omega arith)
+    (ap headerFine (sym (at-header-of .header-of .ensures)) ∙ sym (at-header-fine .header-fine .ensures) ∙ c .before .if4 .taken)
 
 returns-5 : tie.Need-returns-5
 returns-5 c =

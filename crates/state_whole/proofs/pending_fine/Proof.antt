@@ -8,10 +8,17 @@ slot-at-requires : tie.Need-slot-at-requires
 slot-at-requires c κs = search needs
 
 returns : tie.Need-returns
-returns c = waits-in (c .before .before .before .before .before .before .before .before .before .args .h) (c .before .before .before .before .before .before .before .before .before .args .state .now) (c .before .slot-at .result) (c .before .before .before .before .if1 .taken) (omega arith) (omega arith) (c .before .slot-at .ensures)
+returns c =
+    let at-if1 = c .before .before .before .before in
+    let start = at-if1 .before .before .before .before .before in
+    waits-in (start .args .h) (start .args .state .now) (c .before .slot-at .result) (at-if1 .if1 .taken) (omega arith) (omega arith)
+    (c .before .slot-at .ensures)
 
 returns-2 : tie.Need-returns-2
-returns-2 c = waits-out (c .before .before .before .before .before .before .before .args .h) (c .before .before .before .before .before .before .before .args .state .now) (c .before .before .if1 .taken) (omega arith)
+returns-2 c =
+    let at-if1 = c .before .before in
+    let start = at-if1 .before .before .before .before .before in
+    waits-out (start .args .h) (start .args .state .now) (at-if1 .if1 .taken) (omega arith)
 
 returns-3 : tie.Need-returns-3
 returns-3 c =

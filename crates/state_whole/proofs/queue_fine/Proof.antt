@@ -31,13 +31,28 @@ loop-less : tie.Need-loop-less Inv-loop μ-loop
 loop-less c = search needs
 
 loop-again : tie.Need-loop-again Inv-loop μ-loop
-loop-again c = (omega arith, c .before .before .before .before .loop .inv .1 ∙ opens-step (c .before .before .before .before .before .before .args .state .now) (c .before .before .before .before .before .before .args .n) (c .before .before .before .before .loop .i) (omega arith) (omega arith) (c .before .before .before .before .before .before .args .channels) (c .before .before .before .before .before .before .args .payload) (sym (rw (c .before .before .queued-at .ensures) at (c .before .queued-fine .ensures)) ∙ c .if1 .taken))
+loop-again c =
+    let at-queued-at = c .before .before in
+    let at-loop = at-queued-at .before .before in
+    let start = at-loop .before .before in (
+      omega arith,
+      at-loop .loop .inv .1 ∙ opens-step (start .args .state .now) (start .args .n) (at-loop .loop .i) (omega arith) (omega arith)
+          (start .args .channels) (start .args .payload) (sym (rw (at-queued-at .queued-at .ensures) at (c .before .queued-fine .ensures)) ∙ c .if1 .taken),
+    )
 
 returns : tie.Need-returns Inv-loop μ-loop
-returns c = sym (c .before .before .before .before .loop .inv .1 ∙ opens-stop (c .before .before .before .before .before .before .args .state .now) (c .before .before .before .before .before .before .args .n) (c .before .before .before .before .loop .i) (omega arith) (omega arith) (c .before .before .before .before .before .before .args .channels) (c .before .before .before .before .before .before .args .payload) (sym (rw (c .before .before .queued-at .ensures) at (c .before .queued-fine .ensures)) ∙ c .if1 .left))
+returns c =
+    let at-queued-at = c .before .before in
+    let at-loop = at-queued-at .before .before in
+    let start = at-loop .before .before in
+    sym (at-loop .loop .inv .1 ∙ opens-stop (start .args .state .now) (start .args .n) (at-loop .loop .i) (omega arith) (omega arith)
+    (start .args .channels) (start .args .payload) (sym (rw (at-queued-at .queued-at .ensures) at (c .before .queued-fine .ensures)) ∙ c .if1 .left))
 
 returns-2 : tie.Need-returns-2 Inv-loop μ-loop
-returns-2 c = sym (c .before .loop .inv .1 ∙ opens-end (c .before .before .before .args .state .now) (c .before .before .before .args .n) (c .before .loop .i) (c .before .before .before .args .channels) (c .before .before .before .args .payload) (omega arith))
+returns-2 c =
+    let start = c .before .before .before in
+    sym (c .before .loop .inv .1 ∙ opens-end (start .args .state .now) (start .args .n) (c .before .loop .i) (start .args .channels)
+    (start .args .payload) (omega arith))
 
 pub queue-fine-spec : {M : Type 1} → statement M
 queue-fine-spec =

@@ -28,13 +28,26 @@ loop-less : tie.Need-loop-less Inv-loop μ-loop
 loop-less c = search needs
 
 loop-again : tie.Need-loop-again Inv-loop μ-loop
-loop-again c = (omega arith, c .before .before .before .loop .inv .1 ∙ rows-step (c .before .before .before .before .before .args .channels) (c .before .before .before .before .before .args .cap) (c .before .before .before .loop .i) (c .before .before .before .before .before .args .end) (c .before .before .before .before .before .args .state .now) (omega arith) (sym (c .before .row-at-fine .ensures) ∙ c .if1 .taken))
+loop-again c =
+    let at-loop = c .before .before .before in
+    let start = at-loop .before .before in (
+      omega arith,
+      at-loop .loop .inv .1 ∙ rows-step (start .args .channels) (start .args .cap) (at-loop .loop .i) (start .args .end)
+          (start .args .state .now) (omega arith) (sym (c .before .row-at-fine .ensures) ∙ c .if1 .taken),
+    )
 
 returns : tie.Need-returns Inv-loop μ-loop
-returns c = sym (c .before .before .before .loop .inv .1 ∙ rows-stop (c .before .before .before .before .before .args .channels) (c .before .before .before .before .before .args .cap) (c .before .before .before .loop .i) (c .before .before .before .before .before .args .end) (c .before .before .before .before .before .args .state .now) (omega arith) (sym (c .before .row-at-fine .ensures) ∙ c .if1 .left))
+returns c =
+    let at-loop = c .before .before .before in
+    let start = at-loop .before .before in
+    sym (at-loop .loop .inv .1 ∙ rows-stop (start .args .channels) (start .args .cap) (at-loop .loop .i) (start .args .end) (start .args .state .now)
+    (omega arith) (sym (c .before .row-at-fine .ensures) ∙ c .if1 .left))
 
 returns-2 : tie.Need-returns-2 Inv-loop μ-loop
-returns-2 c = sym (c .before .loop .inv .1 ∙ rows-end (c .before .before .before .args .channels) (c .before .before .before .args .cap) (c .before .loop .i) (c .before .before .before .args .end) (c .before .before .before .args .state .now) (omega arith))
+returns-2 c =
+    let start = c .before .before .before in
+    sym (c .before .loop .inv .1 ∙ rows-end (start .args .channels) (start .args .cap) (c .before .loop .i) (start .args .end)
+    (start .args .state .now) (omega arith))
 
 pub rows-fine-spec : {M : Type 1} → statement M
 rows-fine-spec =

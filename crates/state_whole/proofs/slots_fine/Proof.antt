@@ -12,10 +12,17 @@ rows-fine-requires-2 : tie.Need-rows-fine-requires-2
 rows-fine-requires-2 c κs = search needs
 
 returns : tie.Need-returns
-returns c = and-goes _ _ _ (sym (c .before .before .rows-fine .ensures) ∙ c .before .if1 .taken) (c .rows-fine2 .ensures) ∙ rows-both (c .before .before .before .before .args .channels) (c .before .before .before .before .args .cap) (c .before .before .before .before .args .channels) (c .before .before .before .before .args .state .now) (omega arith)
+returns c =
+    let at-rows-fine = c .before .before in
+    let start = at-rows-fine .before .before in
+    and-goes _ _ _ (sym (at-rows-fine .rows-fine .ensures) ∙ c .before .if1 .taken) (c .rows-fine2 .ensures) ∙ rows-both (start .args .channels)
+    (start .args .cap) (start .args .channels) (start .args .state .now) (omega arith)
 
 returns-2 : tie.Need-returns-2
-returns-2 c = and-stops _ _ (sym (c .before .rows-fine .ensures) ∙ c .if1 .left) ∙ rows-both (c .before .before .before .args .channels) (c .before .before .before .args .cap) (c .before .before .before .args .channels) (c .before .before .before .args .state .now) (omega arith)
+returns-2 c =
+    let start = c .before .before .before in
+    and-stops _ _ (sym (c .before .rows-fine .ensures) ∙ c .if1 .left) ∙ rows-both (start .args .channels) (start .args .cap) (start .args .channels)
+    (start .args .state .now) (omega arith)
 
 pub slots-fine-spec : {M : Type 1} → statement M
 slots-fine-spec = tie.close (tie.spec rows-fine-requires rows-fine-requires-2 returns returns-2)

@@ -27,7 +27,17 @@ put-fields-requires : tie.Need-put-fields-requires
 put-fields-requires c κs = search needs
 
 copy-at-requires : tie.Need-copy-at-requires
-copy-at-requires c κs = omega (arith, c .before .before .before .before .before .before .before .before .before .before .head-length .ensures ∙ ap headOf (c .before .before .before .before .before .before .before .before .before .before .before .layout-of .ensures), c .before .before .before .before .before .before .before .before .before .before .before .before .before .before .pre, heads (layoutOf (c .before .before .before .before .before .before .before .before .before .before .before .before .before .before .args .message .fields)))
+copy-at-requires c κs =
+    let at-head-length = c .before .before .before .before .before .before .before .before .before .before in
+    let at-layout-of = at-head-length .before in
+    let start = at-layout-of .before .before .before in
+    omega (
+      arith,
+      at-head-length .head-length .ensures ∙ ap headOf (at-layout-of .layout-of .ensures),
+      start .pre,
+      heads
+          (layoutOf (start .args .message .fields)),
+    )
 
 same-length : tie.Need-same-length
 same-length c = search needs

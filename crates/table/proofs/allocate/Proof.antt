@@ -9,10 +9,18 @@ place-below-requires : tie.Need-place-below-requires
 place-below-requires c κs = search needs
 
 returns : tie.Need-returns
-returns c = allocates (c .before .before .before .before .before .before .args .h) (stateOf (c .before .before .before .before .before .before .args .state .now) .slots) (c .before .before .place-below .result) (c .before .before .place-below .ensures) (omega arith)
+returns c =
+    let at-place-below = c .before .before in
+    let start = at-place-below .before .before .before .before in
+    allocates (start .args .h) (stateOf (start .args .state .now) .slots) (at-place-below .place-below .result)
+    (at-place-below .place-below .ensures) (omega arith)
 
 returns-2 : tie.Need-returns-2
-returns-2 c = allocates-none (c .before .before .before .before .before .before .args .h) (stateOf (c .before .before .before .before .before .before .args .state .now) .slots) (c .before .before .place-below .result) (c .before .before .place-below .ensures) (omega arith)
+returns-2 c =
+    let at-place-below = c .before .before in
+    let start = at-place-below .before .before .before .before in
+    allocates-none (start .args .h) (stateOf (start .args .state .now) .slots) (at-place-below .place-below .result)
+    (at-place-below .place-below .ensures) (omega arith)
 
 pub allocate-spec : {M : Type 1} → statement M
 allocate-spec = tie.close (tie.spec place-below-requires returns returns-2)

@@ -39,11 +39,18 @@ loop-less : tie.Need-loop-less Inv-loop μ-loop
 loop-less c = search needs
 
 loop-again : tie.Need-loop-again Inv-loop μ-loop
-loop-again c = let z = bit-small (c .before .slot-at .result .filled) in let e : cond (slotAt (c .before .before .before .before .before .args .state .now) (c .before .before .before .loop .i) .filled) 1 0 ≡ c .one-if .result = sym (rw (c .before .slot-at .ensures) at (c .one-if .ensures)) in let k = count-step isFilled (c .before .before .before .before .before .args .state .now) (c .before .before .before .before .before .args .n) (c .before .before .before .loop .i) (omega arith) (omega arith) in (omega arith, omega arith, omega arith)
+loop-again c =
+    let at-loop = c .before .before .before in
+    let start = at-loop .before .before in
+    let z = bit-small (c .before .slot-at .result .filled) in let e : cond (slotAt (start .args .state .now) (at-loop .loop .i) .filled) 1 0 ≡ c
+    .one-if .result = sym (rw (c .before .slot-at .ensures) at (c .one-if .ensures)) in let k = count-step isFilled (start .args .state .now)
+    (start .args .n) (at-loop .loop .i) (omega arith) (omega arith) in (omega arith, omega arith, omega arith)
 
 returns : tie.Need-returns Inv-loop μ-loop
 unfolding inUse
-returns c = let k = count-end isFilled (c .before .before .before .args .state .now) (c .before .before .before .args .n) (c .before .loop .i) (omega arith) in omega arith
+returns c =
+    let start = c .before .before .before in
+    let k = count-end isFilled (start .args .state .now) (start .args .n) (c .before .loop .i) (omega arith) in omega arith
 
 pub in-use-spec : {M : Type 1} → statement M
 in-use-spec =

@@ -26,7 +26,12 @@ is-wanted-requires c κs = search needs
 
 returns : tie.Need-returns Inv-loop μ-loop
 unfolding placeOf
-returns c = sym (c .before .before .before .before .loop .inv .1 ∙ walk-stop (wantedBy (c .before .before .before .before .before .before .args .want)) (c .before .before .before .before .before .before .args .state .now) (c .before .before .before .before .before .before .args .n) (c .before .before .before .before .loop .i) (omega arith) (omega arith) (sym (rw (c .before .before .slot-at .ensures) at (c .before .is-wanted .ensures)) ∙ c .if1 .taken))
+returns c =
+    let at-slot-at = c .before .before in
+    let at-loop = at-slot-at .before .before in
+    let start = at-loop .before .before in
+    sym (at-loop .loop .inv .1 ∙ walk-stop (wantedBy (start .args .want)) (start .args .state .now) (start .args .n) (at-loop .loop .i) (omega arith)
+    (omega arith) (sym (rw (at-slot-at .slot-at .ensures) at (c .before .is-wanted .ensures)) ∙ c .if1 .taken))
 
 add-i : tie.Need-add-i Inv-loop μ-loop
 add-i c = search needs
@@ -35,11 +40,21 @@ loop-less : tie.Need-loop-less Inv-loop μ-loop
 loop-less c = search needs
 
 loop-again : tie.Need-loop-again Inv-loop μ-loop
-loop-again c = (omega arith, c .before .before .before .before .loop .inv .1 ∙ walk-step (wantedBy (c .before .before .before .before .before .before .args .want)) (c .before .before .before .before .before .before .args .state .now) (c .before .before .before .before .before .before .args .n) (c .before .before .before .before .loop .i) (omega arith) (omega arith) (sym (rw (c .before .before .slot-at .ensures) at (c .before .is-wanted .ensures)) ∙ c .if1 .left))
+loop-again c =
+    let at-slot-at = c .before .before in
+    let at-loop = at-slot-at .before .before in
+    let start = at-loop .before .before in (
+      omega arith,
+      at-loop .loop .inv .1 ∙ walk-step (wantedBy (start .args .want)) (start .args .state .now) (start .args .n) (at-loop .loop .i)
+          (omega arith) (omega arith) (sym (rw (at-slot-at .slot-at .ensures) at (c .before .is-wanted .ensures)) ∙ c .if1 .left),
+    )
 
 returns-2 : tie.Need-returns-2 Inv-loop μ-loop
 unfolding placeOf
-returns-2 c = let e : c .before .before .before .args .n ≡ c .before .loop .i = omega arith in e ∙ sym (c .before .loop .inv .1 ∙ walk-end (wantedBy (c .before .before .before .args .want)) (c .before .before .before .args .state .now) (c .before .before .before .args .n) (c .before .loop .i) (omega arith))
+returns-2 c =
+    let start = c .before .before .before in
+    let e : start .args .n ≡ c .before .loop .i = omega arith in e ∙ sym
+    (c .before .loop .inv .1 ∙ walk-end (wantedBy (start .args .want)) (start .args .state .now) (start .args .n) (c .before .loop .i) (omega arith))
 
 pub place-below-spec : {M : Type 1} → statement M
 place-below-spec =

@@ -16,7 +16,12 @@ same-length : tie.Need-same-length
 same-length c = search needs
 
 returns : tie.Need-returns
-returns c = steps-by _ _ _ _ _ (close-remote (c .before .before .before .before .before .before .before .before .before .args .n) (stateOf (c .before .before .before .before .before .before .before .before .before .args .state .now) .slots) (c .before .before .before .before .before .before .before .before .before .args .remote) (c .before .before .before .before .before .before .before .before .before .args .local) (c .before .before .before .before .remote-place .result) (omega arith) (c .before .before .before .before .remote-place .ensures)) (c .before .before .close-at .ensures)
+returns c =
+    let at-close-at = c .before .before in
+    let at-remote-place = at-close-at .before .before in
+    let start = at-remote-place .before .before .before .before .before in
+    steps-by _ _ _ _ _ (close-remote (start .args .n) (stateOf (start .args .state .now) .slots) (start .args .remote) (start .args .local)
+    (at-remote-place .remote-place .result) (omega arith) (at-remote-place .remote-place .ensures)) (at-close-at .close-at .ensures)
 
 place-below-requires : tie.Need-place-below-requires
 place-below-requires c κs = search needs
@@ -28,7 +33,12 @@ same-length-2 : tie.Need-same-length-2
 same-length-2 c = search needs
 
 returns-2 : tie.Need-returns-2
-returns-2 c = steps-by _ _ _ _ _ (close-local (c .before .before .before .before .before .before .before .before .before .args .n) (stateOf (c .before .before .before .before .before .before .before .before .before .args .state .now) .slots) (c .before .before .before .before .before .before .before .before .before .args .remote) (c .before .before .before .before .before .before .before .before .before .args .local) (c .before .before .before .before .place-below .result) (λ e. omega arith) (c .before .before .before .before .place-below .ensures)) (c .before .before .close-at2 .ensures)
+returns-2 c =
+    let at-close-at2 = c .before .before in
+    let at-place-below = at-close-at2 .before .before in
+    let start = at-place-below .before .before .before .before .before in
+    steps-by _ _ _ _ _ (close-local (start .args .n) (stateOf (start .args .state .now) .slots) (start .args .remote) (start .args .local)
+    (at-place-below .place-below .result) (λ e. omega arith) (at-place-below .place-below .ensures)) (at-close-at2 .close-at2 .ensures)
 
 pub close-spec : {M : Type 1} → statement M
 close-spec =

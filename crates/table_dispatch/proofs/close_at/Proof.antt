@@ -17,10 +17,19 @@ same-length : tie.Need-same-length
 same-length c = search needs
 
 returns : tie.Need-returns
-returns c = steps-stored _ _ _ _ _ _ (closed-here (c .before .before .before .before .before .before .before .before .before .args .state .now) (c .before .before .before .before .before .before .before .before .before .args .i) (c .before .before .before .before .before .before .before .before .before .args .n) (c .before .before .before .before .before .before .before .before .before .args .other) (c .before .before .before .before .before .slot-at .result) (c .before .before .before .apply-close .result) (omega arith) (omega arith) (c .before .before .before .before .before .slot-at .ensures) (c .before .before .before .apply-close .ensures)) (c .before .before .put-slot .ensures)
+returns c =
+    let at-put-slot = c .before .before in
+    let at-apply-close = at-put-slot .before in
+    let at-slot-at = at-apply-close .before .before in
+    let start = at-slot-at .before .before .before .before in
+    steps-stored _ _ _ _ _ _ (closed-here (start .args .state .now) (start .args .i) (start .args .n) (start .args .other)
+    (at-slot-at .slot-at .result) (at-apply-close .apply-close .result) (omega arith) (omega arith) (at-slot-at .slot-at .ensures)
+    (at-apply-close .apply-close .ensures)) (at-put-slot .put-slot .ensures)
 
 returns-2 : tie.Need-returns-2
-returns-2 c = steps-left _ _ _ (closed-none (c .before .before .args .state .now) (c .before .before .args .i) (c .before .before .args .n) (c .before .before .args .other) (omega arith))
+returns-2 c =
+    let start = c .before .before in
+    steps-left _ _ _ (closed-none (start .args .state .now) (start .args .i) (start .args .n) (start .args .other) (omega arith))
 
 pub close-at-spec : {M : Type 1} → statement M
 close-at-spec =

@@ -15,7 +15,13 @@ same-length : tie.Need-same-length
 same-length c = search needs
 
 returns : tie.Need-returns
-returns c = steps-by _ _ _ _ _ (grant-here (c .before .before .before .before .before .before .before .before .before .args .remote) (c .before .before .before .before .before .before .before .before .before .args .local) (c .before .before .before .before .before .before .before .before .before .args .policy) (c .before .before .before .before .before .before .before .before .before .args .n) (c .before .before .before .before .before .before .before .before .before .args .state .now) (c .before .before .before .before .before .before .before .before .before .args .payload .now) (c .before .before .before .before .before .place-below .result) (c .before .before .before .before .before .place-below .ensures) (omega arith) (omega arith)) (c .before .before .ready-at .ensures)
+returns c =
+    let at-ready-at = c .before .before in
+    let at-place-below = at-ready-at .before .before .before in
+    let start = at-place-below .before .before .before .before in
+    steps-by _ _ _ _ _ (grant-here (start .args .remote) (start .args .local) (start .args .policy) (start .args .n) (start .args .state .now)
+    (start .args .payload .now) (at-place-below .place-below .result) (at-place-below .place-below .ensures) (omega arith) (omega arith))
+    (at-ready-at .ready-at .ensures)
 
 stray-requires : tie.Need-stray-requires
 stray-requires c κs = search needs
@@ -24,7 +30,12 @@ same-length-2 : tie.Need-same-length-2
 same-length-2 c = search needs
 
 returns-2 : tie.Need-returns-2
-returns-2 c = steps-left _ _ _ (grant-none (c .before .before .before .before .before .before .args .remote) (c .before .before .before .before .before .before .args .local) (c .before .before .before .before .before .before .args .policy) (c .before .before .before .before .before .before .args .n) (c .before .before .before .before .before .before .args .state .now) (c .before .before .before .before .before .before .args .payload .now) (c .before .before .place-below .result) (c .before .before .place-below .ensures) (c .stray .result) (omega arith) (c .stray .ensures))
+returns-2 c =
+    let at-place-below = c .before .before in
+    let start = at-place-below .before .before .before .before in
+    steps-left _ _ _ (grant-none (start .args .remote) (start .args .local) (start .args .policy) (start .args .n) (start .args .state .now)
+    (start .args .payload .now) (at-place-below .place-below .result) (at-place-below .place-below .ensures) (c .stray .result) (omega arith)
+    (c .stray .ensures))
 
 pub ready-spec : {M : Type 1} → statement M
 ready-spec =

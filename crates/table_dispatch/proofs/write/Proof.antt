@@ -11,7 +11,18 @@ place-below-requires : tie.Need-place-below-requires
 place-below-requires c κs = search needs
 
 write-at-requires : tie.Need-write-at-requires
-write-at-requires c κs = record { state-fits = c .before .before .before .before .before .before .before .before .pre .state-fits; place-fits = omega arith; share-fits = share-in (c .before .before .before .place-below .result) (c .before .before .before .before .before .before .before .before .args .n) (2 * c .before .before .before .before .before .before .before .before .args .policy .«rx_cap») _ (omega arith) (c .before .before .before .before .before .before .before .before .pre .rx-fits); sound = c .before .before .before .before .before .before .before .before .pre .slots-sound (c .before .before .before .place-below .result) (omega arith) (local-filled (c .before .before .before .before .before .before .before .before .args .state .now) (c .before .before .before .before .before .before .before .before .args .n) (c .before .before .before .place-below .result) (c .before .before .before .before .before .before .before .before .args .local) (c .before .before .before .place-below .ensures) (omega arith) (omega arith)) }
+write-at-requires c κs =
+    let at-place-below = c .before .before .before in
+    let start = at-place-below .before .before .before .before .before in
+    record {
+      state-fits = start .pre .state-fits;
+      place-fits = omega arith;
+      share-fits = share-in (at-place-below .place-below .result)
+          (start .args .n) (2 * start .args .policy .«rx_cap») _ (omega arith) (start .pre .rx-fits);
+      sound = start .pre .slots-sound
+          (at-place-below .place-below .result) (omega arith) (local-filled (start .args .state .now) (start .args .n)
+          (at-place-below .place-below .result) (start .args .local) (at-place-below .place-below .ensures) (omega arith) (omega arith));
+    }
 
 same-length : tie.Need-same-length
 same-length c = search needs
@@ -20,13 +31,23 @@ same-length-2 : tie.Need-same-length-2
 same-length-2 c = search needs
 
 returns : tie.Need-returns
-returns c = dispatches-by _ _ _ _ _ _ (write-here (c .before .before .before .before .before .before .before .before .before .before .before .before .before .args .remote) (c .before .before .before .before .before .before .before .before .before .before .before .before .before .args .local) (c .before .before .before .before .before .before .before .before .before .before .before .before .before .args .policy) (c .before .before .before .before .before .before .before .before .before .before .before .before .before .args .n) (c .before .before .before .before .before .before .before .before .before .before .before .before .before .args .state .now) (c .before .before .before .before .before .before .before .before .before .before .before .before .before .args .payload .now) (c .before .before .before .before .before .before .before .before .before .before .before .before .before .args .rx .now) (c .before .before .before .before .before .before .before .before .place-below .result) (c .before .before .before .before .before .before .before .before .place-below .ensures) (omega arith) (omega arith)) (c .before .before .before .before .write-at .ensures)
+returns c =
+    let at-write-at = c .before .before .before .before in
+    let at-place-below = at-write-at .before .before .before .before in
+    let start = at-place-below .before .before .before .before .before in
+    dispatches-by _ _ _ _ _ _ (write-here (start .args .remote) (start .args .local) (start .args .policy) (start .args .n) (start .args .state .now)
+    (start .args .payload .now) (start .args .rx .now) (at-place-below .place-below .result) (at-place-below .place-below .ensures) (omega arith)
+    (omega arith)) (at-write-at .write-at .ensures)
 
 same-length-3 : tie.Need-same-length-3
 same-length-3 c = search needs
 
 returns-2 : tie.Need-returns-2
-returns-2 c = dispatches _ _ _ _ _ _ (write-none (c .before .before .before .before .before .before .args .remote) (c .before .before .before .before .before .before .args .local) (c .before .before .before .before .before .before .args .policy) (c .before .before .before .before .before .before .args .n) (c .before .before .before .before .before .before .args .state .now) (c .before .before .before .before .before .before .args .payload .now) (c .before .before .before .before .before .before .args .rx .now) (c .before .place-below .result) (c .before .place-below .ensures) (omega arith)) (steps-left _ _ _ refl)
+returns-2 c =
+    let start = c .before .before .before .before .before .before in
+    dispatches _ _ _ _ _ _ (write-none (start .args .remote) (start .args .local) (start .args .policy) (start .args .n) (start .args .state .now)
+    (start .args .payload .now) (start .args .rx .now) (c .before .place-below .result) (c .before .place-below .ensures) (omega arith))
+    (steps-left _ _ _ refl)
 
 pub write-spec : {M : Type 1} → statement M
 write-spec =

@@ -135,10 +135,15 @@ returns-2 c =
     (at-outcome2 .outcome2 .given .1) (c .done2 .ensures) (at-put-close .put-close .ensures) (start .pre .room)
 
 same-length-7 : tie.Need-same-length-7
-same-length-7 c = omega (arith, c .before .before .before .before .before .before .before .before .before .before .before .before .before .before .before .before .before .state .given, c .before .before .before .before .before .before .before .state2 .given)
+same-length-7 c =
+    let at-state2 = c .before .before .before .before .before .before .before in
+    let at-state = at-state2 .before .before .before .before .before .before .before .before .before .before in
+    omega (arith, at-state .state .given, at-state2 .state2 .given)
 
 same-length-8 : tie.Need-same-length-8
-same-length-8 c = omega (arith, c .before .before .before .before .before .before .before .before .before .before .before .before .before .before .before .rx .given)
+same-length-8 c =
+    let at-rx = c .before .before .before .before .before .before .before .before .before .before .before .before .before .before .before in
+    omega (arith, at-rx .rx .given)
 
 same-length-9 : tie.Need-same-length-9
 same-length-9 c = search needs
@@ -157,10 +162,15 @@ returns-3 c =
     _ _ _ (at-outcome3 .outcome3 .given .1) (at-pushed .pushed .given .1) (at-push-back .push-back .ensures) (c .done3 .ensures) (start .pre .room)
 
 same-length-10 : tie.Need-same-length-10
-same-length-10 c = omega (arith, c .before .before .before .before .before .before .before .before .before .before .before .before .before .before .before .before .before .before .before .before .state .given, c .before .before .before .before .before .before .before .before .before .before .state2 .given)
+same-length-10 c =
+    let at-state2 = c .before .before .before .before .before .before .before .before .before .before in
+    let at-state = at-state2 .before .before .before .before .before .before .before .before .before .before in
+    omega (arith, at-state .state .given, at-state2 .state2 .given)
 
 same-length-11 : tie.Need-same-length-11
-same-length-11 c = omega (arith, c .before .before .before .before .before .before .before .before .before .before .before .before .before .before .before .before .before .before .rx .given)
+same-length-11 c =
+    let at-rx = c .before .before .before .before .before .before .before .before .before .before .before .before .before .before .before .before .before .before in
+    omega (arith, at-rx .rx .given)
 
 same-length-12 : tie.Need-same-length-12
 same-length-12 c = search needs

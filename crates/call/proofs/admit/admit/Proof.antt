@@ -11,7 +11,9 @@ is-whole-requires : tie.Need-is-whole-requires
 is-whole-requires c κs = search needs
 
 header-of-requires : tie.Need-header-of-requires
-header-of-requires c κs = let k = whole-long (c .before .before .before .args .state .now) (sym (c .before .is-whole .ensures) ∙ c .if1 .taken) in omega arith
+header-of-requires c κs =
+    let start = c .before .before .before in
+    let k = whole-long (start .args .state .now) (sym (c .before .is-whole .ensures) ∙ c .if1 .taken) in omega arith
 
 stores-fit-requires : tie.Need-stores-fit-requires
 stores-fit-requires c κs =
@@ -23,10 +25,26 @@ stores-fit-requires c κs =
     (whole-header (start .args .state .now) (sym (at-is-whole .is-whole .ensures) ∙ at-if1 .if1 .taken) .within)
 
 returns : tie.Need-returns
-returns c = admits-out (c .before .before .before .before .before .before .before .before .before .args .state .now) (c .before .before .before .before .before .before .before .before .before .args .rx) (c .before .before .before .before .before .before .before .before .before .args .store) (c .before .before .before .before .before .before .before .before .before .args .out) (c .before .before .before .before .before .header-of .result) (c .before .before .before .before .before .header-of .ensures) (sym (c .before .before .before .before .before .before .before .is-whole .ensures) ∙ c .before .before .before .before .before .before .if1 .taken) (sym (c .before .before .stores-fit .ensures) ∙ c .before .if2 .taken) (omega arith)
+returns c =
+    let at-stores-fit = c .before .before in
+    let at-header-of = at-stores-fit .before .before .before in
+    let at-if1 = at-header-of .before in
+    let at-is-whole = at-if1 .before in
+    let start = at-is-whole .before .before in
+    admits-out (start .args .state .now) (start .args .rx) (start .args .store) (start .args .out) (at-header-of .header-of .result)
+    (at-header-of .header-of .ensures) (sym (at-is-whole .is-whole .ensures) ∙ at-if1 .if1 .taken)
+    (sym (at-stores-fit .stores-fit .ensures) ∙ c .before .if2 .taken) (omega arith)
 
 returns-2 : tie.Need-returns-2
-returns-2 c = admits-yes (c .before .before .before .before .before .before .before .before .before .args .state .now) (c .before .before .before .before .before .before .before .before .before .args .rx) (c .before .before .before .before .before .before .before .before .before .args .store) (c .before .before .before .before .before .before .before .before .before .args .out) (c .before .before .before .before .before .header-of .result) (c .before .before .before .before .before .header-of .ensures) (sym (c .before .before .before .before .before .before .before .is-whole .ensures) ∙ c .before .before .before .before .before .before .if1 .taken) (sym (c .before .before .stores-fit .ensures) ∙ c .before .if2 .taken) (omega arith)
+returns-2 c =
+    let at-stores-fit = c .before .before in
+    let at-header-of = at-stores-fit .before .before .before in
+    let at-if1 = at-header-of .before in
+    let at-is-whole = at-if1 .before in
+    let start = at-is-whole .before .before in
+    admits-yes (start .args .state .now) (start .args .rx) (start .args .store) (start .args .out) (at-header-of .header-of .result)
+    (at-header-of .header-of .ensures) (sym (at-is-whole .is-whole .ensures) ∙ at-if1 .if1 .taken)
+    (sym (at-stores-fit .stores-fit .ensures) ∙ c .before .if2 .taken) (omega arith)
 
 returns-3 : tie.Need-returns-3
 returns-3 c =

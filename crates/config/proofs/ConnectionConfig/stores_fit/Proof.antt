@@ -17,7 +17,9 @@ open-store-len-requires c κs = search needs
 
 returns-2 : tie.Need-returns-2
 unfolding storesFit
-returns-2 c = rw (le-leb (rxStoreLen (c .before .before .before .args .self)) (c .before .before .before .args .rx) (omega arith), c .open-store-len .ensures)
+returns-2 c =
+    let start = c .before .before .before in
+    rw (le-leb (rxStoreLen (start .args .self)) (start .args .rx) (omega arith), c .open-store-len .ensures)
 
 pub stores-fit-spec : {M : Type 1} → statement M
 stores-fit-spec =

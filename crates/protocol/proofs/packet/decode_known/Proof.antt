@@ -26,7 +26,15 @@ least-u32-requires c κs = search needs
 
 returns-2 : tie.Need-returns-2
 unfolding knownOf packetOf
-returns-2 c = rw (eq-eqb (c .before .before .before .before .before .before .before .args .message .magic) (magicOf (c .before .before .before .before .before .before .before .args .command)) (c .before .before .before .if1 .left ∙ c .before .before .before .before .before .magic .ensures), lt-ltb (min (c .before .before .before .before .before .before .before .args .max-payload) maxPayload) (c .before .before .before .before .before .before .before .args .message .«data_length») (omega arith))
+returns-2 c =
+    let at-if1 = c .before .before .before in
+    let at-magic = at-if1 .before .before in
+    let start = at-magic .before .before in
+    rw (
+      eq-eqb (start .args .message .magic) (magicOf (start .args .command)) (at-if1 .if1 .left ∙ at-magic .magic .ensures),
+      lt-ltb
+          (min (start .args .max-payload) maxPayload) (start .args .message .«data_length») (omega arith),
+    )
 
 cast-len : tie.Need-cast-len
 cast-len c = search needs
@@ -36,7 +44,17 @@ add-end c = search needs
 
 returns-3 : tie.Need-returns-3
 unfolding knownOf packetOf
-returns-3 c = rw (eq-eqb (c .before .before .before .before .before .before .before .before .before .args .message .magic) (magicOf (c .before .before .before .before .before .before .before .before .before .args .command)) (c .before .before .before .before .before .if1 .left ∙ c .before .before .before .before .before .before .before .magic .ensures), le-ltb (min (c .before .before .before .before .before .before .before .before .before .args .max-payload) maxPayload) (c .before .before .before .before .before .before .before .before .before .args .message .«data_length») (omega arith), lt-ltb (length (c .before .before .before .before .before .before .before .before .before .args .received .now)) (24 + c .before .before .before .before .before .before .before .before .before .args .message .«data_length») (omega arith))
+returns-3 c =
+    let at-if1 = c .before .before .before .before .before in
+    let at-magic = at-if1 .before .before in
+    let start = at-magic .before .before in
+    rw (
+      eq-eqb (start .args .message .magic) (magicOf (start .args .command)) (at-if1 .if1 .left ∙ at-magic .magic .ensures),
+      le-ltb
+          (min (start .args .max-payload) maxPayload) (start .args .message .«data_length») (omega arith),
+      lt-ltb (length (start .args .received .now))
+          (24 + start .args .message .«data_length») (omega arith),
+    )
 
 sub-check-passes : tie.Need-sub-check-passes
 sub-check-passes c = search needs
@@ -52,11 +70,35 @@ check-passes-requires c κs = search needs
 
 returns-4 : tie.Need-returns-4
 unfolding knownOf packetOf
-returns-4 c = rw (eq-eqb (c .before .before .before .before .before .before .before .before .before .before .before .before .args .message .magic) (magicOf (c .before .before .before .before .before .before .before .before .before .before .before .before .args .command)) (c .before .before .before .before .before .before .before .before .if1 .left ∙ c .before .before .before .before .before .before .before .before .before .before .magic .ensures), le-ltb (min (c .before .before .before .before .before .before .before .before .before .before .before .before .args .max-payload) maxPayload) (c .before .before .before .before .before .before .before .before .before .before .before .before .args .message .«data_length») (omega arith), le-ltb (length (c .before .before .before .before .before .before .before .before .before .before .before .before .args .received .now)) (24 + c .before .before .before .before .before .before .before .before .before .before .before .before .args .message .«data_length») (omega arith), lent-check (c .before .before .before .before .before .before .before .before .before .before .before .before .args .received .now) (c .before .before .before .before .before .before .before .before .before .before .before .before .args .message .«data_length») (c .before .before .before .before .before .before .before .before .before .before .before .before .args .message .«data_check») (c .before .check-passes .result) true (c .before .check-passes .ensures) (c .if4 .taken))
+returns-4 c =
+    let at-if1 = c .before .before .before .before .before .before .before .before in
+    let at-magic = at-if1 .before .before in
+    let start = at-magic .before .before in
+    rw (
+      eq-eqb (start .args .message .magic) (magicOf (start .args .command)) (at-if1 .if1 .left ∙ at-magic .magic .ensures),
+      le-ltb
+          (min (start .args .max-payload) maxPayload) (start .args .message .«data_length») (omega arith),
+      le-ltb (length (start .args .received .now))
+          (24 + start .args .message .«data_length») (omega arith),
+      lent-check (start .args .received .now) (start .args .message .«data_length»)
+          (start .args .message .«data_check») (c .before .check-passes .result) true (c .before .check-passes .ensures) (c .if4 .taken),
+    )
 
 returns-5 : tie.Need-returns-5
 unfolding knownOf packetOf
-returns-5 c = rw (eq-eqb (c .before .before .before .before .before .before .before .before .before .before .before .before .args .message .magic) (magicOf (c .before .before .before .before .before .before .before .before .before .before .before .before .args .command)) (c .before .before .before .before .before .before .before .before .if1 .left ∙ c .before .before .before .before .before .before .before .before .before .before .magic .ensures), le-ltb (min (c .before .before .before .before .before .before .before .before .before .before .before .before .args .max-payload) maxPayload) (c .before .before .before .before .before .before .before .before .before .before .before .before .args .message .«data_length») (omega arith), le-ltb (length (c .before .before .before .before .before .before .before .before .before .before .before .before .args .received .now)) (24 + c .before .before .before .before .before .before .before .before .before .before .before .before .args .message .«data_length») (omega arith), lent-check (c .before .before .before .before .before .before .before .before .before .before .before .before .args .received .now) (c .before .before .before .before .before .before .before .before .before .before .before .before .args .message .«data_length») (c .before .before .before .before .before .before .before .before .before .before .before .before .args .message .«data_check») (c .before .check-passes .result) false (c .before .check-passes .ensures) (c .if4 .left))
+returns-5 c =
+    let at-if1 = c .before .before .before .before .before .before .before .before in
+    let at-magic = at-if1 .before .before in
+    let start = at-magic .before .before in
+    rw (
+      eq-eqb (start .args .message .magic) (magicOf (start .args .command)) (at-if1 .if1 .left ∙ at-magic .magic .ensures),
+      le-ltb
+          (min (start .args .max-payload) maxPayload) (start .args .message .«data_length») (omega arith),
+      le-ltb (length (start .args .received .now))
+          (24 + start .args .message .«data_length») (omega arith),
+      lent-check (start .args .received .now) (start .args .message .«data_length»)
+          (start .args .message .«data_check») (c .before .check-passes .result) false (c .before .check-passes .ensures) (c .if4 .left),
+    )
 
 pub decode-known-spec : {M : Type 1} → statement M
 decode-known-spec =

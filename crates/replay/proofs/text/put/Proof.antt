@@ -7,7 +7,9 @@ use Rattle.replay.proofs.text.put.Statement.{statement}
 use Rattle.replay.proofs.text.put.Tie as tie
 
 returns : tie.Need-returns
-returns c = puts-none (c .before .before .before .args .line .now) (c .before .before .before .args .at) (c .before .before .before .args .s .now) (omega arith)
+returns c =
+    let start = c .before .before .before in
+    puts-none (start .args .line .now) (start .args .at) (start .args .s .now) (omega arith)
 
 sub-least : tie.Need-sub-least
 sub-least c = search needs

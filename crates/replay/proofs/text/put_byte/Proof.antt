@@ -22,9 +22,13 @@ same-length c = search needs
 
 returns : tie.Need-returns
 returns c =
-    let b = c .before .before .before .before .before .before .before .before .args .b in
+    let at-put = c .before .before in
+    let at-glyph2 = at-put .before .before .before in
+    let at-glyph = at-glyph2 .before in
+    let start = at-glyph .before .before in
+    let b = start .args .b in
     let e : b / 16 % 16 ≡ b / 16 = omega arith in
-    rw e (rw (c .before .before .before .before .before .before .glyph .ensures, c .before .before .before .before .before .glyph2 .ensures) at (c .before .before .put .ensures))
+    rw e (rw (at-glyph .glyph .ensures, at-glyph2 .glyph2 .ensures) at (at-put .put .ensures))
 
 pub put-byte-spec : {M : Type 1} → statement M
 put-byte-spec =

@@ -33,9 +33,16 @@ loop-less c = search needs
 
 loop-again : tie.Need-loop-again Inv-loop μ-loop
 loop-again c =
-    let a = c .before .before .before .before .before .before .before .before .before .args in
-    let l = c .before .before .before .before .before .before .loop in
-    (omega arith, omega arith, rw (hex-step (a .s .now) (l .i) (omega arith)) (puts-puts (a .line .now) (a .at) _ (l .line) (l .end) _ _ _ (l .inv .2) (c .before .before .put-byte .ensures)))
+    let at-put-byte = c .before .before in
+    let at-loop = at-put-byte .before .before .before .before in
+    let start = at-loop .before .before .before in
+    let a = start .args in
+    let l = at-loop .loop in (
+      omega arith,
+      omega arith,
+      rw (hex-step (a .s .now) (l .i) (omega arith))
+          (puts-puts (a .line .now) (a .at) _ (l .line) (l .end) _ _ _ (l .inv .2) (at-put-byte .put-byte .ensures)),
+    )
 
 same-length : tie.Need-same-length Inv-loop μ-loop
 same-length c = search needs

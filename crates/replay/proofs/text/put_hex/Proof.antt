@@ -14,7 +14,10 @@ same-length : tie.Need-same-length
 same-length c = search needs
 
 returns : tie.Need-returns
-returns c = rw (hex-none (c .before .before .before .before .before .before .before .before .args .s .now) (omega arith)) (c .before .before .put .ensures)
+returns c =
+    let at-put = c .before .before in
+    let start = at-put .before .before .before .before .before .before in
+    rw (hex-none (start .args .s .now) (omega arith)) (at-put .put .ensures)
 
 put-bytes-requires : tie.Need-put-bytes-requires
 put-bytes-requires c κs = search needs
@@ -23,7 +26,10 @@ same-length-2 : tie.Need-same-length-2
 same-length-2 c = search needs
 
 returns-2 : tie.Need-returns-2
-returns-2 c = rw (hex-some (c .before .before .before .before .before .before .before .args .s .now) (λ z. omega arith)) (c .before .before .put-bytes .ensures)
+returns-2 c =
+    let at-put-bytes = c .before .before in
+    let start = at-put-bytes .before .before .before .before .before in
+    rw (hex-some (start .args .s .now) (λ z. omega arith)) (at-put-bytes .put-bytes .ensures)
 
 pub put-hex-spec : {M : Type 1} → statement M
 put-hex-spec =

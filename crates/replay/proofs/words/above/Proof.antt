@@ -17,8 +17,10 @@ signed-of-u64-requires c κs = search needs
 
 returns : tie.Need-returns
 returns c =
+    let start = c .before .before in
     let h : c .before .least .result < 2 ^ 64 = omega arith in
-    rw (c .signed-of-u64 .ensures) (toZ-ofZ (record { sfits = signed-small 63 _ h }) ∙ ap (signed 63) (c .before .least .ensures) ∙ above-is (c .before .before .args .n))
+    rw (c .signed-of-u64 .ensures) (toZ-ofZ (record { sfits = signed-small 63 _ h }) ∙ ap (signed 63) (c .before .least .ensures) ∙ above-is
+    (start .args .n))
 
 pub above-spec : {M : Type 1} → statement M
 above-spec = tie.close (tie.spec least-requires signed-of-u64-requires returns)

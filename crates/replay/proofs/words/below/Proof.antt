@@ -26,8 +26,10 @@ signed-of-u64-requires c κs = search needs
 
 returns-2 : tie.Need-returns-2
 returns-2 c =
+    let start = c .before .before .before in
     let h : 0xffff_ffff_ffff_ffff - c .before .least .result < 2 ^ 64 = omega arith in
-    rw (c .signed-of-u64 .ensures) (toZ-ofZ (record { sfits = signed-small 63 _ h }) ∙ ap (λ (k : ℕ). signed 63 (0xffff_ffff_ffff_ffff - k)) (c .before .least .ensures) ∙ below-is (c .before .before .before .args .n) (omega arith))
+    rw (c .signed-of-u64 .ensures) (toZ-ofZ (record { sfits = signed-small 63 _ h }) ∙ ap (λ (k : ℕ). signed 63 (0xffff_ffff_ffff_ffff - k))
+    (c .before .least .ensures) ∙ below-is (start .args .n) (omega arith))
 
 pub below-spec : {M : Type 1} → statement M
 below-spec =

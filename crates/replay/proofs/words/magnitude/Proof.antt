@@ -31,10 +31,16 @@ loop-less c = search needs
 
 loop-again : tie.Need-loop-again Inv-loop μ-loop
 loop-again c =
-    let s = c .before .before .before .before .before .args .s .now in
-    let l = c .before .before .before .loop in
-    let g = c .grow .ensures in
-    (omega arith, omega arith, rw g (spelled-held (grown (l .n) (getD s (l .i) 0)) 0xffff_ffff_ffff_ffff (drop (l .i + 1) s) ∙ rw (← spelled-step s (l .i) (l .n) (omega arith)) (l .inv .2)))
+    let at-loop = c .before .before .before in
+    let start = at-loop .before .before in
+    let s = start .args .s .now in
+    let l = at-loop .loop in
+    let g = c .grow .ensures in (
+      omega arith,
+      omega arith,
+      rw g (spelled-held (grown (l .n) (getD s (l .i) 0)) 0xffff_ffff_ffff_ffff (drop (l .i + 1) s) ∙ rw
+          (← spelled-step s (l .i) (l .n) (omega arith)) (l .inv .2)),
+    )
 
 returns : tie.Need-returns Inv-loop μ-loop
 returns c =

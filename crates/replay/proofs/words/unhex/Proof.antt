@@ -17,7 +17,9 @@ abbrev μ-loop : tie.MeasureT-loop
 μ-loop s out₀ i₀ n₀ out i n = length out - n
 
 loop-holds : tie.Need-loop-holds Inv-loop μ-loop
-loop-holds c = (omega arith, refl, omega arith, omega arith, paste-zero (c .before .before .args .out .now) 0 (unhexed (c .before .before .args .s .now)), refl)
+loop-holds c =
+    let start = c .before .before in
+    (omega arith, refl, omega arith, omega arith, paste-zero (start .args .out .now) 0 (unhexed (start .args .s .now)), refl)
 
 sub-if1 : tie.Need-sub-if1 Inv-loop μ-loop
 sub-if1 c = search needs
@@ -60,11 +62,14 @@ loop-less c = simp length-set (omega arith)
 
 loop-again : tie.Need-loop-again Inv-loop μ-loop
 loop-again c =
-    let s = c .before .before .before .before .before .before .before .before .args .s .now in
-    let d = c .before .before .before .before .before .before .before .before .args .out .now in
-    let l = c .before .before .before .before .before .loop in
+    let at-loop = c .before .before .before .before .before in
+    let start = at-loop .before .before .before in
+    let s = start .args .s .now in
+    let d = start .args .out .now in
+    let l = at-loop .loop in
     let v = c .byte .result in
-    let e : drop (l .n) (unhexed s) ≡ v ∷ unhexed (drop (l .i + 2) s) = l .inv .5 ∙ unhexed-step s (l .i) (omega arith) ∙ ap (λ (x : ℕ). x ∷ unhexed (drop (l .i + 2) s)) (sym (c .byte .ensures)) in
+    let e : drop (l .n) (unhexed s) ≡ v ∷ unhexed (drop (l .i + 2) s) = l .inv .5 ∙ unhexed-step s (l .i) (omega arith) ∙ ap
+    (λ (x : ℕ). x ∷ unhexed (drop (l .i + 2) s)) (sym (c .byte .ensures)) in
     let h : l .n < length d = omega arith in
     let f = store-fits d (unhexed s) (l .n) v (unhexed (drop (l .i + 2) s)) h e in (
       omega arith,

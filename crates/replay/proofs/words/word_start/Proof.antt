@@ -22,9 +22,11 @@ word-end-requires c κs = search needs
 
 returns : tie.Need-returns Inv-loop μ-loop
 returns c =
-    let l = c .before .before .before .loop in
+    let at-loop = c .before .before .before in
+    let start = at-loop .before .before in
+    let l = at-loop .loop in
     let w = c .before .word-end in
-    (omega arith, sym (from-last (c .before .before .before .before .before .args .line .now) (l .at) (l .left) (w .result) (omega arith) (w .ensures .0) (omega arith)) ∙ l .inv .1)
+    (omega arith, sym (from-last (start .args .line .now) (l .at) (l .left) (w .result) (omega arith) (w .ensures .0) (omega arith)) ∙ l .inv .1)
 
 add-at : tie.Need-add-at Inv-loop μ-loop
 add-at c = search needs
@@ -37,9 +39,11 @@ loop-less c = search needs
 
 loop-again : tie.Need-loop-again Inv-loop μ-loop
 loop-again c =
-    let l = c .before .before .before .loop in
+    let at-loop = c .before .before .before in
+    let start = at-loop .before .before in
+    let l = at-loop .loop in
     let w = c .before .word-end in
-    (omega arith, sym (from-step (c .before .before .before .before .before .args .line .now) (l .at) (l .left) (w .result) (omega arith) (w .ensures .0)) ∙ l .inv .1)
+    (omega arith, sym (from-step (start .args .line .now) (l .at) (l .left) (w .result) (omega arith) (w .ensures .0)) ∙ l .inv .1)
 
 returns-2 : tie.Need-returns-2 Inv-loop μ-loop
 unfolding fromWord

@@ -30,10 +30,17 @@ with-sending-requires c κs = search needs
 returns : tie.Need-returns
 unfolding acceptedSlot
 returns c =
-    let h : c .before .before .before .before .before .before .before .args .credit < 2 ^ 63 = omega arith in
+    let at-with-state = c .before .before in
+    let at-with-remote = at-with-state .before in
+    let at-opening = at-with-remote .before in
+    let start = at-opening .before .before .before in
+    let h : start .args .credit < 2 ^ 63 = omega arith in
     rw (toZ-pos w64 h) at (c .with-sending .ensures)
-    ∙ ap (λ x. withSending x true (pos (c .before .before .before .before .before .before .before .args .credit))) (c .before .before .with-state .ensures ∙ ap (λ x. withState x Open) (c .before .before .before .with-remote .ensures ∙ ap (λ x. withRemote x (c .before .before .before .before .before .before .before .args .ids .remote)) (c .before .before .before .before .opening .ensures)))
-    ∙ ap (withSending (withState (withRemote (openingSlot (c .before .before .before .before .before .before .before .args .ids .local)) (c .before .before .before .before .before .before .before .args .ids .remote)) Open) true) (sym (cond-true _ _ _ (c .before .if1 .taken)))
+    ∙ ap (λ x. withSending x true (pos (start .args .credit)))
+    (at-with-state .with-state .ensures ∙ ap (λ x. withState x Open)
+    (at-with-remote .with-remote .ensures ∙ ap (λ x. withRemote x (start .args .ids .remote)) (at-opening .opening .ensures)))
+    ∙ ap (withSending (withState (withRemote (openingSlot (start .args .ids .local)) (start .args .ids .remote)) Open) true)
+    (sym (cond-true _ _ _ (c .before .if1 .taken)))
 
 returns-2 : tie.Need-returns-2
 unfolding acceptedSlot openingSlot

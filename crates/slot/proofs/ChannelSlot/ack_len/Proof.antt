@@ -26,11 +26,29 @@ returns-2 c =
 
 returns-3 : tie.Need-returns-3
 unfolding ackLenOf
-returns-3 c = rw (ne-eqb (c .before .before .before .before .before .args .self .unacked) 0 (c .before .before .before .if1 .left), c .before .before .if2 .left, lt-ltb (c .before .before .before .before .before .args .remaining) (c .before .before .before .before .before .args .policy .watermark) (omega arith))
+returns-3 c =
+    let at-if2 = c .before .before in
+    let at-if1 = at-if2 .before in
+    let start = at-if1 .before .before in
+    rw (
+      ne-eqb (start .args .self .unacked) 0 (at-if1 .if1 .left),
+      at-if2 .if2 .left,
+      lt-ltb (start .args .remaining)
+          (start .args .policy .watermark) (omega arith),
+    )
 
 returns-4 : tie.Need-returns-4
 unfolding ackLenOf
-returns-4 c = rw (ne-eqb (c .before .before .before .before .before .args .self .unacked) 0 (c .before .before .before .if1 .left), c .before .before .if2 .left, le-ltb (c .before .before .before .before .before .args .remaining) (c .before .before .before .before .before .args .policy .watermark) (omega arith))
+returns-4 c =
+    let at-if2 = c .before .before in
+    let at-if1 = at-if2 .before in
+    let start = at-if1 .before .before in
+    rw (
+      ne-eqb (start .args .self .unacked) 0 (at-if1 .if1 .left),
+      at-if2 .if2 .left,
+      le-ltb (start .args .remaining)
+          (start .args .policy .watermark) (omega arith),
+    )
 
 pub ack-len-spec : {M : Type 1} → statement M
 ack-len-spec =

@@ -10,11 +10,17 @@ returns c = rw (c .if1 .taken)
 
 returns-2 : tie.Need-returns-2
 unfolding acksNow
-returns-2 c = rw (c .before .before .if1 .left, lt-ltb (c .before .before .before .args .held) (c .before .before .before .args .policy .watermark) (omega arith))
+returns-2 c =
+    let at-if1 = c .before .before in
+    let start = at-if1 .before in
+    rw (at-if1 .if1 .left, lt-ltb (start .args .held) (start .args .policy .watermark) (omega arith))
 
 returns-3 : tie.Need-returns-3
 unfolding acksNow
-returns-3 c = rw (c .before .before .if1 .left, le-ltb (c .before .before .before .args .held) (c .before .before .before .args .policy .watermark) (omega arith))
+returns-3 c =
+    let at-if1 = c .before .before in
+    let start = at-if1 .before in
+    rw (at-if1 .if1 .left, le-ltb (start .args .held) (start .args .policy .watermark) (omega arith))
 
 pub acks-now-spec : {M : Type 1} → statement M
 acks-now-spec = tie.close (tie.spec returns returns-2 returns-3)

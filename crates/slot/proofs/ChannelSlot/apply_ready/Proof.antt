@@ -41,13 +41,18 @@ returns c =
 
 returns-2 : tie.Need-returns-2
 returns-2 c =
-    let a = c .before .before .before .before .before .before .before .before .before .args in
-    let z = c .before .before .before .credit .given .0 .0 in
+    let at-credit = c .before .before .before in
+    let at-parse-ready-credit = at-credit .before .before in
+    let at-if1 = at-parse-ready-credit .before in
+    let start = at-if1 .before .before .before in
+    let a = start .args in
+    let z = at-credit .credit .given .0 .0 in
     let f : SFits w32 z = search needs in
-    let eb = toZ-ofZ (budget-fits (c .before .before .before .before .before .before .before .before .before)) in
+    let eb = toZ-ofZ (budget-fits (start)) in
     let es = rw (eb, widened z f) at (c .before .sat-add .ensures) in
     let er = toZ-ofZ {w = w64} {z = c .before .sat-add .result} (search needs) in
-    readied-is (a .self) (a .policy) (a .payload .now) z (c .before .sat-add .result) (c .with-sending .result) (c .before .before .before .before .before .before .if1 .taken) (sym (c .before .before .before .before .before .parse-ready-credit .ensures) ∙ c .before .before .before .credit .given .1) es (rw er at (c .with-sending .ensures))
+    readied-is (a .self) (a .policy) (a .payload .now) z (c .before .sat-add .result) (c .with-sending .result) (at-if1 .if1 .taken)
+    (sym (at-parse-ready-credit .parse-ready-credit .ensures) ∙ at-credit .credit .given .1) es (rw er at (c .with-sending .ensures))
 
 with-sending-requires-2 : tie.Need-with-sending-requires-2
 with-sending-requires-2 c κs = search needs

@@ -24,7 +24,15 @@ sub-if2 c = omega arith
 
 returns-2 : tie.Need-returns-2
 unfolding wroteOf heldOf
-returns-2 c = rw (sym (c .before .before .before .before .is-opening .ensures) ∙ c .before .before .before .if1 .left, lt-ltb (c .before .before .before .before .before .args .policy .«rx_cap») (heldOf (c .before .before .before .before .before .args .self) + c .before .before .before .before .before .args .n) (omega arith))
+returns-2 c =
+    let at-if1 = c .before .before .before in
+    let at-is-opening = at-if1 .before in
+    let start = at-is-opening .before in
+    rw (
+      sym (at-is-opening .is-opening .ensures) ∙ at-if1 .if1 .left,
+      lt-ltb (start .args .policy .«rx_cap»)
+          (heldOf (start .args .self) + start .args .n) (omega arith),
+    )
 
 mul-appended-head : tie.Need-mul-appended-head
 mul-appended-head c = search needs
@@ -47,7 +55,17 @@ with-numbers-requires c κs = search needs
 
 returns-3 : tie.Need-returns-3
 unfolding heldOf
-returns-3 c = wrote-now (c .before .before .before .before .before .before .before .before .before .before .before .args .self) (c .before .before .before .before .before .before .before .before .before .before .before .args .policy) (c .before .before .before .before .before .before .before .before .before .before .before .args .n) (c .with-numbers .result) (c .before .before .before .before .appended-head .result) (c .before .before .before .before .before .before .before .before .held .result) (c .before .before .acks-now .result) (sym (c .before .before .before .before .before .before .before .before .before .before .is-opening .ensures) ∙ c .before .before .before .before .before .before .before .before .before .if1 .left) (omega arith) (c .before .before .before .before .before .before .before .before .held .ensures) (c .before .before .acks-now .ensures) (c .before .before .before .before .appended-head .ensures) (c .before .if3 .taken) (c .with-numbers .ensures)
+returns-3 c =
+    let at-acks-now = c .before .before in
+    let at-appended-head = at-acks-now .before .before in
+    let at-held = at-appended-head .before .before .before .before in
+    let at-if1 = at-held .before in
+    let at-is-opening = at-if1 .before in
+    let start = at-is-opening .before in
+    wrote-now (start .args .self) (start .args .policy) (start .args .n) (c .with-numbers .result) (at-appended-head .appended-head .result)
+    (at-held .held .result) (at-acks-now .acks-now .result) (sym (at-is-opening .is-opening .ensures) ∙ at-if1 .if1 .left) (omega arith)
+    (at-held .held .ensures) (at-acks-now .acks-now .ensures) (at-appended-head .appended-head .ensures) (c .before .if3 .taken)
+    (c .with-numbers .ensures)
 
 sat-sum-requires : tie.Need-sat-sum-requires
 sat-sum-requires c κs = search needs
@@ -57,7 +75,18 @@ with-numbers-requires-2 c κs = search needs
 
 returns-4 : tie.Need-returns-4
 unfolding heldOf
-returns-4 c = wrote-hold (c .before .before .before .before .before .before .before .before .before .before .before .before .args .self) (c .before .before .before .before .before .before .before .before .before .before .before .before .args .policy) (c .before .before .before .before .before .before .before .before .before .before .before .before .args .n) (c .with-numbers2 .result) (c .before .before .before .before .before .appended-head .result) (c .before .before .before .before .before .before .before .before .before .held .result) (c .before .before .before .acks-now .result) (sym (c .before .before .before .before .before .before .before .before .before .before .before .is-opening .ensures) ∙ c .before .before .before .before .before .before .before .before .before .before .if1 .left) (omega arith) (c .before .before .before .before .before .before .before .before .before .held .ensures) (c .before .before .before .acks-now .ensures) (c .before .before .before .before .before .appended-head .ensures) (c .before .sat-sum .result) (c .before .before .if3 .left) (c .before .sat-sum .ensures) (c .with-numbers2 .ensures)
+returns-4 c =
+    let at-if3 = c .before .before in
+    let at-acks-now = at-if3 .before in
+    let at-appended-head = at-acks-now .before .before in
+    let at-held = at-appended-head .before .before .before .before in
+    let at-if1 = at-held .before in
+    let at-is-opening = at-if1 .before in
+    let start = at-is-opening .before in
+    wrote-hold (start .args .self) (start .args .policy) (start .args .n) (c .with-numbers2 .result) (at-appended-head .appended-head .result)
+    (at-held .held .result) (at-acks-now .acks-now .result) (sym (at-is-opening .is-opening .ensures) ∙ at-if1 .if1 .left) (omega arith)
+    (at-held .held .ensures) (at-acks-now .acks-now .ensures) (at-appended-head .appended-head .ensures) (c .before .sat-sum .result)
+    (at-if3 .if3 .left) (c .before .sat-sum .ensures) (c .with-numbers2 .ensures)
 
 pub apply-write-spec : {M : Type 1} → statement M
 apply-write-spec =

@@ -22,7 +22,10 @@ returns-2 c = rw (c .before .if1 .taken, c .if2 .left)
 
 returns-3 : tie.Need-returns-3
 unfolding deliveredOf
-returns-3 c = rw (c .before .before .before .if1 .left, le-leb (c .before .before .before .before .args .policy .watermark) (c .before .before .before .before .args .self .buffered) (omega arith))
+returns-3 c =
+    let at-if1 = c .before .before .before in
+    let start = at-if1 .before in
+    rw (at-if1 .if1 .left, le-leb (start .args .policy .watermark) (start .args .self .buffered) (omega arith))
 
 with-numbers-requires : tie.Need-with-numbers-requires
 with-numbers-requires c κs = search needs
@@ -30,14 +33,19 @@ with-numbers-requires c κs = search needs
 returns-4 : tie.Need-returns-4
 unfolding deliveredOf
 returns-4 c =
-    ap (λ (x : ChannelSlot). acked x (Len (c .before .before .before .before .before .before .args .self .unacked))) (c .with-numbers .ensures)
+    let at-if1 = c .before .before .before .before .before in
+    let start = at-if1 .before in
+    ap (λ (x : ChannelSlot). acked x (Len (start .args .self .unacked))) (c .with-numbers .ensures)
     ∙ sym (cond-true _ _ _ (c .before .if4 .taken))
-    ∙ sym (cond-false _ _ _ (lt-leb (c .before .before .before .before .before .before .args .policy .watermark) (c .before .before .before .before .before .before .args .self .buffered) (omega arith)))
-    ∙ sym (cond-false _ _ _ (c .before .before .before .before .before .if1 .left))
+    ∙ sym (cond-false _ _ _ (lt-leb (start .args .policy .watermark) (start .args .self .buffered) (omega arith)))
+    ∙ sym (cond-false _ _ _ (at-if1 .if1 .left))
 
 returns-5 : tie.Need-returns-5
 unfolding deliveredOf
-returns-5 c = rw (c .before .before .before .before .if1 .left, lt-leb (c .before .before .before .before .before .args .policy .watermark) (c .before .before .before .before .before .args .self .buffered) (omega arith), c .if4 .left)
+returns-5 c =
+    let at-if1 = c .before .before .before .before in
+    let start = at-if1 .before in
+    rw (at-if1 .if1 .left, lt-leb (start .args .policy .watermark) (start .args .self .buffered) (omega arith), c .if4 .left)
 
 pub deliver-spec : {M : Type 1} → statement M
 deliver-spec =

@@ -21,11 +21,14 @@ sub-if3 : tie.Need-sub-if3
 sub-if3 c = search needs
 
 returns-3 : tie.Need-returns-3
-returns-3 c = unsound (c .before .before .before .before .before .before .before .args .self) (c .before .before .before .before .before .before .before .args .cap) (omega arith) (λ ok. omega arith)
+returns-3 c =
+    let start = c .before .before .before .before .before .before .before in
+    unsound (start .args .self) (start .args .cap) (omega arith) (λ ok. omega arith)
 
 returns-4 : tie.Need-returns-4
 returns-4 c =
-    sym (sound-holds (c .before .before .before .before .before .before .before .args .self) (c .before .before .before .before .before .before .before .args .cap) (record {
+    let start = c .before .before .before .before .before .before .before in
+    sym (sound-holds (start .args .self) (start .args .cap) (record {
       settled-buffered = omega arith;
       settled-cap = omega arith;
       held-cap = omega arith;

@@ -28,11 +28,22 @@ enum-told c = search needs
 
 returns-2 : tie.Need-returns-2
 unfolding namedOf
-returns-2 c = c .read-known .ensures ∙ named-read (c .before .before .before .before .before .before .before .before .args .exchange) (c .before .before .before .before .before .before .before .before .args .received .now) (c .before .before .before .before .before .get-u32 .result) _ (omega arith) (c .before .before .before .before .before .get-u32 .ensures) (sym (c .before .before .found .given .1) ∙ c .before .before .before .before .find .ensures)
+returns-2 c =
+    let at-found = c .before .before in
+    let at-find = at-found .before .before in
+    let at-get-u32 = at-find .before in
+    let start = at-get-u32 .before .before .before in
+    c .read-known .ensures ∙ named-read (start .args .exchange) (start .args .received .now) (at-get-u32 .get-u32 .result) _ (omega arith)
+    (at-get-u32 .get-u32 .ensures) (sym (at-found .found .given .1) ∙ at-find .find .ensures)
 
 returns-3 : tie.Need-returns-3
 unfolding namedOf
-returns-3 c = named-read (c .before .before .before .before .before .before .args .exchange) (c .before .before .before .before .before .before .args .received .now) (c .before .before .before .get-u32 .result) _ (omega arith) (c .before .before .before .get-u32 .ensures) (sym (c .enum-told .given .1) ∙ c .before .before .find .ensures)
+returns-3 c =
+    let at-find = c .before .before in
+    let at-get-u32 = at-find .before in
+    let start = at-get-u32 .before .before .before in
+    named-read (start .args .exchange) (start .args .received .now) (at-get-u32 .get-u32 .result) _ (omega arith) (at-get-u32 .get-u32 .ensures)
+    (sym (c .enum-told .given .1) ∙ at-find .find .ensures)
 
 pub read-spec : {M : Type 1} → statement M
 read-spec =

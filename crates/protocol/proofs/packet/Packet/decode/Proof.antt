@@ -28,11 +28,22 @@ decode-known-requires c κs = search needs
 
 returns-2 : tie.Need-returns-2
 unfolding namedOf
-returns-2 c = named-decode (c .before .before .before .before .before .before .before .args .received .now) (c .before .before .before .before .before .before .before .args .max-payload) (c .before .before .before .before .read .result) _ (omega arith) (c .before .before .before .before .read .ensures) (sym (c .before .named .given .1) ∙ c .before .before .before .from-word .ensures)
+returns-2 c =
+    let at-from-word = c .before .before .before in
+    let at-read = at-from-word .before in
+    let start = at-read .before .before .before in
+    named-decode (start .args .received .now) (start .args .max-payload) (at-read .read .result) _ (omega arith) (at-read .read .ensures)
+    (sym (c .before .named .given .1) ∙ at-from-word .from-word .ensures)
 
 returns-3 : tie.Need-returns-3
 unfolding namedOf
-returns-3 c = c .decode-known .ensures ∙ named-decode (c .before .before .before .before .before .before .before .before .args .received .now) (c .before .before .before .before .before .before .before .before .args .max-payload) (c .before .before .before .before .before .read .result) _ (omega arith) (c .before .before .before .before .before .read .ensures) (sym (c .before .before .named2 .given .1) ∙ c .before .before .before .before .from-word .ensures)
+returns-3 c =
+    let at-named2 = c .before .before in
+    let at-from-word = at-named2 .before .before in
+    let at-read = at-from-word .before in
+    let start = at-read .before .before .before in
+    c .decode-known .ensures ∙ named-decode (start .args .received .now) (start .args .max-payload) (at-read .read .result) _ (omega arith)
+    (at-read .read .ensures) (sym (at-named2 .named2 .given .1) ∙ at-from-word .from-word .ensures)
 
 pub decode-spec : {M : Type 1} → statement M
 decode-spec =

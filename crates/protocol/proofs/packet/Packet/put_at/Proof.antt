@@ -33,7 +33,13 @@ same-length c = search needs
 
 returns : tie.Need-returns
 returns c =
-    framed _ _ _ _ _ _ _ _ _ _ _ _ _ (omega arith) (c .before .before .before .before .before .before .before .before .before .word .ensures) (c .before .before .before .before .before .before .before .before .before .before .of .ensures) (c .before .before .before .before .before .before .before .before .magic .ensures) (c .before .before .before .before .before .before .put-at .ensures) (c .before .before .copy-at .ensures) (omega arith)
+    let at-copy-at = c .before .before in
+    let at-put-at = at-copy-at .before .before .before .before in
+    let at-magic = at-put-at .before .before in
+    let at-word = at-magic .before in
+    let at-of = at-word .before in
+    framed _ _ _ _ _ _ _ _ _ _ _ _ _ (omega arith) (at-word .word .ensures) (at-of .of .ensures) (at-magic .magic .ensures)
+    (at-put-at .put-at .ensures) (at-copy-at .copy-at .ensures) (omega arith)
 
 pub put-at-spec : {M : Type 1} → statement M
 put-at-spec =
