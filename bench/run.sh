@@ -5,6 +5,7 @@
 #   SEEDS  libadb's folder libadb/src                          (no default)
 #   BUILD  where everything is built                           (default target/oracle of this repository)
 #   LIB    the static library                                  (default target/staticlib/libadb.a, which is then made)
+#   SUM_LIB  that of the sum alone                             (default target/staticlib/libbench_sum.a, which is then made)
 #   JOBS   how many compilers cargo may run at a time          (default 1)
 set -eu
 here=$(cd "$(dirname "$0")" && pwd)
@@ -16,10 +17,14 @@ if [ -z "${LIB:-}" ]; then
     (cd "$root" && rt staticlib adb) >&2
     LIB=$root/target/staticlib/libadb.a
 fi
-export LIB
+if [ -z "${SUM_LIB:-}" ]; then
+    (cd "$root" && rt staticlib bench_sum) >&2
+    SUM_LIB=$root/target/staticlib/libbench_sum.a
+fi
+export LIB SUM_LIB
 # Below the generated tree, whose crate it uses.
 mkdir -p "$BUILD/bench/src"
-for file in Cargo.toml build.rs src/frames.rs src/main.rs src/ours.rs src/theirs.rs; do
+for file in Cargo.toml build.rs src/before.rs src/frames.rs src/main.rs src/ours.rs src/sum.rs src/theirs.rs; do
     cmp -s "$here/$file" "$BUILD/bench/$file" || cp "$here/$file" "$BUILD/bench/$file"
 done
 cd "$BUILD/bench"

@@ -81,6 +81,12 @@ for data in (b"", b"\0", b"\0\0\0\0", b"\1", bytes([1, 2, 255]), b"\xff" * 257, 
     for check in (0, right, right + 1, right - 1, right ^ TOP, right + 0x10000, right + 0x1000000, TOP, 1):
         decode(4096, frame(b"WRTE", data=data, check=check))
 
+# lengths around runs of 257 bytes, the check right and one off
+for n in (0, 1, 256, 257, 258, 514, 515):
+    for data in (b"\xff" * n, bytes(i * 7 % 256 for i in range(n))):
+        for check in (sum(data), sum(data) + 1, sum(data) - 1):
+            decode(4096, frame(b"WRTE", data=data, check=check))
+
 # several faults at once: the first in order is answered
 for limit in (4, 4096):
     for word in (struct.unpack("<I", b"WRTE")[0], 5):

@@ -72,6 +72,25 @@ pub fn put_frame(to: &mut Vec<u8>, command: &[u8; 4], arg0: u32, arg1: u32, payl
     to.extend_from_slice(payload);
 }
 
+pub struct Random(u64);
+
+impl Random {
+    pub fn new(seed: usize) -> Self {
+        Random(0x9e37_79b9_7f4a_7c15 ^ seed as u64)
+    }
+
+    pub fn bytes(&mut self, n: usize) -> Vec<u8> {
+        (0..n)
+            .map(|_| {
+                self.0 ^= self.0 << 13;
+                self.0 ^= self.0 >> 7;
+                self.0 ^= self.0 << 17;
+                (self.0 >> 32) as u8
+            })
+            .collect()
+    }
+}
+
 /// What arrives in one round, a frame for each channel in turn, and what is written to each.
 pub struct Round {
     pub frames: Vec<u8>,
@@ -82,17 +101,8 @@ pub struct Round {
 
 impl Round {
     pub fn of(case: Case) -> Self {
-        let mut rng = 0x9e37_79b9_7f4a_7c15u64 ^ case.size as u64;
-        let mut random = |n: usize| -> Vec<u8> {
-            (0..n)
-                .map(|_| {
-                    rng ^= rng << 13;
-                    rng ^= rng >> 7;
-                    rng ^= rng << 17;
-                    (rng >> 32) as u8
-                })
-                .collect()
-        };
+        let mut rng = Random::new(case.size);
+        let mut random = |n: usize| rng.bytes(n);
         let mut round = Round { frames: Vec::new(), at: vec![0], data: Vec::new() };
         for i in 0..case.open {
             let (theirs, ours) = (remote(i), 1 + i as u32);

@@ -1,13 +1,16 @@
-//! This library and libadb's own core side by side, in one process: see docs/PERFORMANCE.md.
+//! This library and libadb's own core side by side, in one process: see docs/PERFORMANCE.md. Also the sum of a payload alone,
+//! beside the code that it was before.
 //!
 //!     bench [REPEATS [MS [TEXT]]]      (default 7 repeats of 32 ms each; only rows whose name has TEXT)
 
 mod frames;
 mod ours;
+mod sum;
 mod theirs;
 
 use frames::*;
 use ours::Ours;
+use std::hint::black_box;
 use theirs::Theirs;
 
 #[repr(C)]
@@ -51,6 +54,11 @@ impl Times {
     }
 }
 
+fn sorted(mut times: Vec<f64>) -> Times {
+    times.sort_by(f64::total_cmp);
+    Times(times)
+}
+
 fn ns(x: f64) -> String {
     if x < 9.95 {
         format!("{x:.1}")
@@ -70,6 +78,8 @@ fn ns(x: f64) -> String {
 fn rate(size: usize, t: &Times) -> String {
     format!("{:.2}", size as f64 / t.best())
 }
+
+const SIZES: [usize; 4] = [64, 4 << 10, 64 << 10, 1 << 20];
 
 const KINDS: [Kind; 6] = [
     Kind::DispatchNothing, Kind::ReadNothing, Kind::FrontNothing, Kind::DispatchRead, Kind::DirectRead, Kind::Write,
@@ -182,11 +192,60 @@ fn measure(case: Case, ours: &mut Ours, repeats: usize, ms: f64) -> Row {
         times[1].push(timed(rounds[1], n, |r| ours.run(&round, r, true, none)));
         times[3].push(timed(rounds[3], n, |r| ours.copies(&round, r)));
     }
-    let [a, b, c, d] = times.map(|mut t| {
-        t.sort_by(f64::total_cmp);
-        Times(t)
-    });
+    let [a, b, c, d] = times.map(sorted);
     Row { case, ours: a, copied: b, theirs: c, memcpy: d }
+}
+
+/// The sum of a payload alone, as it was before and as it is now.
+struct SumRow {
+    size: usize,
+    before: Times,
+    now: Times,
+}
+
+fn sum_name(size: usize) -> String {
+    format!("sum alone, {}", size_name(size))
+}
+
+/// A loop of its own for each: a call that has gone to two places is not foreseen as fast as one that has not.
+fn summing<'a>(sum: impl Fn(&[u8]) -> u32 + Copy + 'a, payload: &'a [u8]) -> impl Fn(usize) + Copy + 'a {
+    move |rounds| {
+        for _ in 0..rounds {
+            black_box(sum(payload));
+        }
+    }
+}
+
+fn measure_sum(size: usize, repeats: usize, ms: f64) -> SumRow {
+    let payload = Random::new(size).bytes(MAX_PAYLOAD);
+    sum::compare(&payload);
+    let before = summing(sum::before, &payload[..size]);
+    let now = summing(sum::now, &payload[..size]);
+    let rounds = [rounds_for(ms, 1, before), rounds_for(ms, 1, now)];
+    let mut times = [(); 2].map(|()| Vec::new());
+    for _ in 0..repeats {
+        times[0].push(timed(rounds[0], 1, before));
+        times[1].push(timed(rounds[1], 1, now));
+    }
+    let [before, now] = times.map(sorted);
+    SumRow { size, before, now }
+}
+
+fn sum_table(rows: &[SumRow]) {
+    if rows.is_empty() {
+        return;
+    }
+    println!("### The sum alone\n");
+    println!("| size | before ns | now ns | before / now | before GB/s | now GB/s |");
+    println!("|---:|---:|---:|---:|---:|---:|");
+    for r in rows {
+        println!(
+            "| {} | {} | {} | {:.2} | {} | {} |",
+            size_name(r.size), r.before.show(), r.now.show(), r.before.best() / r.now.best(), rate(r.size, &r.before),
+            rate(r.size, &r.now)
+        );
+    }
+    println!();
 }
 
 fn overhead_table(rows: &[Row]) {
@@ -265,7 +324,7 @@ fn main() {
         }
     }
     for kind in KINDS.into_iter().skip(3) {
-        for size in [64, 4 << 10, 64 << 10, 1 << 20] {
+        for size in SIZES {
             for open in [1, 40] {
                 for delayed in [false, true] {
                     for sums in [false, true] {
@@ -282,9 +341,18 @@ fn main() {
         eprintln!("{}: ours {}, libadb {}", row.name(), row.ours.show(), row.theirs.show());
         rows.push(row);
     }
+    let mut sums = Vec::new();
+    for size in SIZES.into_iter().filter(|s| sum_name(*s).contains(text)) {
+        let row = measure_sum(size, repeats, ms);
+        eprintln!("{}: before {}, now {}", sum_name(size), row.before.show(), row.now.show());
+        sums.push(row);
+    }
     overhead_table(&rows);
     for kind in KINDS.into_iter().skip(3) {
         table(&rows, kind);
     }
-    goals(&rows);
+    sum_table(&sums);
+    if !rows.is_empty() {
+        goals(&rows);
+    }
 }
