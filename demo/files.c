@@ -324,6 +324,7 @@ static void empty(struct queue *q)
 
 static void run(int with_delayed, uint64_t seed, size_t size)
 {
+    const char *identity;
     uint32_t r;
     delayed = with_delayed;
     mode = delayed ? "delayed" : "plain";
@@ -336,8 +337,9 @@ static void run(int with_delayed, uint64_t seed, size_t size)
     rx = malloc(rx_len);
     opens = malloc(opens_len);
     if (!rx || !opens) die("no memory", rx_len, opens_len);
-    r = adb_make(state, sizeof state, CHANNELS, MAX_PAYLOAD, MAX_RX, INITIAL_ACK, delayed ? 0x01000001 : 0x01000000,
-                 DEVICE_MAX_PAYLOAD, 1, (uint8_t)delayed);
+    identity = delayed ? "device::ro.product.name=test;features=shell_v2,delayed_ack" : "device::ro.product.name=test;features=shell_v2";
+    r = adb_make_from_cnxn(state, sizeof state, CHANNELS, MAX_PAYLOAD, MAX_RX, INITIAL_ACK, delayed ? 0x01000001 : 0x01000000,
+                           DEVICE_MAX_PAYLOAD, (const uint8_t *)identity, strlen(identity), 1);
     if (r != ADB_DONE) die("make is refused", r, 0);
     for (size_t i = 0; i < size; i++) {
         const uint8_t byte = (uint8_t)below(256);

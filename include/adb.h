@@ -10,7 +10,8 @@
  *   - A buffer that is longer than needed is fine; the bytes past the need keep their values.
  *   - Any address will do. Calls are fastest where `answer` lies in one cache line and `out` begins 8 past a multiple of 16,
  *     since a payload behind its header then begins at one.
- *   - `state`: ADB_STATE_LEN bytes, filled by adb_make. Nothing else of a connection is kept between calls but the stores.
+ *   - `state`: ADB_STATE_LEN bytes, filled by adb_make or adb_make_from_cnxn. Nothing else of a connection is kept between
+ *     calls but the stores.
  *   - `rx`: the receive store, adb_rx_store_len bytes. `opens`: the open store, adb_open_store_len bytes. Both may hold
  *     anything when the connection is made.
  *   - `received`: what has arrived and has not been used yet, from the first byte of a frame on. It need only hold what is
@@ -23,6 +24,7 @@
  *
  * What a call may change, and nothing else:
  *   adb_make            state
+ *   adb_make_from_cnxn  state
  *   adb_open            state, rx, opens, out, answer
  *   adb_dispatch        state, rx, opens, out, answer
  *   adb_settle          state, out, answer
@@ -36,7 +38,7 @@
  * Refusals ahead of a call's steps, in this order; they change nothing but the answer:
  *   ADB_REFUSED_STORE_SHORT   the state is under ADB_STATE_LEN or the answer under ADB_ANSWER_LEN; no answer is written
  *   ADB_REFUSED_BROKEN_STATE  the state's bytes are not those of a connection (docs/LAYOUT.md)
- *   ADB_REFUSED_BAD_CONFIG    adb_make only
+ *   ADB_REFUSED_BAD_CONFIG    adb_make and adb_make_from_cnxn only
  *   ADB_REFUSED_STORE_SHORT   a store is under its length
  *   ADB_REFUSED_OUT_SHORT     `out` is under ADB_OUT_MIN
  *
@@ -93,7 +95,7 @@
 #define ADB_REFUSED_INVALID_CHECKSUM 4     /* the payload's sum is another; frame used */
 #define ADB_REFUSED_SHORT_READY_PAYLOAD 5  /* delayed: an OKAY under 4 bytes; frame used, an open's own is answered CLSE */
 #define ADB_REFUSED_UNEXPECTED_COMMAND 6   /* a WRTE for the pending open; frame used, CLSE written, nothing opened */
-#define ADB_REFUSED_BAD_CONFIG 7           /* adb_make: a limit is broken */
+#define ADB_REFUSED_BAD_CONFIG 7           /* adb_make, adb_make_from_cnxn: a limit is broken */
 #define ADB_REFUSED_STORE_SHORT 8          /* a store, the state or the answer is under its length */
 #define ADB_REFUSED_OUT_SHORT 9            /* out is under ADB_OUT_MIN, or too short for the OPEN or WRTE due */
 #define ADB_REFUSED_CHANNEL_CLOSED 10      /* no such channel, or closed; a CLSE that says so is used and closes it */
@@ -263,8 +265,15 @@ uint32_t adb_make(uint8_t *state, size_t state_len, size_t channels, uint32_t ma
                   uint32_t initial_ack_bytes, uint32_t version, uint32_t device_max_payload, uint8_t host_delayed_ack,
                   uint8_t device_delayed_ack);
 
-/* Opens a channel: the first call writes the OPEN, takes no packet and leaves it pending; later ones take a packet each, and do not look
- * at the destination. ADB_DONE: slot and local number. A refusal ends it, unless it is 8, 9 or 13. */
+/* The same from the device's CNXN itself: version, device_max_payload and identity are its arg0, arg1 and payload. The device
+ * lists delayed acknowledgement where its identity text has the property `features` with delayed_ack in its list: "features="
+ * begins the text after the second colon or follows a semicolon, and the list ends at the next semicolon. */
+uint32_t adb_make_from_cnxn(uint8_t *state, size_t state_len, size_t channels, uint32_t max_payload, size_t max_rx_per_channel,
+                            uint32_t initial_ack_bytes, uint32_t version, uint32_t device_max_payload,
+                            const uint8_t *identity, size_t identity_len, uint8_t host_delayed_ack);
+
+/* Opens a channel: the first call writes the OPEN, takes no packet and leaves it pending; later ones take a packet each, and
+ * do not look at the destination. ADB_DONE: slot and local number. A refusal ends it, unless it is 8, 9 or 13. */
 uint32_t adb_open(uint8_t *state, size_t state_len, uint8_t *rx, size_t rx_len, uint8_t *opens, size_t opens_len,
                   const uint8_t *destination, size_t destination_len, const uint8_t *received, size_t received_len,
                   uint8_t *out, size_t out_len, uint8_t *answer, size_t answer_len);

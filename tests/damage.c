@@ -610,13 +610,30 @@ static void short_frames(void)
 
 static uint64_t makes;
 
-static void one_make(size_t state_len, size_t channels, uint32_t payload, size_t max_rx, uint32_t ack, uint32_t version,
-                     uint32_t device_max, uint8_t host, uint8_t device, uint32_t want)
+/* Identity texts that list delayed_ack, and ones that do not. */
+static const char *const listing[] = { "device::features=delayed_ack", "device::a=1;features=shell_v2,delayed_ack;b=2",
+                                       "x;features=delayed_ack", "device::features=cmd,,delayed_ack,;features=cmd" };
+static const char *const other[] = { "", "delayed_ack", "device::features=shell_v2,cmd;delayed_ack", "device::features=",
+                                     "device::ro.features=delayed_ack;features=cmd", "features=delayed_ack",
+                                     "device::features=cmd;features=delayed_ack", "device::features=delayed_ack2" };
+
+/* By the device's flag, or by a text that says the same. */
+static uint32_t make_by(int by_text, size_t channels, uint32_t payload, size_t max_rx, uint32_t ack, uint32_t version,
+                        uint32_t device_max, uint8_t host, uint8_t device)
+{
+    const char *text = device ? listing[below(sizeof listing / sizeof *listing)] : other[below(sizeof other / sizeof *other)];
+    if (!by_text) return adb_make(ptr(STATE), len[STATE], channels, payload, max_rx, ack, version, device_max, host, device);
+    return adb_make_from_cnxn(ptr(STATE), len[STATE], channels, payload, max_rx, ack, version, device_max,
+                              (const uint8_t *)text, strlen(text), host);
+}
+
+static void one_make_by(int by_text, size_t state_len, size_t channels, uint32_t payload, size_t max_rx, uint32_t ack,
+                        uint32_t version, uint32_t device_max, uint8_t host, uint8_t device, uint32_t want)
 {
     uint8_t fresh[ADB_STATE_LEN];
     uint32_t said;
     lend(STATE, NULL, state_len);
-    said = adb_make(ptr(STATE), len[STATE], channels, payload, max_rx, ack, version, device_max, host, device);
+    said = make_by(by_text, channels, payload, max_rx, ack, version, device_max, host, device);
     makes++;
     if (!guards(STATE)) fault("guard bytes", STATE, said);
     if (said != want) fault("make", want, said);
@@ -635,6 +652,13 @@ static void one_make(size_t state_len, size_t channels, uint32_t payload, size_t
     fresh[ADB_STATE_DELAYED] = host && device;
     if (memcmp(at(STATE), fresh, sizeof fresh) || !same(STATE, ADB_STATE_LEN)) fault("a fresh state's bytes", channels, payload);
     if (!is_whole(at(STATE))) fault("a fresh state is not whole", channels, payload);
+}
+
+static void one_make(size_t state_len, size_t channels, uint32_t payload, size_t max_rx, uint32_t ack, uint32_t version,
+                     uint32_t device_max, uint8_t host, uint8_t device, uint32_t want)
+{
+    for (int by_text = 0; by_text < 2; by_text++)
+        one_make_by(by_text, state_len, channels, payload, max_rx, ack, version, device_max, host, device, want);
 }
 
 static void make_limits(void)

@@ -1,10 +1,16 @@
 #!/usr/bin/env python3
 """Writes the calls that crates/replay_protocol replays, one a line; docs/VECTORS.md says how they are answered.
 
+    protocol.py                the calls that libadb answers too; left out are those on which its reading of a
+                               feature list and ours differ, and how many is said at the end, on standard error
+    protocol.py --texts        calls of has_feature on the texts below that are or stand for real ones
+    protocol.py --answers      what those must answer
+
     decode LIMIT BYTES        missing BYTES        has_feature TEXT NAME        BYTES in hexadecimal, - for none
 """
 import random
 import struct
+import sys
 
 rng = random.Random(1)
 COMMANDS = [b"SYNC", b"CNXN", b"OPEN", b"OKAY", b"CLSE", b"WRTE", b"AUTH", b"STLS"]
@@ -26,16 +32,85 @@ def frame(name, arg0=1, arg1=7, data=b"", check=0, length=None, magic=None):
                   word ^ TOP if magic is None else magic) + data
 
 
+calls = {"decode": 0, "missing": 0, "has_feature": 0}
+left_out = []
+
+
+def call(kind, *words):
+    calls[kind] += 1
+    print(kind, *words)
+
+
 def decode(limit, data):
-    print("decode", limit, hexed(data))
+    call("decode", limit, hexed(data))
 
 
 def missing(data):
-    print("missing", hexed(data))
+    call("missing", hexed(data))
+
+
+def begins(text, i):
+    """A property begins at place i: behind a semicolon, or behind the second colon."""
+    return i > 0 and (text[i - 1:i] == b";" or text[i - 1:i] == b":" and text[:i - 1].count(b":") == 1)
+
+
+def our_reading(text, name):
+    """hasFeature of crates/features/specs/Features.antt."""
+    for i in range(len(text)):
+        if begins(text, i) and text[i:i + 9] == b"features=":
+            return name in text[i + 9:].split(b";")[0].split(b",")
+    return False
+
+
+def first_reading(text, name):
+    """libadb's has_feature, firstReading of crates/features/specs/Differ.antt."""
+    at = text.find(b"features=")
+    return at >= 0 and name in text[at + 9:].replace(b";", b",").split(b",")
+
+
+def differs(text, name):
+    return our_reading(text, name) != first_reading(text, name)
 
 
 def has_feature(text, name):
-    print("has_feature", hexed(text), hexed(name))
+    if differs(text, name):
+        left_out.append((text, name))
+    else:
+        call("has_feature", hexed(text), hexed(name))
+
+
+# Identity texts, the names that they list, and names that they do not. In turn: what AOSP's host sent (34.0.5 as Debian
+# packages it, with delayed acknowledgement, as recorded); what a test device answered it, three times; the texts of
+# AOSP's own tests (transport_test.cpp); a device's, put together as AOSP's adbd does (adb.cpp); texts whose other
+# properties name a feature, the first of them as the tablet's that libadb's reading took for one with the feature.
+AOSP = (b"shell_v2,cmd,stat_v2,ls_v2,fixed_push_mkdir,apex,abb,fixed_push_symlink_timestamp,abb_exec,remount_shell,track_app,"
+        b"sendrecv_v2,sendrecv_v2_brotli,sendrecv_v2_lz4,sendrecv_v2_zstd,sendrecv_v2_dry_run_send,openscreen_mdns,delayed_ack")
+TEST = b"device::ro.product.name=x;ro.product.model=y;ro.product.device=z;features="
+PHONE = b"device::ro.product.name=sdk_gphone64_x86_64;ro.product.model=sdk_gphone64_x86_64;ro.product.device=emu64xa;"
+REAL = [
+    (b"host::features=" + AOSP, AOSP.split(b","), [b"", b"shell", b"v2", b"delayed", b"abb,fixed_push_symlink_timestamp", b"x"]),
+    (TEST + b"shell_v2,cmd", [b"shell_v2", b"cmd"], [b"", b"delayed_ack", b"x", b"z"]),
+    (TEST + b"shell_v2,cmd,stat_v2,ls_v2", [b"shell_v2", b"stat_v2", b"ls_v2"], [b"delayed_ack", b"features"]),
+    (TEST + b"shell_v2,cmd,delayed_ack", [b"delayed_ack"], [b"stat_v2", b"delayed_ac"]),
+    (b"host::", [], [b"", b"delayed_ack"]),
+    (b"host::ro.product.name=foo;ro.product.model=bar;ro.product.device=baz;", [], [b"", b"foo", b"bar", b"delayed_ack"]),
+    (b"host::ro.product.name=foo;ro.product.model=bar;ro.product.device=baz;features=woodly,doodly", [b"woodly", b"doodly"],
+     [b"", b"foo", b"baz", b"woodly,doodly"]),
+    (PHONE + b"features=" + AOSP, AOSP.split(b","), [b"", b"emu64xa", b"ro.product.model=sdk_gphone64_x86_64"]),
+    (b"device::features=shell_v2,cmd;delayed_ack", [b"shell_v2", b"cmd"], [b"delayed_ack", b""]),
+    (b"device::features=shell_v2,cmd;delayed_ack=1", [b"shell_v2", b"cmd"], [b"delayed_ack", b"delayed_ack=1"]),
+    (PHONE + b"features=shell_v2,cmd;delayed_ack;ro.product.board=x", [b"shell_v2", b"cmd"], [b"delayed_ack"]),
+    (PHONE + b"features=shell_v2,cmd;ro.product.features=delayed_ack", [b"shell_v2", b"cmd"], [b"delayed_ack"]),
+    (b"device::ro.product.features=delayed_ack;features=shell_v2,cmd", [b"shell_v2", b"cmd"], [b"delayed_ack"]),
+]
+if len(sys.argv) > 1:
+    for text, lists, lacks in REAL:
+        for name in lists + lacks:
+            if sys.argv[1] == "--answers":
+                print("feature", "yes" if name in lists else "no", "used=0")
+            else:
+                print("has_feature", hexed(text), hexed(name))
+    sys.exit()
 
 
 # every command, with and without a payload, and cut and continued around the header's end
@@ -110,12 +185,31 @@ decode(MAX, frame(b"WRTE", data=data, check=sum(data)))
 decode(MAX, frame(b"WRTE", data=data, check=sum(data) + 1))
 decode(16383, frame(b"WRTE", data=data, check=sum(data)))
 
-# the feature list: the first name counts, both cuts, empty parts, empty names, near misses
+# the feature list: where a property begins, the first of two, both cuts, empty parts, empty names, near misses
 TEXTS = [b"", b"features", b"features=", b"features=a", b"device::features=a;b", b"device::features=a,b", b"device::features=a,b;c,",
          b"device::ro.x=1;features=shell_v2,delayed_ack;", b"xfeatures=a", b"features=a;features=b", b"features=features=a",
          b"featurefeatures=a", b"features=,,;", b"features=;a", b"Features=a", b"features =a", b"features=delayed_ack2,delayed_ack",
          b"features=delayed_acK", b"delayed_ack", b"features=\0,\xff", b"a;b,c", b"featuresfeatures=b"]
-NAMES = [b"", b"a", b"b", b"c", b"delayed_ack", b"shell_v2", b"features=b", b"features=a", b"a;b", b"a,b", b"\0", b"\xff", b"delayed_ac"]
+TEXTS += [b"device::", b"device::features", b"device::features=", b"device::features=a", b"device::features=a,b,c", b"::features=,,",
+          b"device::features=,a,", b"device:serial:x=1;features=a,b", b":a:features=b", b"a;features=b,c", b";features=delayed_ack",
+          b"a:b;features=c", b"::features=a:b,c", b"a:features=a", b"a:b:c:features=a", b"device::x=1:features=a",
+          b"device::features=a;features=b", b"device::xfeatures=a;features=b", b"device::x=features;features=b",
+          b"device::features=features=a", b"device::features=delayed_ack2,delayed_ack", b"device::features=delayed_acK",
+          b"device::Features=a", b"device::features =a", b"device::features=\0,\xff", b"device::features=shell_v2;x=delayed_ack",
+          b"features=a::features=b", b"a;features=b:c:features=a", b"device::,features=a", b"device::=;=features=a;b"]
+NAMES = [b"", b"a", b"b", b"c", b"delayed_ack", b"shell_v2", b"features=b", b"features=a", b"a;b", b"a,b", b"\0", b"\xff", b"delayed_ac",
+         b"a:b"]
 for text in TEXTS:
     for name in NAMES:
         has_feature(text, name)
+
+# texts put together by chance, and a name that is likely to stand in them
+PIECES = [b"device::", b"::", b":", b";", b";", b",", b",", b"a", b"b", b"delayed_ack", b"=", b"x=", b"features", b"features=", b"features="]
+for _ in range(600):
+    start = rng.choice([b"", b"device::", b"device::x=1;", b"device::features=", b"a;features=", b"a:"])
+    text = start + b"".join(rng.choice(PIECES) for _ in range(rng.randrange(10)))
+    has_feature(text, rng.choice([b"", b"a", b"b", b"delayed_ack", b"ab"] + text[text.rfind(b"=") + 1:].replace(b";", b",").split(b",")))
+
+kinds = ", ".join(f"{n} of {kind}" for kind, n in calls.items())
+print(f"{sum(calls.values())} calls: {kinds}; {len(left_out)} more of has_feature left out, on which the readings differ "
+      f"({len({text for text, _ in left_out})} texts)", file=sys.stderr)

@@ -248,6 +248,13 @@ int main(void)
             opens = lend(adb_open_store_len(ch, mp), 0x55);
             const uint32_t code = adb_make(state.at, state.len, ch, mp, mr, ia, ver, dm, hd, dd);
             made = code == ADB_DONE;
+            /* By the text of a CNXN that says what the flag says: the same number and the same bytes. */
+            const char *text = dd ? "device::a=1;features=cmd,delayed_ack;b=2" : "device::features=cmd,shell_v2;delayed_ack";
+            struct lent twin = lend(ADB_STATE_LEN, 0x33);
+            if (adb_make_from_cnxn(twin.at, twin.len, ch, mp, mr, ia, ver, dm, (const uint8_t *)text, strlen(text), hd) != code ||
+                memcmp(twin.at, state.at, ADB_STATE_LEN))
+                fault("a make by the identity text");
+            free(twin.base);
             if (made)
                 printf("made cap=%zu max=%" PRIu32 " version=%" PRIu32 " delayed=%d used=0 out=- got=-", cap(),
                        word_at(ADB_STATE_DEVICE_MAX_PAYLOAD), word_at(ADB_STATE_VERSION), state.at[ADB_STATE_DELAYED]);

@@ -205,8 +205,8 @@ module _ (state rx store : List ℕ) where
 
 -- ---- make
 
-pub makes-is : (c : ConnectionConfig) (a b h d : ℕ) (host device : Bool) (state state' : List ℕ) (said : Answer) (r : ℕ) → host ≡ isYes h → device ≡ isYes d
-    → Makes (makeIn c a b host device state) said state' → r ≡ answerNumber said → MakesState (makeIn c a b (isYes h) (isYes d) state) r state'
-makes-is c a b h d host device state state' said r e f g k =
+pub makes-is : (c : ConnectionConfig) (a b h : ℕ) (host device said-device : Bool) (state state' : List ℕ) (said : Answer) (r : ℕ) → host ≡ isYes h
+    → device ≡ said-device → Makes (makeIn c a b host device state) said state' → r ≡ answerNumber said → MakesState (makeIn c a b (isYes h) said-device state) r state'
+makes-is c a b h host device said-device state state' said r e f g k =
     let g₁ = subst (λ (x : Bool). Makes (makeIn c a b (isYes h) x state) said state') f (subst (λ (x : Bool). Makes (makeIn c a b x device state) said state') e g) in
     record { number-is = k ∙ ap answerNumber (g₁ .answer-is); state-is = g₁ .state-is }

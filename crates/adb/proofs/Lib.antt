@@ -1,2 +1,3 @@
+pub mod Begins
 pub mod ExportLaws
 pub mod Theorems

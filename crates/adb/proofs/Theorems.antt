@@ -170,7 +170,7 @@ module _ (m : Making) where
         version = m .version;
         most = m .most;
         host = isYes (m .host);
-        device = isYes (m .device);
+        device = m .device;
         state = m .state;
         rx = m .rx;
         store = m .store;

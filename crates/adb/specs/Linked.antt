@@ -1,9 +1,9 @@
 -- Lists of calls through the exported functions, and what the theorems say of them: whatever a C program can do with them after
--- an adb_make that answered 0, short answers included, with the state and both stores lent whole as the last call left them.
+-- an adb_make or adb_make_from_cnxn that answered 0, short answers included, with the state and both stores lent whole as the last call left them.
 -- Assumes nothing.
 use Prim.Native.Nat.{ℕ, _<_, _^_}
 use mathlib.Core.Path.{_≡_}
-use mathlib.Core.Bool.{true}
+use mathlib.Core.Bool.{Bool, true}
 use mathlib.Core.List.{List, [], _∷_, map}
 use lib.ListN.{length, drop, getD}
 use Rattle.config.specs.declared.ConnectionConfig.{ConnectionConfig}
@@ -92,19 +92,20 @@ ReadsAt i xs = ReadOnly i (map (λ (x : Step). x .call) xs)
 
 -- ---- where it begins
 
--- an adb_make that answered 0: its arguments, the state as it left it, and both stores as they are lent from then on
+-- a make that answered 0, by either function: its arguments, with whether the device lists delayed acknowledgement, the state as it
+-- left it, and both stores as they are lent from then on
 pub record Making : Type 0 where
   pub config : ConnectionConfig
   pub version : ℕ
   pub most : ℕ
   pub host : ℕ
-  pub device : ℕ
+  pub device : Bool
   pub state : List ℕ
   pub left : List ℕ
   pub rx : List ℕ
   pub store : List ℕ
   pub number : ℕ
-  pub makes : MakesState (makeIn config version most (isYes host) (isYes device) state) number left
+  pub makes : MakesState (makeIn config version most (isYes host) device state) number left
   pub done : number ≡ 0
 
 -- what the first call is lent
@@ -113,7 +114,7 @@ lendsBy m = worldOf (m .left) (m .rx) (m .store)
 
 -- what was negotiated
 abbrev pub agreedBy : Making → Negotiated
-agreedBy m = negotiatedOf (isYes (m .host)) (isYes (m .device)) (m .version) (m .most) (m .config)
+agreedBy m = negotiatedOf (isYes (m .host)) (m .device) (m .version) (m .most) (m .config)
 
 -- and the receive policy that follows from it
 abbrev pub policyBy : Making → RxPolicy

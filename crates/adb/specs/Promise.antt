@@ -1,7 +1,7 @@
 -- What each exported function promises, in the terms of `exported` and of `makeIn`. Assumes nothing.
 use mathlib.Core.List.{List, []}
 use Prim.Native.Nat.{ℕ}
-use Rattle.call_make.specs.Make.{makeIn}
+use Rattle.call_make.specs.Make.{makeIn, makeFrom}
 use Rattle.history.specs.Run.{openCall, dispatchCall, settleCall, takeCall, readCall, writeCall, closeCall, frontTaken}
 use Rattle.adb.specs.Export.{worldOf, exported, Does, isYes, MakesState}
 
@@ -55,4 +55,11 @@ abbrev pub AdbMakeDoes : List ℕ → ℕ → ℕ → ℕ → ℕ → ℕ → �
 AdbMakeDoes state channels «max_payload» «max_rx_per_channel» «initial_ack_bytes» version «device_max_payload» «host_delayed_ack» «device_delayed_ack» r state' =
     MakesState
     (makeIn (record { channels = channels; «max_payload» = «max_payload»; «max_rx_per_channel» = «max_rx_per_channel»; «initial_ack_bytes» = «initial_ack_bytes» }) version «device_max_payload» (isYes «host_delayed_ack») (isYes «device_delayed_ack») state)
+    r state'
+
+-- what `adb_make_from_cnxn` promises
+abbrev pub AdbMakeFromCnxnDoes : List ℕ → ℕ → ℕ → ℕ → ℕ → ℕ → ℕ → List ℕ → ℕ → ℕ → List ℕ → Type 0
+AdbMakeFromCnxnDoes state channels «max_payload» «max_rx_per_channel» «initial_ack_bytes» version «device_max_payload» identity «host_delayed_ack» r state' =
+    MakesState
+    (makeFrom (record { channels = channels; «max_payload» = «max_payload»; «max_rx_per_channel» = «max_rx_per_channel»; «initial_ack_bytes» = «initial_ack_bytes» }) version «device_max_payload» (isYes «host_delayed_ack») identity state)
     r state'

@@ -4,6 +4,7 @@ use call::Reply;
 use call_close::close;
 use call_dispatch::dispatch;
 use call_make::make;
+use call_make::make_from;
 use call_open::open;
 use call_read::read;
 use call_settle::settle;
@@ -24,6 +25,7 @@ ghost use Rattle.le.specs.Le.{bytesOf, put};
 ghost use Rattle.le.specs.Rows.{flat};
 ghost use Rattle.connection.specs.Answer.{answerNumber, answerValues, ackLength, refusalWord};
 ghost use Rattle.adb.specs.Export.{valuesIn, numbersOf, answerBytes, saidIn, isShort, isYes};
+ghost use Rattle.adb.specs.Promise.{AdbMakeFromCnxnDoes};
 ghost use Rattle.adb.specs.Promise.{AdbCloseDoes, AdbDispatchDoes, AdbMakeDoes, AdbOpenDoes, AdbReadDoes, AdbSettleDoes, AdbTakeDoes};
 ghost use Rattle.adb.specs.Promise.{AdbTakeFrontDoes, AdbWriteDoes};
 
@@ -362,5 +364,32 @@ pub extern "C" fn adb_make(
     let host = is_yes(host_delayed_ack);
     let device = is_yes(device_delayed_ack);
     let answer = make(state, config, version, device_max_payload, host, device);
+    answer.number()
+}
+
+// The same from the device's CNXN itself: whether the device lists delayed acknowledgement is found from its payload.
+#[no_mangle]
+pub extern "C" fn adb_make_from_cnxn(
+    state: &mut [u8],
+    channels: usize,
+    max_payload: u32,
+    max_rx_per_channel: usize,
+    initial_ack_bytes: u32,
+    version: u32,
+    device_max_payload: u32,
+    identity: &[u8],
+    host_delayed_ack: u8,
+) -> u32
+    ensures { λ r. ⌜ AdbMakeFromCnxnDoes (now (state .entry)) channels «max_payload» «max_rx_per_channel» «initial_ack_bytes» version
+        «device_max_payload» (now (identity .entry)) «host_delayed_ack» r (now (state .exit)) ⌝ }
+{
+    let config = ConnectionConfig {
+        channels,
+        max_payload,
+        max_rx_per_channel,
+        initial_ack_bytes,
+    };
+    let host = is_yes(host_delayed_ack);
+    let answer = make_from(state, config, version, device_max_payload, host, identity);
     answer.number()
 }

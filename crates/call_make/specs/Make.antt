@@ -2,10 +2,11 @@
 use Prim.Native.Nat.{ℕ}
 use mathlib.Core.Path.{_≡_}
 use mathlib.Core.Bool.{Bool, cond}
-use mathlib.Core.List.{List}
+use mathlib.Core.List.{List, [], _∷_}
 use lib.Dec.{ltb}
 use lib.ListN.{length, replicate}
 use Rattle.config.specs.declared.ConnectionConfig.{ConnectionConfig}
+use Rattle.features.specs.Features.{hasFeature}
 use Rattle.incoming.specs.Incoming.{noneQueued}
 use Rattle.slot.specs.Slot.{emptySlot}
 use Rattle.le.specs.Rows.{flat}
@@ -26,6 +27,14 @@ emptyQueue n = flat queuedBytes (replicate n noneQueued)
 -- refusal 8 for a state that is too short, and nothing changes; else what the definition says
 unfoldable pub makeIn : ConnectionConfig → ℕ → ℕ → Bool → Bool → List ℕ → Made
 makeIn c a b host device state = cond (ltb (length state) stateLen) (record { answer = Refused StoreShort; state = state }) (makeOf c a b host device state)
+
+-- "delayed_ack"
+abbrev pub delayedAck : List ℕ
+delayedAck = 100 ∷ 101 ∷ 108 ∷ 97 ∷ 121 ∷ 101 ∷ 100 ∷ 95 ∷ 97 ∷ 99 ∷ 107 ∷ []
+
+-- the same from the device's CNXN itself: whether it lists delayed acknowledgement is found from its payload, the identity text
+abbrev pub makeFrom : ConnectionConfig → ℕ → ℕ → Bool → List ℕ → List ℕ → Made
+makeFrom c a b host identity state = makeIn c a b host (hasFeature identity delayedAck) state
 
 -- what `make` promises: the answer, and every byte of the state
 pub record Makes (m : Made) (r : Answer) (state : List ℕ) : Type 0 where

@@ -3,6 +3,7 @@ use config::ConnectionConfig;
 use config::negotiated::Negotiated;
 use connection::Answer;
 use connection::Refusal;
+use features::has_feature;
 use slot::ChannelSlot;
 use slot::ids::LocalId;
 use slot::ids::RemoteId;
@@ -19,7 +20,7 @@ ghost use lib.ListN.{length};
 ghost use Rattle.le.specs.Le.{put};
 ghost use Rattle.incoming.specs.Incoming.{noneQueued};
 ghost use Rattle.connection.specs.Calls.{fresh};
-ghost use Rattle.call_make.specs.Make.{emptySlots, emptyQueue, makeIn, Makes};
+ghost use Rattle.call_make.specs.Make.{emptySlots, emptyQueue, makeIn, makeFrom, Makes};
 ghost use Rattle.state.specs.State.{headerLen, queueAt, stateLen};
 
 // 64 slots with no channel.
@@ -104,4 +105,27 @@ pub fn make(
         return Answer::Done;
     }
     Answer::Refused(Refusal::BadConfig)
+}
+
+// The same, where the payload of the device's CNXN, its identity text, says whether it lists delayed acknowledgement.
+pub fn make_from(
+    state: &mut [u8],
+    config: ConnectionConfig,
+    version: u32,
+    max_payload: u32,
+    host_delayed_ack: bool,
+    identity: &[u8],
+) -> Answer
+    ensures { λ r. ⌜ Makes (makeFrom config version «max_payload» «host_delayed_ack» (now (identity .entry)) (now (state .entry))) r
+        (now (state .exit)) ⌝ }
+{
+    let device_delayed_ack = has_feature(identity, b"delayed_ack");
+    make(
+        state,
+        config,
+        version,
+        max_payload,
+        host_delayed_ack,
+        device_delayed_ack,
+    )
 }

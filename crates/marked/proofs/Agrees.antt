@@ -4,7 +4,7 @@ use mathlib.Core.List.{map}
 use Rattle.le.specs.Le.{numOf, bytesOf, signed, part}
 use Rattle.checksum.specs.Checksum.{total, sumOf, checkFor}
 use Rattle.protocol.specs.Command.{lettersOf, wordOf, magicOf, commands, amongOf, commandOf}
-use Rattle.features.specs.Features.{sameBytes, afterName, isCut, onFirst, partsOf, anySame, listed, hasFeature}
+use Rattle.features.specs.Features.{sameBytes, colonsIn, colonAfter, begins, named, afterName, firstPart, onFirst, partsOf, anySame, listed, hasFeature}
 use Rattle.protocol.specs.Message.{messageOf, headerBytes}
 use Rattle.protocol.specs.Packet.{payloadOf, checkPasses, packetOf, knownOf, namedOf, decodeOf, decodedNumber, usedOf, messageFor, packetBytes}
 use Rattle.config.specs.Config.{capOf, ceilingOf, watermarkOf, openingCredit}
@@ -23,5 +23,5 @@ use Rattle.table_dispatch.specs.Dispatch.{remotePlace, closedAt, closeOf, route
 use Rattle.marked.specs.Marked.{Row, table}
 
 pub agrees : map (λ (r : Row). r .given) table ≡ map (λ (r : Row). r .said) table
-unfolding table numOf bytesOf part total sumOf checkFor lettersOf wordOf magicOf commands amongOf commandOf sameBytes afterName isCut onFirst partsOf anySame listed hasFeature messageOf headerBytes payloadOf checkPasses packetOf knownOf namedOf decodeOf decodedNumber usedOf messageFor packetBytes signed capOf ceilingOf watermarkOf openingCredit fitsBehind appendedHead takenHead clamp satSum creditNumber readiedNumber decisionNumber takenNumber errorNumber creditOf openingSlot acceptedSlot isOpening isClosed readyBy readyOf heldOf acksNow bufferedWith wroteOf someLen ackLenOf hasData settledBy settledSome settledOf takeLen tookOf takenOf errorOf nextLocal both negotiatedOf policyOf actedBy tableOf actOn answerNumber ends unlessFault receivedBy receivedOf dispatchBy dispatchStep staysBy kept withdrawal slotIn remotePlace closedAt closeOf routeOf dispatchOf
+unfolding table numOf bytesOf part total sumOf checkFor lettersOf wordOf magicOf commands amongOf commandOf sameBytes colonsIn colonAfter begins named afterName firstPart onFirst partsOf anySame listed hasFeature messageOf headerBytes payloadOf checkPasses packetOf knownOf namedOf decodeOf decodedNumber usedOf messageFor packetBytes signed capOf ceilingOf watermarkOf openingCredit fitsBehind appendedHead takenHead clamp satSum creditNumber readiedNumber decisionNumber takenNumber errorNumber creditOf openingSlot acceptedSlot isOpening isClosed readyBy readyOf heldOf acksNow bufferedWith wroteOf someLen ackLenOf hasData settledBy settledSome settledOf takeLen tookOf takenOf errorOf nextLocal both negotiatedOf policyOf actedBy tableOf actOn answerNumber ends unlessFault receivedBy receivedOf dispatchBy dispatchStep staysBy kept withdrawal slotIn remotePlace closedAt closeOf routeOf dispatchOf
 agrees = refl

@@ -189,5 +189,5 @@ table =
     ∷ row 8 (wrote (wroteOf (four .slot) ten 8)) (0 ∷ 10 ∷ [])
     ∷ row 8 (took (takenOf (wroteOf (four .slot) ten 8 .slot) 3)) (0 ∷ 3 ∷ 1 ∷ [])
     ∷ row 9 (withdrew zeros clse) (0 ∷ 24 ∷ flag false ++ 1 ∷ [])
-    ∷ row 10 (flag (hasFeature identity (98 ∷ []))) (flag true)
+    ∷ row 10 (flag (hasFeature identity (98 ∷ []))) (flag false)
     ∷ []

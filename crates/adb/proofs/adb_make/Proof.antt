@@ -24,8 +24,8 @@ returns c =
     let at-is-yes2 = at-make .before .before in
     let at-is-yes = at-is-yes2 .before in
     let start = at-is-yes .before .before in
-    makes-is _ (start .args .version) (start .args .device-max-payload) (start .args .host-delayed-ack) (start .args .device-delayed-ack)
-    (at-is-yes .is-yes .result) (at-is-yes2 .is-yes2 .result) (start .args .state .now) _ (at-make .make .result) _ (at-is-yes .is-yes .ensures)
+    makes-is _ (start .args .version) (start .args .device-max-payload) (start .args .host-delayed-ack) (at-is-yes .is-yes .result)
+    (at-is-yes2 .is-yes2 .result) _ (start .args .state .now) _ (at-make .make .result) _ (at-is-yes .is-yes .ensures)
     (at-is-yes2 .is-yes2 .ensures) (at-make .make .ensures) (c .number .ensures)
 
 pub adb-make-spec : {M : Type 1} → statement M

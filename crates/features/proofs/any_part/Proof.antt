@@ -27,7 +27,7 @@ sub-same c = search needs
 fits : (c : tie.After-part-end Inv-loop μ-loop) → c .part-end .result ≤ length (c .before .before .before .before .args .list .now)
 fits c =
     let start = c .before .before .before .before in
-    end-fits (start .args .list .now) (c .before .loop .at) (c .part-end .result) (c .before .loop .inv .0) (c .part-end .ensures)
+    end-fits _ (start .args .list .now) (c .before .loop .at) (c .part-end .result) (c .before .loop .inv .0) (c .part-end .ensures)
 
 part-same-start : tie.Need-part-same-start Inv-loop μ-loop
 part-same-start c = omega (arith, fits c)
@@ -50,10 +50,13 @@ returns c =
 
 returns-2 : tie.Need-returns-2 Inv-loop μ-loop
 returns-2 c =
-    let p = c .before .before .before .before in
+    let at-same = c .before .before in
+    let there = at-same .before .before in
+    let p = there in
     let a = p .before .before .before .before .args in
     let l = p .before .loop in
-    let e = any-none (a .list .now) (l .at) (p .part-end .result) (l .inv .0) (p .part-end .ensures) (a .name .now) (sym (c .before .before .same .ensures) ∙ c .before .if1 .left) (omega arith) in
+    let e = any-none (a .list .now) (l .at) (p .part-end .result) (l .inv .0) (p .part-end .ensures) (a .name .now)
+    (sym (at-same .same .ensures) ∙ c .before .if1 .left) (omega arith) in
     sym (l .inv .1 ∙ e)
 
 add-at : tie.Need-add-at Inv-loop μ-loop
@@ -64,10 +67,13 @@ loop-less c = omega (arith, fits (c .before .before .before .before))
 
 loop-again : tie.Need-loop-again Inv-loop μ-loop
 loop-again c =
-    let p = c .before .before .before .before in
+    let at-same = c .before .before in
+    let there = at-same .before .before in
+    let p = there in
     let a = p .before .before .before .before .args in
     let l = p .before .loop in
-    let e = any-more (a .list .now) (l .at) (p .part-end .result) (l .inv .0) (p .part-end .ensures) (a .name .now) (sym (c .before .before .same .ensures) ∙ c .before .if1 .left) (λ z. omega arith) in
+    let e = any-more (a .list .now) (l .at) (p .part-end .result) (l .inv .0) (p .part-end .ensures) (a .name .now)
+    (sym (at-same .same .ensures) ∙ c .before .if1 .left) (λ z. omega arith) in
     (omega (arith, fits p), l .inv .1 ∙ e)
 
 pub any-part-spec : {M : Type 1} → statement M

@@ -1,7 +1,7 @@
-use mathlib.Core.Path.{_≡_, sym, _∙_}
-use Prim.Native.Nat.{_≤_, _-_}
+use mathlib.Core.Path.{_≡_, sym, ap, _∙_}
+use Prim.Native.Nat.{ℕ, suc, _≤_, _-_}
 use native.Mathlib.Omega.{arith}
-use lib.ListN.{length, drop, length-drop}
+use lib.ListN.{length}
 use Rattle.features.specs.Features.{afterName}
 use Rattle.features.proofs.FeaturesLaws.{after-short, after-found, after-step}
 use borrow.Author.Needs.{needs}
@@ -9,58 +9,54 @@ use Rattle.features.proofs.find_list.Statement.{statement}
 use Rattle.features.proofs.find_list.Tie as tie
 
 abbrev Inv-loop : tie.InvT-loop
-Inv-loop banner i₀ t4 i = (i ≤ length banner) × (afterName banner ≡ afterName (drop i banner))
+Inv-loop banner start left₀ left = (left ≤ length banner) × (afterName banner 0 (length banner) ≡ afterName banner (length banner - left) left)
 
 abbrev μ-loop : tie.MeasureT-loop
-μ-loop banner i₀ t4 i = length banner - i
+μ-loop banner start left₀ left = left
+
+after-colons-requires : tie.Need-after-colons-requires Inv-loop μ-loop
+after-colons-requires c κs = search needs
 
 loop-holds : tie.Need-loop-holds Inv-loop μ-loop
-loop-holds c = search needs
+loop-holds c =
+    let t = c .before .before .args .banner .now in
+    let e : length t - length t ≡ 0 = omega arith in
+    (omega arith, rw e)
 
-sub-loop : tie.Need-sub-loop Inv-loop μ-loop
-sub-loop c = search needs
+sub-at : tie.Need-sub-at Inv-loop μ-loop
+sub-at c = search needs
+
+is-named-requires : tie.Need-is-named-requires Inv-loop μ-loop
+is-named-requires c κs = (omega arith, c .before .before .after-colons .ensures)
 
 add-end : tie.Need-add-end Inv-loop μ-loop
 add-end c = search needs
 
-sub-same : tie.Need-sub-same Inv-loop μ-loop
-sub-same c = search needs
-
-part-same-start : tie.Need-part-same-start Inv-loop μ-loop
-part-same-start c = search needs
-
-part-same-end : tie.Need-part-same-end Inv-loop μ-loop
-part-same-end c = search needs
-
-slice-aggregate-same : tie.Need-slice-aggregate-same Inv-loop μ-loop
-slice-aggregate-same c = search needs
-
-same-requires : tie.Need-same-requires Inv-loop μ-loop
-same-requires c κs = search needs
-
 returns : tie.Need-returns Inv-loop μ-loop
 returns c =
-    let a = c .before .before .before .before .before .before .before .args in
-    let l = c .before .before .before .before .before .loop in
-    (omega arith, l .inv .1 ∙ after-found (a .banner .now) (l .i) (omega arith) (sym (c .before .same .ensures) ∙ c .if1 .taken))
+    let t = c .before .before .before .before .before .before .args .banner .now in
+    let l = c .before .before .before .loop in
+    (omega arith, l .inv .1 ∙ after-found t (length t - l .left) (l .left) (omega arith) (sym (c .before .is-named .ensures) ∙ c .if1 .taken))
 
-add-i : tie.Need-add-i Inv-loop μ-loop
-add-i c = search needs
+sub-left : tie.Need-sub-left Inv-loop μ-loop
+sub-left c = search needs
 
 loop-less : tie.Need-loop-less Inv-loop μ-loop
 loop-less c = search needs
 
 loop-again : tie.Need-loop-again Inv-loop μ-loop
 loop-again c =
-    let a = c .before .before .before .before .before .before .before .args in
-    let l = c .before .before .before .before .before .loop in
-    (omega arith, l .inv .1 ∙ after-step (a .banner .now) (l .i) (omega arith) (sym (c .before .same .ensures) ∙ c .if1 .left))
+    let t = c .before .before .before .before .before .before .args .banner .now in
+    let l = c .before .before .before .loop in
+    let e : suc (length t - l .left) ≡ length t - (l .left - 1) = omega arith in
+    let s = after-step t (length t - l .left) (l .left) (omega arith) (sym (c .before .is-named .ensures) ∙ c .if1 .left) in
+    (omega arith, l .inv .1 ∙ s ∙ ap (λ (k : ℕ). afterName t k (l .left - 1)) e)
 
 returns-2 : tie.Need-returns-2 Inv-loop μ-loop
 returns-2 c =
-    let a = c .before .before .before .args in
+    let t = c .before .before .before .before .args .banner .now in
     let l = c .before .loop in
-    l .inv .1 ∙ after-short (drop (l .i) (a .banner .now)) (omega (arith, length-drop (l .i) (a .banner .now)))
+    l .inv .1 ∙ after-short t (length t - l .left) (l .left) (omega arith) (omega arith)
 
 pub find-list-spec : {M : Type 1} → statement M
 find-list-spec =
@@ -68,16 +64,13 @@ find-list-spec =
     (tie.spec
     Inv-loop
     μ-loop
+    after-colons-requires
     loop-holds
-    sub-loop
+    sub-at
+    is-named-requires
     add-end
-    sub-same
-    part-same-start
-    part-same-end
-    slice-aggregate-same
-    same-requires
     returns
-    add-i
+    sub-left
     loop-less
     loop-again
     returns-2)
