@@ -78,7 +78,7 @@ $(OUT)/files: demo/files.c demo/common.h demo/numbers.h include/adb.h include/ad
 	@mkdir -p $(OUT)
 	$(CC) -std=c99 $(WARNINGS) $(CFLAGS) -Iinclude demo/files.c $(LIB) $(SYNC_LIB) -o $@
 
-$(OUT)/damage: tests/damage.c demo/numbers.h include/adb.h $(LIB)
+$(OUT)/damage: tests/damage.c demo/common.h demo/numbers.h include/adb.h $(LIB)
 	@mkdir -p $(OUT)
 	$(CC) -std=c99 $(WARNINGS) $(CFLAGS) -Iinclude tests/damage.c $(LIB) -o $@
 

@@ -1,4 +1,4 @@
-/* What the demonstrations share: faults, numbers, the head of a frame. */
+/* What the demonstrations and the damage test share: faults, numbers, the head of a frame. */
 #ifndef COMMON_H
 #define COMMON_H
 

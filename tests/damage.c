@@ -10,7 +10,7 @@
  *   short store; else 9 for a short outgoing buffer; each with nothing changed but the answer, which is all 0.
  * After any other answer only what the call may change has changed, and the state is whole.
  */
-#include "../demo/numbers.h"
+#include "../demo/common.h"
 
 #include <adb.h>
 
@@ -245,14 +245,7 @@ static int delayed;
 
 static size_t frame(uint8_t *f, const char *name, uint32_t arg0, uint32_t arg1, const uint8_t *payload, size_t n)
 {
-    uint32_t sum = 0;
-    for (size_t i = 0; i < n; i++) sum += payload[i];
-    memcpy(f, name, 4);
-    put32(f + 4, arg0);
-    put32(f + 8, arg1);
-    put32(f + 12, (uint32_t)n);
-    put32(f + 16, sum);
-    put32(f + 20, ~adb_le32(f));
+    put_head(f, name, arg0, arg1, n, sum(payload, n));
     if (n) memcpy(f + ADB_HEADER_LEN, payload, n);
     return ADB_HEADER_LEN + n;
 }

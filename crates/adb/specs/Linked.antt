@@ -1,6 +1,6 @@
 -- Lists of calls through the exported functions, and what the theorems say of them: whatever a C program can do with them after
--- an adb_make or adb_make_from_cnxn that answered 0, short answers included, with the state and both stores lent whole as the last call left them.
--- Assumes nothing.
+-- an adb_make or adb_make_from_cnxn that answered 0, short answers included, with the state and both stores lent whole as the
+-- last call left them. Assumes nothing.
 use Prim.Native.Nat.{ℕ, _<_, _^_}
 use mathlib.Core.Path.{_≡_}
 use mathlib.Core.Bool.{Bool, true}

@@ -383,7 +383,7 @@ moves w (writeCall out ch bytes received) = heads-out (lent w) (isWhole (w .stat
 moves w (closeCall out ch) = heads-out (lent w) (isWhole (w .state)) (length out) _ (close-heads (lent w) ch)
 moves w frontTaken = heads-checked (lent w) (isWhole (w .state)) _ (front-heads (lent w))
 
--- the credit in the last OPEN written, where an open is pending: that of the one that did before, or ours
+-- the credit in the last OPEN written, where an open is pending: that of the one that was before, or ours
 module _ (w : World) (a credit : ℕ) (is : credit ≡ offeredCredit (lent w .state .header .negotiated)) (ask : lent w .state .header .pending .on ≡ true → a ≡ credit) where
   abbrev Asked : Outcome → Type 0
   Asked x = changedAll (lent w .state) (x .changes) .header .pending .on ≡ true → openIn (x .frames) a ≡ credit

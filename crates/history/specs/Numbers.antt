@@ -18,8 +18,8 @@ opensIn [] = false
 opensIn (f ∷ fs) = isOpen (f .command) || opensIn fs
 
 -- a number is given out by an open call that writes an OPEN, and by one that is refused by 3 with a destination over the
--- maximum, which moves the next number on and writes nothing. So is a pending open and is refused by 3 for a frame while it
--- is handed such a destination, though it gives none out: the count is never too small
+-- maximum, which moves the next number on and writes nothing. So is a pending open counted that is refused by 3 for a
+-- frame while it is handed such a destination, though it gives none out: the count is never too small
 unfoldable pub givenBy : Call → Seen → ℕ
 givenBy (openCall out destination received) o = cond (opensIn (o .sent) || (eqb (o .number) 3 && ltb maxPayload (length destination))) 1 0
 givenBy (dispatchCall out received) o = 0
