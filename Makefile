@@ -2,11 +2,13 @@
 #   make demo      forty simulated peers on one connection, in each mode (ARGS: seed, MiB)
 #   make files     a file by the sync messages to a simulated device and back, in each mode (ARGS: seed, bytes)
 #   make damage    the calls on broken states and short buffers; the sync messages on any bytes
+#   make replay    recorded calls, and the answers and states that libadb gave for them, on the library
 #   make compare   the port against libadb: SEEDS names libadb's folder libadb/src (ARGS: first and last seed, calls)
 #   make bench     the port's and libadb's time side by side: SEEDS as for compare (ARGS: repeats, ms each, rows)
 #   make header    adb.h and adb_sync.h, each alone and in either order, as C99 and as C++
 #   make example   the examples in adb.h and adb_sync.h, compiled
-#   make seam      what the tests run of these: header, example, damage, a demonstration of 1 MiB, and a file of 200,003 bytes
+#   make seam      what the tests run of these: header, example, replay, damage, a demonstration of 1 MiB, and a file of
+#                  200,003 bytes
 #   make clean     removes what these targets built, but not what is proved
 # CC, CXX and CFLAGS may be set, as CFLAGS='-O1 -g -fsanitize=address,undefined'; LIB and SYNC_LIB name
 # other static libraries.
@@ -18,9 +20,9 @@ OUT = target/c
 LIB = target/staticlib/libadb.a
 SYNC_LIB = target/staticlib/libadb_sync.a
 
-.PHONY: all demo files damage compare bench header example seam clean
+.PHONY: all demo files damage replay compare bench header example seam clean
 
-all: header example demo files damage
+all: header example replay demo files damage
 
 demo: $(OUT)/demo
 	$(OUT)/demo $(ARGS)
@@ -31,6 +33,11 @@ files: $(OUT)/files
 damage: $(OUT)/damage $(OUT)/damage_sync
 	$(OUT)/damage $(ARGS)
 	$(OUT)/damage_sync $(ARGS)
+
+replay: $(OUT)/driver
+	@for calls in vectors/recorded/*.txt; do \
+	    $(OUT)/driver < $$calls | cmp - $${calls%.txt}.expected && echo "replay: $$calls: $$(wc -l < $$calls) calls agree" || exit 1; \
+	done
 
 # compare.sh and run.sh make the default library themselves.
 OTHER_LIB = $(if $(filter-out target/staticlib/libadb.a,$(LIB)),$(abspath $(LIB)))
@@ -64,7 +71,7 @@ example:
 	grep -q 'adb_sync_read(' $(OUT)/example_sync.c
 	$(CC) -std=c99 $(WARNINGS) -Werror -Iinclude -c $(OUT)/example_sync.c -o $(OUT)/example_sync.o
 
-seam: header example $(OUT)/damage $(OUT)/damage_sync $(OUT)/demo $(OUT)/files
+seam: header example replay $(OUT)/damage $(OUT)/damage_sync $(OUT)/demo $(OUT)/files
 	$(OUT)/damage
 	$(OUT)/damage_sync
 	$(OUT)/demo 1 1
@@ -77,6 +84,10 @@ $(OUT)/demo: demo/demo.c demo/common.h demo/numbers.h include/adb.h $(LIB)
 $(OUT)/files: demo/files.c demo/common.h demo/numbers.h include/adb.h include/adb_sync.h $(LIB) $(SYNC_LIB)
 	@mkdir -p $(OUT)
 	$(CC) -std=c99 $(WARNINGS) $(CFLAGS) -Iinclude demo/files.c $(LIB) $(SYNC_LIB) -o $@
+
+$(OUT)/driver: oracle/port/driver.c include/adb.h $(LIB)
+	@mkdir -p $(OUT)
+	$(CC) -std=c99 $(WARNINGS) $(CFLAGS) -Iinclude oracle/port/driver.c $(LIB) -o $@
 
 $(OUT)/damage: tests/damage.c demo/common.h demo/numbers.h include/adb.h $(LIB)
 	@mkdir -p $(OUT)

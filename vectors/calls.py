@@ -1,10 +1,9 @@
 #!/usr/bin/env python3
-"""calls.py TOOLS: writes the calls that crates/replay_calls replays, one a line; docs/VECTORS.md says how they are answered.
+"""calls.py TOOLS: writes vectors/recorded/calls.txt, a call a line; docs/VECTORS.md says how the calls are answered.
 
 TOOLS is the folder with the programs `oracle` and `gen` (oracle/README.md, which also describes the calls): the hand-written
 scripts of oracle/scripts go through `oracle --expand`, and `gen` writes the generated ones. Left out are the calls on no
-connection (has_feature, decode, missing; crates/replay_protocol has them) and destinations too long for the program's
-buffers. Numbers are written in decimal.
+connection (has_feature, decode, missing; crates/replay_protocol has them) and lines of over 32,768 characters. Numbers are written in decimal.
 """
 import os
 import re

@@ -1,5 +1,5 @@
 #!/usr/bin/env python3
-"""Writes the calls that crates/replay_slot replays, one a line; docs/VECTORS.md says how they are answered.
+"""Writes vectors/recorded/slot.txt, a call a line; docs/VECTORS.md says how the calls are answered.
 
     make 1 MAX_PAYLOAD MAX_RX INITIAL ARG0 ARG1 HOST DEVICE        open DEST FRAME        dispatch FRAME
     settle 0 LOCAL WANT        take 0 LOCAL BUFLEN        write 0 LOCAL DATA -        set_budget 0 LOCAL I64

@@ -1,7 +1,7 @@
 -- Text that is put into lent bytes, and numbers and bytes as text. Assumes nothing.
 use Prim.Native.Nat.{ℕ, zero, suc, _+_, _-_, _/_}
 use mathlib.Core.Path.{_≡_}
-use mathlib.Core.Bool.{Bool, cond}
+use mathlib.Core.Bool.{cond}
 use mathlib.Core.List.{List, [], _∷_, _++_}
 use lib.Dec.{ltb}
 use lib.IntN.{ℤ, pos, negsuc}
@@ -31,10 +31,6 @@ decimalOf n = digits 10 (places n n) n
 unfoldable pub signedText : ℤ → List ℕ
 signedText (pos n) = decimalOf n
 signedText (negsuc n) = 45 ∷ decimalOf (suc n)
-
--- 1 or 0
-unfoldable pub flagText : Bool → List ℕ
-flagText b = cond b (49 ∷ []) (48 ∷ [])
 
 -- two hexadecimal digits for each byte
 unfoldable pub hexOf : List ℕ → List ℕ

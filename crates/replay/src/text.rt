@@ -4,7 +4,7 @@ ghost use mathlib.Core.List.{_++_};
 ghost use Prim.Native.Nat.{_<_};
 ghost use lib.ListN.{take};
 ghost use Rattle.io.specs.Digits.{digits, glyph as Digits·glyph};
-ghost use Rattle.replay.specs.Text.{Puts, decimalOf, signedText, flagText, hexOf, hexText};
+ghost use Rattle.replay.specs.Text.{Puts, decimalOf, signedText, hexOf, hexText};
 
 pub fn put(line: &mut [u8], at: usize, s: &[u8]) -> usize
     ensures { λ r. ⌜ Puts (now (line .entry)) at (now (s .entry)) (now (line .exit)) r ⌝ }
@@ -44,15 +44,6 @@ pub fn put_signed(line: &mut [u8], at: usize, z: i64) -> usize
     }
     let end = put(line, at, b"-");
     put_number(line, end, 0xffff_ffff_ffff_ffff - bits + 1)
-}
-
-pub fn put_flag(line: &mut [u8], at: usize, b: bool) -> usize
-    ensures { λ r. ⌜ Puts (now (line .entry)) at (flagText b) (now (line .exit)) r ⌝ }
-{
-    if b {
-        return put(line, at, b"1");
-    }
-    put(line, at, b"0")
 }
 
 fn glyph(d: u8) -> u8
