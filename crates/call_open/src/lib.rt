@@ -115,7 +115,7 @@ fn open_ready(
     let used = Packet::frame_len(packet.data_length);
     let payload = Packet::payload(received, packet.data_length);
     let opening = ChannelSlot::opening(local);
-    let readied = opening.accept_open_ready(remote, payload, n.rx_policy());
+    let readied = slot_send::accept_open_ready(opening, remote, payload, n.rx_policy());
     match readied {
         Readied::Slot(slot) => {
             store_slot(state, ch.slot, slot, drop_pending(h));

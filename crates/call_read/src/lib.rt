@@ -60,11 +60,11 @@ fn take_buffered(
     let n = h.negotiated;
     let policy = n.rx_policy();
     let i = ch.slot;
-    let settled = slot.settle_take(buf.len(), policy);
+    let settled = slot_receive::settle_take(slot, buf.len(), policy);
     let s = settled.slot;
     let ack = settled.ack;
     let end = put_ack(out, at, n, s, ack);
-    let taken = s.take_buffered(buf.len(), policy.rx_cap);
+    let taken = slot_receive::take_buffered(s, buf.len(), policy.rx_cap);
     match taken {
         Taken::Nothing => Tried::Nothing(s, end),
         Taken::Closed(error) => {
@@ -147,7 +147,7 @@ fn read_direct(
         (now (buf .entry)) h r (now (state .exit)) (now (out .exit)) (now (buf .exit)) ⌝ }
 {
     let n = h.negotiated;
-    let delivered = s.deliver(payload.len(), n.rx_policy());
+    let delivered = slot_receive::deliver(s, payload.len(), n.rx_policy());
     let t = delivered.slot;
     let ack = delivered.ack;
     le::copy_at(buf, 0, payload);

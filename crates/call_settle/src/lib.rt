@@ -35,7 +35,7 @@ fn settle_step(
     let found = get(state, config.channels, ch);
     match found {
         Found::Slot(s) => {
-            let settled = s.settle_take(want, n.rx_policy());
+            let settled = slot_receive::settle_take(s, want, n.rx_policy());
             let left = settled.slot;
             let ack = settled.ack;
             let end = put_ack(out, 0, n, left, ack);

@@ -35,7 +35,7 @@ fn take_there(
     let n = h.negotiated;
     let config = n.config;
     let cap = config.rx_cap();
-    let taken = s.take_buffered(buf.len(), cap);
+    let taken = slot_receive::take_buffered(s, buf.len(), cap);
     match taken {
         Taken::Data(rest, len) => {
             rx_store::hand_over(rx, ch.slot, cap, s.head, len, buf);

@@ -63,7 +63,7 @@ fn send_some(
         return refused(Refusal::OutShort);
     }
     let end = put_write(out, 0, n, ids_in(s), &bytes[0..len]);
-    store_slot(state, ch.slot, s.spend(len, n.rx_policy()), h);
+    store_slot(state, ch.slot, slot_send::spend(s, len, n.rx_policy()), h);
     Reply {
         answer: Answer::Written(len),
         used,
@@ -95,7 +95,7 @@ fn send_again(
         };
     }
     let n = h.negotiated;
-    let budget = s.budget(n.rx_policy());
+    let budget = slot_send::budget(s, n.rx_policy());
     match budget {
         Budget::Bytes(most) => send_some(state, ch, s, bytes, most, used, out, h),
         Budget::Nothing => {
@@ -125,7 +125,7 @@ fn write_ready(
         (now (out .entry)) r (now (state .exit)) (now (out .exit)) ⌝ }
 {
     let n = h.negotiated;
-    let readied = s.apply_ready(payload, n.rx_policy());
+    let readied = slot_send::apply_ready(s, payload, n.rx_policy());
     match readied {
         Readied::Slot(t) => send_again(state, ch, t, bytes, used, out, h),
         Readied::Short => {
@@ -260,7 +260,7 @@ fn write_channel(
         };
     }
     let n = h.negotiated;
-    let budget = s.budget(n.rx_policy());
+    let budget = slot_send::budget(s, n.rx_policy());
     match budget {
         Budget::Bytes(most) => send_some(state, ch, s, bytes, most, 0, out, h),
         Budget::Nothing => wait_ack(state, rx, store, ch, s, bytes, received, out, h),

@@ -16,7 +16,7 @@ pub fn apply_close(slot: &mut ChannelSlot)
 pub fn spend(slot: &mut ChannelSlot, n: usize, policy: RxPolicy)
     ensures { λ _. ⌜ now (slot .exit) ≡ spentOf (now (slot .entry)) policy n ⌝ }
 {
-    *slot = slot.spend(n, policy);
+    *slot = slot_send::spend(*slot, n, policy);
 }
 
 // The two on a slot by value: it is lent to each, and handed back as they left it.

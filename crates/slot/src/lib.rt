@@ -1,20 +1,15 @@
-// One channel's numbers, by value: what a packet, a read, a write or a close does to them. Its bytes are `rx_store`'s.
+// One channel's numbers, by value, and the answers of what is done to them: `slot_send` and `slot_receive` have what a packet, a
+// read and a write do. Its bytes are `rx_store`'s.
 pub mod ids;
 
 use config::negotiated::RxPolicy;
-use credit::Credit;
-use credit::parse_ready_credit;
 use ids::ChannelIds;
 use ids::LocalId;
 use ids::RemoteId;
 ghost use mathlib.Core.Path.{_≡_};
-ghost use Prim.Native.Nat.{_≤_, min};
-ghost use lib.IntN.{ℤ, pos};
 ghost use Rattle.slot.specs.Numbers.{readiedNumber, decisionNumber, faultNumber, errorNumber, takenNumber, budgetNumber};
-ghost use Rattle.slot.specs.Slot.{emptySlot, openingSlot, acceptedSlot, isOpening, isClosed, isFailed, idsOf, errorOf, openedOf};
-ghost use Rattle.slot.specs.Slot.{readyOf, heldOf, acksNow, bufferedWith, wroteOf, someLen, deliveredOf, ackLenOf, isAck, hasData};
-ghost use Rattle.slot.specs.Slot.{settledSome, settledOf, takeLen, tookOf, takenOf, budgetOf, spentOf, refundedOf, reservedOf};
-ghost use Rattle.slot.specs.Slot.{takeAcks, closedSlot, failedSlot, withState, withRemote, withSending, withNumbers, slotOk, SlotOk};
+ghost use Rattle.slot.specs.Slot.{emptySlot, openingSlot, acceptedSlot, isOpening, isClosed, isFailed, idsOf, errorOf};
+ghost use Rattle.slot.specs.Slot.{closedSlot, failedSlot, withState, withRemote, withSending, withNumbers};
 
 pub enum ChannelState {
     // An OPEN was sent and not answered yet.
@@ -218,31 +213,6 @@ pub fn is_closed(state: ChannelState) -> bool
     }
 }
 
-// A length as a credit.
-fn credit_of(n: usize) -> i64
-    ensures { λ r. ⌜ r ≡ pos (min n 9223372036854775807) ⌝ }
-{
-    saturate::least(n, 9223372036854775807) as i64
-}
-
-fn some_len(len: usize) -> PendingAck
-    ensures { λ r. ⌜ r ≡ someLen len ⌝ }
-{
-    if len == 0 {
-        return PendingAck::Nothing;
-    }
-    PendingAck::Len(len)
-}
-
-fn is_ack(ack: PendingAck) -> bool
-    ensures { λ r. ⌜ r ≡ isAck ack ⌝ }
-{
-    match ack {
-        PendingAck::Nothing => false,
-        PendingAck::Len(_) => true,
-    }
-}
-
 impl ChannelSlot {
     // A slot with no channel.
     pub fn empty() -> ChannelSlot
@@ -284,7 +254,7 @@ impl ChannelSlot {
         }
     }
 
-    fn with_state(self, state: ChannelState) -> ChannelSlot
+    pub fn with_state(self, state: ChannelState) -> ChannelSlot
         ensures { λ r. ⌜ r ≡ withState self state ⌝ }
     {
         let local = self.local;
@@ -306,7 +276,7 @@ impl ChannelSlot {
         }
     }
 
-    fn with_remote(self, remote: RemoteId) -> ChannelSlot
+    pub fn with_remote(self, remote: RemoteId) -> ChannelSlot
         ensures { λ r. ⌜ r ≡ withRemote self remote ⌝ }
     {
         let mut t = self;
@@ -315,7 +285,7 @@ impl ChannelSlot {
         t
     }
 
-    fn with_sending(self, wrte_acked: bool, send_budget: i64) -> ChannelSlot
+    pub fn with_sending(self, wrte_acked: bool, send_budget: i64) -> ChannelSlot
         ensures { λ r. ⌜ r ≡ withSending self «wrte_acked» «send_budget» ⌝ }
     {
         let mut t = self;
@@ -324,7 +294,7 @@ impl ChannelSlot {
         t
     }
 
-    fn with_numbers(
+    pub fn with_numbers(
         self,
         unacked: usize,
         settled: usize,
@@ -388,292 +358,11 @@ impl ChannelSlot {
         }
     }
 
-    // The OKAY that answers our OPEN.
-    pub fn accept_open_ready(self, remote: RemoteId, payload: &[u8], policy: RxPolicy) -> Readied
-        ensures { λ r. ⌜ r ≡ openedOf self remote (now (payload .entry)) policy ⌝ }
-    {
-        let slot = self.with_remote(remote).with_state(ChannelState::Open);
-        if policy.delayed {
-            let credit = parse_ready_credit(payload);
-            return match credit {
-                Credit::Short => Readied::Short,
-                Credit::Of(n) => Readied::Slot(slot.with_sending(self.wrte_acked, n as i64)),
-            };
-        }
-        Readied::Slot(slot)
-    }
-
-    // A later OKAY: credit, or leave for the next WRTE.
-    pub fn apply_ready(self, payload: &[u8], policy: RxPolicy) -> Readied
-        ensures { λ r. ⌜ r ≡ readyOf self (now (payload .entry)) policy ⌝ }
-    {
-        let budget = self.send_budget;
-        if policy.delayed {
-            let credit = parse_ready_credit(payload);
-            return match credit {
-                Credit::Short => Readied::Short,
-                Credit::Of(n) => Readied::Slot(self.with_sending(
-                    self.wrte_acked,
-                    saturate::sat_add(budget, n as i64),
-                )),
-            };
-        }
-        Readied::Slot(self.with_sending(true, budget))
-    }
-
-    // Buffered bytes that no read has acknowledged.
-    pub fn held(self) -> usize
-        requires { ⌜ self .settled ≤ self .buffered ⌝ }
-        ensures { λ r. ⌜ r ≡ heldOf self ⌝ }
-    {
-        self.buffered - self.settled
-    }
-
-    // Whether a WRTE that brings the held bytes to `held` is acknowledged at once.
-    fn acks_now(self, policy: RxPolicy, held: usize) -> bool
-        ensures { λ r. ⌜ r ≡ acksNow self policy held ⌝ }
-    {
-        if policy.delayed {
-            return false;
-        }
-        if held < policy.watermark {
-            return self.has_remote;
-        }
-        false
-    }
-
-    // A WRTE of n bytes.
-    pub fn apply_write(self, n: usize, policy: RxPolicy) -> Wrote
-        requires { ⌜ SlotOk self (policy .«rx_cap») ⌝ }
-        ensures { λ r. ⌜ r ≡ wroteOf self policy n ⌝ }
-    {
-        let state = self.state;
-        if is_opening(state) {
-            return Wrote {
-                slot: self,
-                decision: AckDecision::Early,
-            };
-        }
-        let held = self.held();
-        if policy.rx_cap - held < n {
-            return Wrote {
-                slot: self,
-                decision: AckDecision::Overflow,
-            };
-        }
-        let head = rx_store::appended_head(2 * policy.rx_cap, self.head, self.buffered, n);
-        let buffered = self.buffered + n;
-        if self.acks_now(policy, held + n) {
-            return Wrote {
-                slot: self.with_numbers(0, self.settled, head, buffered),
-                decision: AckDecision::Now(n),
-            };
-        }
-        let unacked = saturate::sat_sum(self.unacked, n);
-        Wrote {
-            slot: self.with_numbers(unacked, self.settled, head, buffered),
-            decision: AckDecision::Hold,
-        }
-    }
-
-    // Bytes of a WRTE that went straight to the reader: they never were unacknowledged.
-    pub fn deliver(self, taken: usize, policy: RxPolicy) -> Settled
-        ensures { λ r. ⌜ r ≡ deliveredOf self policy taken ⌝ }
-    {
-        if policy.delayed {
-            if self.has_remote {
-                return Settled {
-                    slot: self,
-                    ack: some_len(taken),
-                };
-            }
-            return Settled {
-                slot: self,
-                ack: PendingAck::Nothing,
-            };
-        }
-        if self.buffered >= policy.watermark {
-            return Settled {
-                slot: self,
-                ack: PendingAck::Nothing,
-            };
-        }
-        if self.has_remote {
-            return Settled {
-                slot: self.with_numbers(0, self.settled, self.head, self.buffered),
-                ack: PendingAck::Len(self.unacked),
-            };
-        }
-        Settled {
-            slot: self,
-            ack: PendingAck::Nothing,
-        }
-    }
-
-    // How many bytes to acknowledge where n are set aside and `remaining` stay.
-    fn ack_len(self, n: usize, remaining: usize, policy: RxPolicy) -> PendingAck
-        ensures { λ r. ⌜ r ≡ ackLenOf self policy n remaining ⌝ }
-    {
-        if self.unacked == 0 {
-            return PendingAck::Nothing;
-        }
-        if policy.delayed {
-            return some_len(saturate::least(n, self.unacked));
-        }
-        if remaining < policy.watermark {
-            return PendingAck::Len(self.unacked);
-        }
-        PendingAck::Nothing
-    }
-
-    pub fn has_data(self) -> bool
-        ensures { λ r. ⌜ r ≡ hasData self ⌝ }
-    {
-        if self.has_remote {
-            return self.buffered != 0;
-        }
-        false
-    }
-
-    // Acknowledges what a read of `want` bytes is to take, and sets it aside.
-    pub fn settle_take(self, want: usize, policy: RxPolicy) -> Settled
-        ensures { λ r. ⌜ r ≡ settledOf self policy want ⌝ }
-    {
-        if self.has_remote {
-            if self.settled == 0 {
-                return self.settle_some(saturate::least(want, self.buffered), policy);
-            }
-        }
-        Settled {
-            slot: self,
-            ack: PendingAck::Nothing,
-        }
-    }
-
-    fn settle_some(self, n: usize, policy: RxPolicy) -> Settled
-        requires { ⌜ n ≤ self .buffered ⌝ }
-        ensures { λ r. ⌜ r ≡ settledSome self policy n ⌝ }
-    {
-        let ack = self.ack_len(n, self.buffered - n, policy);
-        match ack {
-            PendingAck::Nothing => Settled {
-                slot: self,
-                ack: PendingAck::Nothing,
-            },
-            PendingAck::Len(len) => Settled {
-                slot: self.with_numbers(self.unacked - len, n, self.head, self.buffered),
-                ack: PendingAck::Len(len),
-            },
-        }
-    }
-
-    // How many bytes a read into `room` bytes takes.
-    fn take_len(self, room: usize) -> usize
-        ensures { λ r. ⌜ r ≡ takeLen self room ⌝ }
-    {
-        if self.settled == 0 {
-            return saturate::least(room, self.buffered);
-        }
-        saturate::least(room, self.settled)
-    }
-
-    // The slot after n of its buffered bytes were taken.
-    fn took(self, n: usize, cap: usize) -> ChannelSlot
-        requires { ⌜ SlotOk self cap × (n ≤ self .buffered) ⌝ }
-        ensures { λ r. ⌜ r ≡ tookOf self n ⌝ }
-    {
-        let settled = self.settled - saturate::least(n, self.settled);
-        let head = rx_store::taken_head(self.head, self.buffered, n);
-        self.with_numbers(self.unacked, settled, head, self.buffered - n)
-    }
-
-    // What a read into `room` bytes finds, in numbers; `rx_store` hands the bytes over. `cap` is only for the `requires`.
-    pub fn take_buffered(self, room: usize, cap: usize) -> Taken
-        requires { ⌜ SlotOk self cap ⌝ }
-        ensures { λ r. ⌜ r ≡ takenOf self room ⌝ }
-    {
-        if self.has_data() {
-            let n = self.take_len(room);
-            return Taken::Data(self.took(n, cap), n);
-        }
-        let state = self.state;
-        if is_closed(state) {
-            return Taken::Closed(self.closed_error());
-        }
-        Taken::Nothing
-    }
-
     pub fn apply_close(self) -> ChannelSlot
         ensures { λ r. ⌜ r ≡ closedSlot self ⌝ }
     {
         self.with_state(ChannelState::Closed)
             .with_numbers(0, self.settled, self.head, self.buffered)
-    }
-
-    // How many bytes may be sent now.
-    pub fn budget(self, policy: RxPolicy) -> Budget
-        ensures { λ r. ⌜ r ≡ budgetOf self policy ⌝ }
-    {
-        if policy.delayed {
-            let n = saturate::positive(self.send_budget);
-            if n == 0 {
-                return Budget::Nothing;
-            }
-            return Budget::Bytes(n);
-        }
-        if self.wrte_acked {
-            return Budget::Bytes(0xffff_ffff_ffff_ffff);
-        }
-        Budget::Nothing
-    }
-
-    // n bytes were sent.
-    pub fn spend(self, n: usize, policy: RxPolicy) -> ChannelSlot
-        ensures { λ r. ⌜ r ≡ spentOf self policy n ⌝ }
-    {
-        let budget = self.send_budget;
-        if policy.delayed {
-            return self.with_sending(self.wrte_acked, saturate::sat_add(budget, 0 - credit_of(n)));
-        }
-        self.with_sending(false, budget)
-    }
-
-    // n bytes that were reserved were not sent.
-    pub fn refund(self, n: usize, policy: RxPolicy) -> ChannelSlot
-        ensures { λ r. ⌜ r ≡ refundedOf self policy n ⌝ }
-    {
-        let budget = self.send_budget;
-        if policy.delayed {
-            return self.with_sending(self.wrte_acked, saturate::sat_add(budget, credit_of(n)));
-        }
-        self.with_sending(true, budget)
-    }
-
-    // Whether a read of `want` bytes would acknowledge.
-    pub fn take_acks(self, want: usize, policy: RxPolicy) -> bool
-        ensures { λ r. ⌜ r ≡ takeAcks self policy want ⌝ }
-    {
-        if self.has_data() {
-            if self.settled == 0 {
-                let n = saturate::least(want, self.buffered);
-                return is_ack(self.ack_len(n, self.buffered - n, policy));
-            }
-        }
-        false
-    }
-
-    // Bytes to send, at most `want`, taken off the budget.
-    pub fn try_reserve_send(self, want: usize, policy: RxPolicy) -> Reserved
-        ensures { λ r. ⌜ r ≡ reservedOf self policy want ⌝ }
-    {
-        let budget = self.budget(policy);
-        match budget {
-            Budget::Nothing => Reserved::Nothing,
-            Budget::Bytes(most) => {
-                let n = saturate::least(most, want);
-                Reserved::Bytes(self.spend(n, policy), n)
-            }
-        }
     }
 
     // Closes the channel for a fault of its own.
@@ -698,22 +387,4 @@ impl ChannelSlot {
         }
     }
 
-    // Whether the numbers of received bytes are within a channel's share.
-    pub fn is_sound(self, cap: usize) -> bool
-        requires { ⌜ cap ≤ 16777216 ⌝ }
-        ensures { λ r. ⌜ r ≡ slotOk self cap ⌝ }
-    {
-        if self.settled > cap {
-            return false;
-        }
-        // Held bytes: where less is buffered than settled, the difference wraps to more than any cap.
-        let held = std::num::wrapping_sub_usize(self.buffered, self.settled);
-        if held > cap {
-            return false;
-        }
-        if self.head > 2 * cap - self.buffered {
-            return false;
-        }
-        true
-    }
 }

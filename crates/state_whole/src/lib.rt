@@ -42,7 +42,7 @@ fn row_fine(p: &[u8], i: usize, channels: usize, cap: usize) -> bool
             return false;
         }
         if i < channels {
-            return slot_of(p).is_sound(cap);
+            return slot_receive::is_sound(slot_of(p), cap);
         }
         return false;
     }

@@ -110,9 +110,9 @@ fn readied(s: ChannelSlot, remote: RemoteId, payload: &[u8], policy: RxPolicy) -
 {
     let state = s.state;
     if is_opening(state) {
-        return s.accept_open_ready(remote, payload, policy);
+        return slot_send::accept_open_ready(s, remote, payload, policy);
     }
-    s.apply_ready(payload, policy)
+    slot_send::apply_ready(s, payload, policy)
 }
 
 // An OKAY for the slot at place i.
@@ -191,7 +191,7 @@ fn write_at(
     if s.is_failed() {
         return DispatchOutcome::Unmatched;
     }
-    let wrote = s.apply_write(payload.len(), policy);
+    let wrote = slot_receive::apply_write(s, payload.len(), policy);
     let decision = wrote.decision;
     let t = wrote.slot;
     match decision {

@@ -42,10 +42,10 @@ use Rattle.config.proofs.negotiated.RxPolicy.Laws as P′
 use Rattle.slot.specs.declared.ChannelSlot.{ChannelSlot}
 use Rattle.slot.specs.Slot.{spentOf}
 use Rattle.slot.proofs.ChannelSlot as S
-use Rattle.slot.proofs.ChannelSlot.spend as by-value
-use Rattle.slot.proofs.ChannelSlot.spend.Symbol as by-value-def
-use Rattle.slot.proofs.ChannelSlot.spend.Symbol.{name as #by-value}
-use Rattle.slot.proofs.ChannelSlot.spend.Met as by-value-thm
+use Rattle.slot_send.proofs.spend as by-value
+use Rattle.slot_send.proofs.spend.Symbol as by-value-def
+use Rattle.slot_send.proofs.spend.Symbol.{name as #by-value}
+use Rattle.slot_send.proofs.spend.Met as by-value-thm
 use Rattle.in_place.proofs.Slots.{val, policy-val, IsPolicy, typed, policy-typed, opens-slot}
 use Rattle.in_place.proofs.spend.Key.{name as #spend}
 use Rattle.in_place.proofs.spend as spend
@@ -138,4 +138,4 @@ spend-spec 𝓤 H 𝓜 𝓖 𝓡 =
     entered 𝓤 H (tripleOf 𝓤 H (𝓖 .A) spend.signature (spend.spec 𝓤 H (𝓖 .A) (𝓜 .mem) (𝓡 .run)))
     (tables 𝓤 H 𝓜 𝓡 code.env .C) (tables 𝓤 H 𝓜 𝓡 code.env .Λ) #spend code.function (code.unfolded 𝓤 H 𝓜 𝓡)
     (meets 𝓤 H (𝓖 .A) (givenOf 𝓤 H 𝓜 𝓖) (𝓜 .mem) (𝓡 .run) (tablesOf 𝓤 H 𝓜 (tables 𝓤 H 𝓜 𝓡 code.env))
-    (cited 𝓤 H (ByValue 𝓤 H (𝓖 .A) (𝓜 .mem) (𝓡 .run)) 𝓜 𝓡 code.env #by-value by-value-def.routine code.calls-slot·ChannelSlot·spend (by-value-thm.met 𝓤 H 𝓜 𝓖 𝓡)))
+    (cited 𝓤 H (ByValue 𝓤 H (𝓖 .A) (𝓜 .mem) (𝓡 .run)) 𝓜 𝓡 code.env #by-value by-value-def.routine code.calls-slot-send·spend (by-value-thm.met 𝓤 H 𝓜 𝓖 𝓡)))

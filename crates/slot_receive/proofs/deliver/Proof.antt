@@ -1,0 +1,60 @@
+use Rattle.slot.specs.declared.ChannelSlot.{ChannelSlot}
+use Rattle.slot.specs.declared.PendingAck.the-variants.{Len}
+use Rattle.slot.proofs.Laws.{cond-true, cond-false}
+use native.Mathlib.Omega.{arith}
+use borrow.Author.Tests.{le-leb, lt-leb}
+use mathlib.Core.Path.{sym, ap, _∙_}
+use Rattle.slot.specs.Slot.{deliveredOf, acked}
+use borrow.Author.Needs.{needs}
+use Rattle.slot_receive.proofs.deliver.Statement.{statement}
+use Rattle.slot_receive.proofs.deliver.Tie as tie
+
+some-len-requires : tie.Need-some-len-requires
+some-len-requires c κs = search needs
+
+returns : tie.Need-returns
+unfolding deliveredOf
+returns c = rw (c .before .before .if1 .taken, c .before .if2 .taken, c .some-len .ensures)
+
+returns-2 : tie.Need-returns-2
+unfolding deliveredOf
+returns-2 c = rw (c .before .if1 .taken, c .if2 .left)
+
+returns-3 : tie.Need-returns-3
+unfolding deliveredOf
+returns-3 c =
+    let at-if1 = c .before .before .before in
+    let start = at-if1 .before in
+    rw (at-if1 .if1 .left, le-leb (start .args .policy .watermark) (start .args .slot .buffered) (omega arith))
+
+with-numbers-requires : tie.Need-with-numbers-requires
+with-numbers-requires c κs = search needs
+
+returns-4 : tie.Need-returns-4
+unfolding deliveredOf
+returns-4 c =
+    let at-if1 = c .before .before .before .before .before in
+    let start = at-if1 .before in
+    ap (λ (x : ChannelSlot). acked x (Len (start .args .slot .unacked))) (c .with-numbers .ensures)
+    ∙ sym (cond-true _ _ _ (c .before .if4 .taken))
+    ∙ sym (cond-false _ _ _ (lt-leb (start .args .policy .watermark) (start .args .slot .buffered) (omega arith)))
+    ∙ sym (cond-false _ _ _ (at-if1 .if1 .left))
+
+returns-5 : tie.Need-returns-5
+unfolding deliveredOf
+returns-5 c =
+    let at-if1 = c .before .before .before .before in
+    let start = at-if1 .before in
+    rw (at-if1 .if1 .left, lt-leb (start .args .policy .watermark) (start .args .slot .buffered) (omega arith), c .if4 .left)
+
+pub deliver-spec : {M : Type 1} → statement M
+deliver-spec =
+    tie.close
+    (tie.spec
+    some-len-requires
+    returns
+    returns-2
+    returns-3
+    with-numbers-requires
+    returns-4
+    returns-5)

@@ -1,0 +1,50 @@
+use borrow.Author.Tests.{eq-eqb, ne-eqb}
+use mathlib.Core.Path.{sym, _∙_}
+use Rattle.slot.specs.Slot.{takeAcks}
+use borrow.Author.Needs.{needs}
+use Rattle.slot_receive.proofs.take_acks.Statement.{statement}
+use Rattle.slot_receive.proofs.take_acks.Tie as tie
+
+has-data-requires : tie.Need-has-data-requires
+has-data-requires c κs = search needs
+
+least-requires : tie.Need-least-requires
+least-requires c κs = search needs
+
+sub-ack-len : tie.Need-sub-ack-len
+sub-ack-len c = search needs
+
+ack-len-requires : tie.Need-ack-len-requires
+ack-len-requires c κs = search needs
+
+is-ack-requires : tie.Need-is-ack-requires
+is-ack-requires c κs = search needs
+
+returns : tie.Need-returns
+unfolding takeAcks
+returns c = rw (sym (c .before .before .before .before .before .before .before .has-data .ensures) ∙ c .before .before .before .before .before .before .if1 .taken, eq-eqb (c .before .before .before .before .before .before .before .before .args .slot .settled) 0 (c .before .before .before .before .if2 .taken)) (cc)
+
+returns-2 : tie.Need-returns-2
+unfolding takeAcks
+returns-2 c =
+    let at-if1 = c .before .before in
+    let at-has-data = at-if1 .before in
+    let start = at-has-data .before in
+    rw (sym (at-has-data .has-data .ensures) ∙ at-if1 .if1 .taken, ne-eqb (start .args .slot .settled) 0 (c .if2 .left))
+
+returns-3 : tie.Need-returns-3
+unfolding takeAcks
+returns-3 c = rw (sym (c .before .has-data .ensures) ∙ c .if1 .left)
+
+pub take-acks-spec : {M : Type 1} → statement M
+take-acks-spec =
+    tie.close
+    (tie.spec
+    has-data-requires
+    least-requires
+    sub-ack-len
+    ack-len-requires
+    is-ack-requires
+    returns
+    returns-2
+    returns-3)

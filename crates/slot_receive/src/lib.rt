@@ -1,0 +1,247 @@
+// What a WRTE of the device's and a read do to a channel's numbers: room, what is set aside, what is acknowledged. The bytes
+// are `rx_store`'s.
+use config::negotiated::RxPolicy;
+use slot::AckDecision;
+use slot::ChannelSlot;
+use slot::PendingAck;
+use slot::Settled;
+use slot::Taken;
+use slot::Wrote;
+use slot::is_closed;
+use slot::is_opening;
+ghost use mathlib.Core.Path.{_≡_};
+ghost use Prim.Native.Nat.{_≤_};
+ghost use Rattle.slot.specs.Slot.{heldOf, acksNow, wroteOf, someLen, deliveredOf, ackLenOf, isAck, hasData, settledSome, settledOf};
+ghost use Rattle.slot.specs.Slot.{takeLen, tookOf, takenOf, takeAcks, slotOk, SlotOk};
+
+fn some_len(len: usize) -> PendingAck
+    ensures { λ r. ⌜ r ≡ someLen len ⌝ }
+{
+    if len == 0 {
+        return PendingAck::Nothing;
+    }
+    PendingAck::Len(len)
+}
+
+fn is_ack(ack: PendingAck) -> bool
+    ensures { λ r. ⌜ r ≡ isAck ack ⌝ }
+{
+    match ack {
+        PendingAck::Nothing => false,
+        PendingAck::Len(_) => true,
+    }
+}
+
+// Buffered bytes that no read has acknowledged.
+pub fn held(slot: ChannelSlot) -> usize
+    requires { ⌜ slot .settled ≤ slot .buffered ⌝ }
+    ensures { λ r. ⌜ r ≡ heldOf slot ⌝ }
+{
+    slot.buffered - slot.settled
+}
+
+// Whether a WRTE that brings the held bytes to `held` is acknowledged at once.
+fn acks_now(slot: ChannelSlot, policy: RxPolicy, held: usize) -> bool
+    ensures { λ r. ⌜ r ≡ acksNow slot policy held ⌝ }
+{
+    if policy.delayed {
+        return false;
+    }
+    if held < policy.watermark {
+        return slot.has_remote;
+    }
+    false
+}
+
+// A WRTE of n bytes.
+pub fn apply_write(slot: ChannelSlot, n: usize, policy: RxPolicy) -> Wrote
+    requires { ⌜ SlotOk slot (policy .«rx_cap») ⌝ }
+    ensures { λ r. ⌜ r ≡ wroteOf slot policy n ⌝ }
+{
+    let state = slot.state;
+    if is_opening(state) {
+        return Wrote {
+            slot,
+            decision: AckDecision::Early,
+        };
+    }
+    let held = held(slot);
+    if policy.rx_cap - held < n {
+        return Wrote {
+            slot,
+            decision: AckDecision::Overflow,
+        };
+    }
+    let head = rx_store::appended_head(2 * policy.rx_cap, slot.head, slot.buffered, n);
+    let buffered = slot.buffered + n;
+    if acks_now(slot, policy, held + n) {
+        return Wrote {
+            slot: slot.with_numbers(0, slot.settled, head, buffered),
+            decision: AckDecision::Now(n),
+        };
+    }
+    let unacked = saturate::sat_sum(slot.unacked, n);
+    Wrote {
+        slot: slot.with_numbers(unacked, slot.settled, head, buffered),
+        decision: AckDecision::Hold,
+    }
+}
+
+// Bytes of a WRTE that went straight to the reader: they never were unacknowledged.
+pub fn deliver(slot: ChannelSlot, taken: usize, policy: RxPolicy) -> Settled
+    ensures { λ r. ⌜ r ≡ deliveredOf slot policy taken ⌝ }
+{
+    if policy.delayed {
+        if slot.has_remote {
+            return Settled {
+                slot,
+                ack: some_len(taken),
+            };
+        }
+        return Settled {
+            slot,
+            ack: PendingAck::Nothing,
+        };
+    }
+    if slot.buffered >= policy.watermark {
+        return Settled {
+            slot,
+            ack: PendingAck::Nothing,
+        };
+    }
+    if slot.has_remote {
+        return Settled {
+            slot: slot.with_numbers(0, slot.settled, slot.head, slot.buffered),
+            ack: PendingAck::Len(slot.unacked),
+        };
+    }
+    Settled {
+        slot,
+        ack: PendingAck::Nothing,
+    }
+}
+
+// How many bytes to acknowledge where n are set aside and `remaining` stay.
+fn ack_len(slot: ChannelSlot, n: usize, remaining: usize, policy: RxPolicy) -> PendingAck
+    ensures { λ r. ⌜ r ≡ ackLenOf slot policy n remaining ⌝ }
+{
+    if slot.unacked == 0 {
+        return PendingAck::Nothing;
+    }
+    if policy.delayed {
+        return some_len(saturate::least(n, slot.unacked));
+    }
+    if remaining < policy.watermark {
+        return PendingAck::Len(slot.unacked);
+    }
+    PendingAck::Nothing
+}
+
+pub fn has_data(slot: ChannelSlot) -> bool
+    ensures { λ r. ⌜ r ≡ hasData slot ⌝ }
+{
+    if slot.has_remote {
+        return slot.buffered != 0;
+    }
+    false
+}
+
+// Acknowledges what a read of `want` bytes is to take, and sets it aside.
+pub fn settle_take(slot: ChannelSlot, want: usize, policy: RxPolicy) -> Settled
+    ensures { λ r. ⌜ r ≡ settledOf slot policy want ⌝ }
+{
+    if slot.has_remote {
+        if slot.settled == 0 {
+            return settle_some(slot, saturate::least(want, slot.buffered), policy);
+        }
+    }
+    Settled {
+        slot,
+        ack: PendingAck::Nothing,
+    }
+}
+
+fn settle_some(slot: ChannelSlot, n: usize, policy: RxPolicy) -> Settled
+    requires { ⌜ n ≤ slot .buffered ⌝ }
+    ensures { λ r. ⌜ r ≡ settledSome slot policy n ⌝ }
+{
+    let ack = ack_len(slot, n, slot.buffered - n, policy);
+    match ack {
+        PendingAck::Nothing => Settled {
+            slot,
+            ack: PendingAck::Nothing,
+        },
+        PendingAck::Len(len) => Settled {
+            slot: slot.with_numbers(slot.unacked - len, n, slot.head, slot.buffered),
+            ack: PendingAck::Len(len),
+        },
+    }
+}
+
+// How many bytes a read into `room` bytes takes.
+fn take_len(slot: ChannelSlot, room: usize) -> usize
+    ensures { λ r. ⌜ r ≡ takeLen slot room ⌝ }
+{
+    if slot.settled == 0 {
+        return saturate::least(room, slot.buffered);
+    }
+    saturate::least(room, slot.settled)
+}
+
+// The slot after n of its buffered bytes were taken.
+fn took(slot: ChannelSlot, n: usize, cap: usize) -> ChannelSlot
+    requires { ⌜ SlotOk slot cap × (n ≤ slot .buffered) ⌝ }
+    ensures { λ r. ⌜ r ≡ tookOf slot n ⌝ }
+{
+    let settled = slot.settled - saturate::least(n, slot.settled);
+    let head = rx_store::taken_head(slot.head, slot.buffered, n);
+    slot.with_numbers(slot.unacked, settled, head, slot.buffered - n)
+}
+
+// What a read into `room` bytes finds, in numbers; `rx_store` hands the bytes over. `cap` is only for the `requires`.
+pub fn take_buffered(slot: ChannelSlot, room: usize, cap: usize) -> Taken
+    requires { ⌜ SlotOk slot cap ⌝ }
+    ensures { λ r. ⌜ r ≡ takenOf slot room ⌝ }
+{
+    if has_data(slot) {
+        let n = take_len(slot, room);
+        return Taken::Data(took(slot, n, cap), n);
+    }
+    let state = slot.state;
+    if is_closed(state) {
+        return Taken::Closed(slot.closed_error());
+    }
+    Taken::Nothing
+}
+
+// Whether a read of `want` bytes would acknowledge.
+pub fn take_acks(slot: ChannelSlot, want: usize, policy: RxPolicy) -> bool
+    ensures { λ r. ⌜ r ≡ takeAcks slot policy want ⌝ }
+{
+    if has_data(slot) {
+        if slot.settled == 0 {
+            let n = saturate::least(want, slot.buffered);
+            return is_ack(ack_len(slot, n, slot.buffered - n, policy));
+        }
+    }
+    false
+}
+
+// Whether the numbers of received bytes are within a channel's share.
+pub fn is_sound(slot: ChannelSlot, cap: usize) -> bool
+    requires { ⌜ cap ≤ 16777216 ⌝ }
+    ensures { λ r. ⌜ r ≡ slotOk slot cap ⌝ }
+{
+    if slot.settled > cap {
+        return false;
+    }
+    // Held bytes: where less is buffered than settled, the difference wraps to more than any cap.
+    let held = std::num::wrapping_sub_usize(slot.buffered, slot.settled);
+    if held > cap {
+        return false;
+    }
+    if slot.head > 2 * cap - slot.buffered {
+        return false;
+    }
+    true
+}
