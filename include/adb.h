@@ -102,6 +102,8 @@
 #define ADB_REFUSED_CHANNEL_RX_OVERFLOW 11 /* a WRTE over what the channel may hold; frame used, its bytes are dropped */
 #define ADB_REFUSED_NO_FREE_CHANNELS 12    /* every slot is filled */
 #define ADB_REFUSED_BROKEN_STATE 13        /* the state's bytes are not those of a connection */
+#define ADB_REFUSED_LONG_READY_PAYLOAD 20  /* delayed: an OKAY over 4 bytes; as 5 */
+#define ADB_REFUSED_NEGATIVE_CREDIT 21     /* delayed: an OKAY whose credit is below 0; as 5 */
 
 /* ---- lengths */
 
@@ -238,7 +240,7 @@ static inline size_t adb_answer_destination_len(const uint8_t *answer)
 #define ADB_STATE_SLOT_SETTLED 24  /* 8: bytes set aside */
 #define ADB_STATE_SLOT_HEAD 32     /* 8: where the buffered bytes begin in the share */
 #define ADB_STATE_SLOT_BUFFERED 40 /* 8 */
-#define ADB_STATE_SLOT_TAG 48      /* 1: the flags below; bits 3, 4: state (0 opening, 1 open, 2 closed); bits 5, 6: fault */
+#define ADB_STATE_SLOT_TAG 48      /* 1: the flags below; bits 3, 4: state (0 opening, 1 open, 2 closed); bits 5 to 7: fault */
 #define ADB_TAG_FILLED 1
 #define ADB_TAG_HAS_REMOTE 2
 #define ADB_TAG_WRTE_ACKED 4

@@ -1,7 +1,7 @@
 #!/bin/sh
 # Checks the oracle itself on generated scripts (default seeds 1 to 200, 200 calls each): no panic, no harness fault, and the
 # same answers with the open's future kept alive (--keep) as with it resumed through await_open_ack. Then the marked cases,
-# the findings, the runs with books and the differences. Run build.sh first.
+# the findings, the runs with books, the differences, and what the port does otherwise. Run build.sh first.
 #   check.sh [FIRST [LAST [CALLS]]]
 #   BUILD  as for build.sh
 set -eu
@@ -49,7 +49,7 @@ for seed in range(first, last + 1):
 print(f"{n} calls in {last-first+1} scripts agree in both modes ({kept} while an open was kept)")
 for k, v in sorted(seen.items()): print(f"{v:7} ", *k)
 PY
-for list in marked findings ledger differences; do
+for list in marked findings ledger differences apart/credit; do
     "$bin/oracle" < "$here/scripts/$list.txt" | cmp - "$here/scripts/$list.expected"
     echo "scripts/$list.txt as expected"
 done

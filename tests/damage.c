@@ -77,7 +77,7 @@ static int slot_is_whole(const uint8_t *s, size_t i)
     const unsigned tag = p[ADB_STATE_SLOT_TAG], in_state = tag >> ADB_TAG_STATE_SHIFT & 3;
     const uint64_t settled = adb_le64(p + ADB_STATE_SLOT_SETTLED), head = adb_le64(p + ADB_STATE_SLOT_HEAD);
     const uint64_t buffered = adb_le64(p + ADB_STATE_SLOT_BUFFERED), cap = cap_of(s);
-    if (tag > 127 || in_state == 3) return 0;
+    if (tag >> ADB_TAG_FAULT_SHIFT > 5 || in_state == 3) return 0;
     if (!(tag & ADB_TAG_FILLED)) return 1;
     return i < adb_le64(s + ADB_STATE_CHANNELS) && in_state != 0 && tag >> ADB_TAG_FAULT_SHIFT == 0 && tag & ADB_TAG_HAS_REMOTE &&
            settled <= buffered && settled <= cap && buffered - settled <= cap && head <= 2 * cap && buffered <= 2 * cap - head;
@@ -215,7 +215,9 @@ static uint32_t checked(const struct call *c, int late)
         return said;
     }
     count_on++;
-    if (said > ADB_REFUSED_BROKEN_STATE && said != ADB_WAITING && said != ADB_NONE) fault("no such answer", said, 0);
+    if (said > ADB_REFUSED_BROKEN_STATE && said != ADB_WAITING && said != ADB_NONE && said != ADB_REFUSED_LONG_READY_PAYLOAD &&
+        said != ADB_REFUSED_NEGATIVE_CREDIT)
+        fault("no such answer", said, 0);
     if (said == ADB_REFUSED_BAD_CONFIG) fault("refused by 7", said, 0);
     const uint64_t used = adb_answer_used(a), written = adb_answer_written(a);
     const uint64_t got = said == ADB_DONE && has_buf(c->kind) ? adb_answer_value(a, 0) : 0;

@@ -12,6 +12,7 @@ import struct
 rng = random.Random(1)
 VERSION, TOP = 0x0100_0001, 0xFFFF_FFFF
 I32 = (-(1 << 31), -1, 0, 1, (1 << 31) - 1)
+FROM_0 = (0, 1, 2, 1 << 30, (1 << 31) - 1)
 I64 = (-(1 << 63), -(1 << 63) + 1, -(1 << 63) + (1 << 31), -1, 0, 1, 2, 300, (1 << 63) - (1 << 31), (1 << 63) - 2, (1 << 63) - 1)
 SIZES = ((1 << 32) - 1, 1 << 32, (1 << 64) - 1)
 local = 0  # the number of the last open
@@ -32,6 +33,12 @@ def some(n):
 
 def credit(z):
     return struct.pack("<i", z)
+
+
+def ready(n, delayed):
+    """An OKAY's payload of n bytes; in delayed mode of at most 4, and a credit from 0, since libadb takes others."""
+    data = some(n)
+    return data[:3] + bytes(b & 0x7F for b in data[3:4]) if delayed else data
 
 
 def make(payload, rx, initial, delayed, arg0=VERSION, arg1=4096, host=None):
@@ -117,16 +124,16 @@ for host in (0, 1):
     for device in (0, 1):
         make(16, 100, 8, device, host=host)
 
-# an open: its OKAY of 0 to 5 bytes, every credit, a remote number of 0, a WRTE, a CLSE and others' frames before it,
+# an open: its OKAY of 0 to 5 bytes (to 4 in delayed mode), every credit, a remote number of 0, a WRTE, a CLSE and others' frames before it,
 # frames that are refused or not whole, a call that drops it, and a second open
 for delayed in (0, 1):
     for n in range(6):
         make(16, 40, 8, delayed)
         ask()
-        answer(frame(b"OKAY", 7, local, some(n)))
+        answer(frame(b"OKAY", 7, local, ready(n, delayed)))
         ask()
-        answer(frame(b"OKAY", 7, local, some(4)))
-    for z in I32:
+        answer(frame(b"OKAY", 7, local, ready(4, delayed)))
+    for z in FROM_0 if delayed else I32:
         channel(16, 40, 8, delayed, z)
         write(1)
     channel(16, 40, 8, delayed, 9, remote=0)
@@ -234,22 +241,22 @@ for delayed in (0, 1):
 for delayed in (0, 1):
     for budget in I64 if delayed else (I64[0], 0, I64[-1]):
         channel(16, 40, 8, delayed, 3, arg1=rng.choice((0, 1, 7, 4096)))
-        for z in I32:
+        for z in FROM_0 if delayed else I32:
             set_budget(budget)
             okay(credit(z))
         write(0)
         write(2)
         write(2)
-        okay(credit(4) + b"x")
+        okay(credit(4) + b"x" * (1 - delayed))
         write(301)
         okay(credit(4)[:3])
-        okay(credit(-9))
+        okay(credit(9 if delayed else -9))
         write(1)
     for n in range(7):
         channel(16, 40, 8, delayed, 3)
         write(4)
         write(4)
-        okay(some(n))
+        okay(ready(n, delayed))
         write(4)
 for most in (0, 1, 2, 5, 4096):
     for n in (0, 1, 2, 4, 5, 6):
@@ -298,7 +305,8 @@ for n in (1024, 476, 1):
 for _ in range(30):
     payload, rx, initial = rng.choice(CONFIGS)
     cap, _mark = limits(payload, rx, initial)
-    channel(payload, rx, initial, rng.randrange(2) if payload >= 4 else 0, rng.choice((0, 5, -3, 30)), arg1=rng.choice((0, 3, 4096)))
+    delayed = rng.randrange(2) if payload >= 4 else 0
+    channel(payload, rx, initial, delayed, rng.choice((0, 5, 3, 30)), arg1=rng.choice((0, 3, 4096)))
     for _ in range(rng.randrange(5, 35)):
         what = rng.randrange(20)
         if what < 7:
@@ -310,7 +318,8 @@ for _ in range(30):
         elif what < 17:
             write(rng.randrange(6))
         elif what < 19:
-            okay(rng.choice((credit(rng.randrange(-9, 20)), credit(rng.choice(I32)), some(rng.randrange(6)))))
+            low, ends = (0, FROM_0) if delayed else (-9, I32)
+            okay(rng.choice((credit(rng.randrange(low, 20)), credit(rng.choice(ends)), ready(rng.randrange(6), delayed))))
         elif rng.randrange(3) == 0:
             clse(rng.choice((7, 0, 9)), rng.choice((local, 0)))
         else:

@@ -65,7 +65,7 @@ fn refusal_word(refusal: Refusal) -> u64
         Refusal::InvalidMagic => 0,
         Refusal::PayloadTooLarge => 0,
         Refusal::InvalidChecksum => 0,
-        Refusal::ShortReadyPayload => 0,
+        Refusal::BadCredit(_) => 0,
         Refusal::UnexpectedCommand => 0,
         Refusal::BadConfig => 0,
         Refusal::StoreShort => 0,

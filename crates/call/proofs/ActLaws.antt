@@ -20,7 +20,7 @@ use Rattle.slot.specs.declared.ChannelSlot.{ChannelSlot}
 use Rattle.slot.specs.declared.Failed.{Failed}
 use Rattle.slot.specs.declared.Failed.the-variants.{No, By}
 use Rattle.slot.specs.declared.Readied.{Readied}
-use Rattle.slot.specs.declared.Readied.the-variants.{Slot, Short}
+use Rattle.slot.specs.declared.Readied.the-variants.{Slot, Bad}
 use Rattle.slot.specs.declared.ChannelFault.{ChannelFault as Fault}
 use Rattle.slot.specs.declared.ids.ChannelIds.{ChannelIds}
 use Rattle.slot.specs.declared.ids.RemoteId.{RemoteId}
@@ -67,7 +67,7 @@ module _ (p : RxPolicy) (n : ℕ) (ss : List ChannelSlot) where
   quiet-granted : (i : ℕ) (s : ChannelSlot) (remote : RemoteId) (r : Readied) → Quiet (granted i s remote r)
   unfolding granted
   quiet-granted i s remote (Slot t) e = absurd (true≢false (sym e))
-  quiet-granted i s remote Short e = refl
+  quiet-granted i s remote (Bad f) e = refl
 
   quiet-wrote : (i : ℕ) (s : ChannelSlot) (remote : RemoteId) (payload rx : List ℕ) (t : ChannelSlot) (a : AckDecision) → Quiet (wroteBy p i s remote payload rx t a .step)
   unfolding wroteBy

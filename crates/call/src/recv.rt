@@ -40,7 +40,7 @@ pub fn fault_refusal(fault: ChannelFault) -> Refusal
 {
     match fault {
         ChannelFault::RxOverflow => Refusal::ChannelRxOverflow,
-        ChannelFault::ShortReadyPayload => Refusal::ShortReadyPayload,
+        ChannelFault::BadCredit(credit) => Refusal::BadCredit(credit),
         ChannelFault::UnexpectedCommand => Refusal::UnexpectedCommand,
     }
 }

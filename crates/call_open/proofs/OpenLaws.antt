@@ -19,7 +19,8 @@ use Rattle.protocol.proofs.PacketLaws.{frame-length}
 use Rattle.protocol.specs.Command.{isReady, isClose, isWrite}
 use Rattle.slot.specs.declared.ChannelSlot.{ChannelSlot}
 use Rattle.slot.specs.declared.Readied.{Readied}
-use Rattle.slot.specs.declared.Readied.the-variants.{Slot, Short}
+use Rattle.credit.specs.declared.CreditFault.{CreditFault}
+use Rattle.slot.specs.declared.Readied.the-variants.{Slot, Bad}
 use Rattle.slot.specs.declared.ids.LocalId.{LocalId}
 use Rattle.slot.specs.Slot.{openingSlot, openedOf}
 use Rattle.slot.proofs.Laws.{cond-true, cond-false}
@@ -34,7 +35,7 @@ use Rattle.connection.specs.declared.Answer.{Answer}
 use Rattle.connection.specs.declared.Answer.the-variants.{Waiting, Opened, Refused}
 use Rattle.connection.specs.declared.Received.{Received}
 use Rattle.connection.specs.declared.Received.the-variants.{Packet as PacketIs, Stop}
-use Rattle.connection.specs.declared.Refusal.the-variants.{PayloadTooLarge, ShortReadyPayload, UnexpectedCommand, OutShort, ChannelClosed, NoFreeChannels}
+use Rattle.connection.specs.declared.Refusal.the-variants.{PayloadTooLarge, BadCredit, UnexpectedCommand, OutShort, ChannelClosed, NoFreeChannels}
 use Rattle.call.specs.declared.Reply.{Reply}
 use Rattle.call.specs.declared.act.ActedOn.{ActedOn}
 use Rattle.connection.specs.Act.{actOn}
@@ -185,14 +186,14 @@ module _ (state rx store out : List ℕ) (h : Header) (i : h ≡ stateOf state .
         (s ∙ ap (λ (y : ChannelId). putHeader (putSlot state (y .slot) t) less) c)
         (q ∙ ap (λ (y : ChannelId). record { answer = Opened y; used = frameLen p; written = 0 }) c))
 
-    pub ready-short : (r : Reply) (end : ℕ) (out' state' : List ℕ) → 56 ≤ length out → readied ≡ Short
+    pub ready-bad : (b : CreditFault) (r : Reply) (end : ℕ) (out' state' : List ℕ) → 56 ≤ length out → readied ≡ Bad b
         → Puts out 0 (frameBytes (h .negotiated) (closeFrame (record { local = h .pending .local; remote = record { 0 = p .arg0 } }))) end out' → state' ≡ putHeader state (dropped h)
-        → r ≡ record { answer = Refused ShortReadyPayload; used = frameLen p; written = end } → Leaves (agreedIn state) answered 0 state out [] r state' rx store out' []
+        → r ≡ record { answer = Refused (BadCredit b); used = frameLen p; written = end } → Leaves (agreedIn state) answered 0 state out [] r state' rx store out' []
     unfolding openReadied
-    ready-short r end out' state' u f w s q =
+    ready-bad b r end out' state' u f w s q =
         let z = close-short (agreedIn state) (record { local = h .pending .local; remote = record { 0 = p .arg0 } }) in
-        writes _ (dropped head) (dropped h) (closeFrame (record { local = h .pending .local; remote = record { 0 = p .arg0 } })) (Refused ShortReadyPayload) (frameLen p) r end out' state'
-        (readied-is Short f) w (omega arith) (ap dropped i) s q
+        writes _ (dropped head) (dropped h) (closeFrame (record { local = h .pending .local; remote = record { 0 = p .arg0 } })) (Refused (BadCredit b)) (frameLen p) r end out' state'
+        (readied-is (Bad b) f) w (omega arith) (ap dropped i) s q
 
   -- ---- any other packet
 

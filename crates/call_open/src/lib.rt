@@ -125,10 +125,10 @@ fn open_ready(
                 written: 0,
             }
         }
-        Readied::Short => {
+        Readied::Bad(fault) => {
             let end = close_open(state, out, h, packet.arg0);
             Reply {
-                answer: Answer::Refused(Refusal::ShortReadyPayload),
+                answer: Answer::Refused(Refusal::BadCredit(fault)),
                 used,
                 written: end,
             }

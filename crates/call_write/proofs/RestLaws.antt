@@ -23,10 +23,10 @@ use Rattle.protocol.specs.declared.packet.Packet.{Packet}
 use Rattle.protocol.specs.Command.{isReady, isClose, isThe, wordOf, lettersOf}
 use Rattle.saturate.specs.Saturate.{positivePart}
 use Rattle.slot.specs.declared.Budget.the-variants.{Bytes as Most, Nothing as NoBudget}
-use Rattle.slot.specs.declared.ChannelFault.the-variants.{RxOverflow, ShortReadyPayload, UnexpectedCommand}
+use Rattle.slot.specs.declared.ChannelFault.the-variants.{RxOverflow, BadCredit, UnexpectedCommand}
 use Rattle.slot.specs.declared.ChannelSlot.{ChannelSlot}
 use Rattle.slot.specs.declared.Readied.{Readied}
-use Rattle.slot.specs.declared.Readied.the-variants.{Slot, Short}
+use Rattle.slot.specs.declared.Readied.the-variants.{Slot, Bad}
 use Rattle.slot.specs.declared.Wrote.{Wrote}
 use Rattle.slot.specs.declared.ids.ChannelIds.{ChannelIds}
 use Rattle.slot.specs.declared.ids.LocalId.{LocalId}
@@ -143,7 +143,7 @@ module _ (p : RxPolicy) (n : ℕ) (ss : List ChannelSlot) (i : ℕ) (full : n �
   goes-granted : (f : ℕ) (remote : RemoteId) (r : Readied) → (i ≡ f → ⊥) → Goes (granted f (slotIn ss f) remote r)
   unfolding granted
   goes-granted f remote (Slot t) h = goes-stored (CreditGranted f) f t (λ e. absurd (h e))
-  goes-granted f remote Short h = goes-left (faulted f (slotIn ss f) remote ShortReadyPayload)
+  goes-granted f remote (Bad b) h = goes-left (faulted f (slotIn ss f) remote (BadCredit b))
 
   goes-ready : (remote : RemoteId) (local : LocalId) (payload : List ℕ) → eqb (local .0) (own .local .0) ≡ false → Goes (grantOf p n ss remote local payload)
   unfolding grantOf readyAt

@@ -25,7 +25,8 @@ use Rattle.slot.specs.declared.ChannelSlot.{ChannelSlot}
 use Rattle.slot.specs.declared.Failed.{Failed}
 use Rattle.slot.specs.declared.Failed.the-variants.{No, By}
 use Rattle.slot.specs.declared.Readied.{Readied}
-use Rattle.slot.specs.declared.Readied.the-variants.{Slot as ReadySlot, Short}
+use Rattle.credit.specs.declared.CreditFault.{CreditFault}
+use Rattle.slot.specs.declared.Readied.the-variants.{Slot as ReadySlot, Bad}
 use Rattle.slot.specs.declared.ids.ChannelIds.{ChannelIds}
 use Rattle.slot.specs.Ids.{closedBy}
 use Rattle.slot.specs.Slot.{isClosed, readyOf, budgetOf, spentOf, closedSlot}
@@ -41,7 +42,7 @@ use Rattle.connection.specs.declared.Answer.{Answer}
 use Rattle.connection.specs.declared.Answer.the-variants.{Waiting, Written, Refused}
 use Rattle.connection.specs.declared.Received.{Received}
 use Rattle.connection.specs.declared.Received.the-variants.{Packet as PacketIs, Stop}
-use Rattle.connection.specs.declared.Refusal.the-variants.{ShortReadyPayload, OutShort, ChannelClosed}
+use Rattle.connection.specs.declared.Refusal.the-variants.{BadCredit, OutShort, ChannelClosed}
 use Rattle.call.specs.declared.Reply.{Reply}
 use Rattle.call.specs.declared.admit.Found.{Found}
 use Rattle.call.specs.declared.admit.Found.the-variants.{Slot, Nothing}
@@ -176,12 +177,12 @@ module _ (state out bytes : List ℕ) (ch : ChannelId) (h : Header) (g : Sends s
     ready-again t r state' out' f =
         subst (λ (z : Readied). Leaves agreed (writeReadied (lentOf state rx store) ch (length out) bytes used (starts state rx store) s z) 0 state out [] r state' rx store out' []) (readied-is (ReadySlot t) f)
 
-    pub ready-short : (r : Reply) (state' : List ℕ) → x ≡ Short → state' ≡ putHeader state h → r ≡ record { answer = Refused ShortReadyPayload; used = used; written = 0 }
+    pub ready-bad : (b : CreditFault) (r : Reply) (state' : List ℕ) → x ≡ Bad b → state' ≡ putHeader state h → r ≡ record { answer = Refused (BadCredit b); used = used; written = 0 }
         → Leaves agreed (writeReadied (lentOf state rx store) ch (length out) bytes used (starts state rx store) s (readyOf s payload (policy (lentOf state rx store)))) 0 state out [] r state' rx store out []
     unfolding writeReadied
-    ready-short r state' f d q =
-        subst (λ (z : Readied). Leaves agreed (writeReadied (lentOf state rx store) ch (length out) bytes used (starts state rx store) s z) 0 state out [] r state' rx store out []) (readied-is Short f)
-        (stops-leaves state rx store h (g .header) out [] _ (Refused ShortReadyPayload) used r state' refl d q)
+    ready-bad b r state' f d q =
+        subst (λ (z : Readied). Leaves agreed (writeReadied (lentOf state rx store) ch (length out) bytes used (starts state rx store) s z) 0 state out [] r state' rx store out []) (readied-is (Bad b) f)
+        (stops-leaves state rx store h (g .header) out [] _ (Refused (BadCredit b)) used r state' refl d q)
 
 -- ---- a channel that was found
 

@@ -128,10 +128,10 @@ fn write_ready(
     let readied = slot_send::apply_ready(s, payload, n.rx_policy());
     match readied {
         Readied::Slot(t) => send_again(state, ch, t, bytes, used, out, h),
-        Readied::Short => {
+        Readied::Bad(fault) => {
             put_header(state, h);
             Reply {
-                answer: Answer::Refused(Refusal::ShortReadyPayload),
+                answer: Answer::Refused(Refusal::BadCredit(fault)),
                 used,
                 written: 0,
             }

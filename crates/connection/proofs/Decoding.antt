@@ -23,7 +23,8 @@ use Rattle.protocol.specs.Packet.{payloadOf, checkPasses, packetOf, knownOf, na
 use Rattle.slot.specs.declared.ChannelError.{ChannelError}
 use Rattle.slot.specs.declared.ChannelError.the-variants.{Closed as ErrorClosed, Fault}
 use Rattle.slot.specs.declared.ChannelFault.{ChannelFault}
-use Rattle.slot.specs.declared.ChannelFault.the-variants.{RxOverflow, ShortReadyPayload as CreditShort, UnexpectedCommand as WriteEarly}
+use Rattle.credit.proofs.CreditLaws.{by-number}
+use Rattle.slot.specs.declared.ChannelFault.the-variants.{RxOverflow, BadCredit as CreditBad, UnexpectedCommand as WriteEarly}
 use Rattle.slot.specs.declared.Failed.{Failed}
 use Rattle.slot.specs.declared.Failed.the-variants.{No, By}
 use Rattle.slot.specs.Numbers.{faultNumber, errorNumber}
@@ -45,7 +46,8 @@ Admitted a = (answerNumber a ≡ 13 → ⊥) × (answerNumber a ≡ 8 → ⊥)
 pub fault-fine : (f : ChannelFault) → Admitted (Refused (faultRefusal f))
 unfolding faultRefusal answerNumber refusalNumber
 fault-fine RxOverflow = (λ e. omega arith, λ e. omega arith)
-fault-fine CreditShort = (λ e. omega arith, λ e. omega arith)
+fault-fine (CreditBad f) =
+    by-number (λ n. (n ≡ 13 → ⊥) × (n ≡ 8 → ⊥)) (λ e. omega arith, λ e. omega arith) (λ e. omega arith, λ e. omega arith) (λ e. omega arith, λ e. omega arith) f
 fault-fine WriteEarly = (λ e. omega arith, λ e. omega arith)
 
 pub error-fine : (x : ChannelError) → Admitted (Refused (errorRefusal x))
@@ -57,7 +59,7 @@ error-fine (Fault f) = fault-fine f
 pub fault-number : (f : ChannelFault) → refusalNumber (faultRefusal f) ≡ faultNumber f
 unfolding faultRefusal refusalNumber faultNumber
 fault-number RxOverflow = refl
-fault-number CreditShort = refl
+fault-number (CreditBad f) = refl
 fault-number WriteEarly = refl
 
 pub error-number : (x : ChannelError) → refusalNumber (errorRefusal x) ≡ errorNumber x

@@ -23,14 +23,14 @@ use Rattle.slot.specs.declared.ids.ChannelIds.{ChannelIds}
 use Rattle.slot.specs.declared.ids.LocalId.{LocalId}
 use Rattle.slot.specs.declared.ids.RemoteId.{RemoteId}
 use Rattle.slot.specs.declared.ChannelError.{ChannelError}
-use Rattle.slot.specs.declared.ChannelFault.the-variants.{RxOverflow, ShortReadyPayload, UnexpectedCommand}
+use Rattle.slot.specs.declared.ChannelFault.the-variants.{RxOverflow, BadCredit, UnexpectedCommand}
 use Rattle.slot.specs.declared.ChannelSlot.{ChannelSlot}
 use Rattle.credit.specs.declared.Credit.{Credit}
-use Rattle.credit.specs.declared.Credit.the-variants.{Of, Short as CreditShort}
+use Rattle.credit.specs.declared.Credit.the-variants.{Of, Bad as CreditBad}
 use Rattle.slot.specs.declared.PendingAck.{PendingAck}
 use Rattle.slot.specs.declared.PendingAck.the-variants.{Len, Nothing as NoAck}
 use Rattle.slot.specs.declared.Readied.{Readied}
-use Rattle.slot.specs.declared.Readied.the-variants.{Slot, Short}
+use Rattle.slot.specs.declared.Readied.the-variants.{Slot, Bad}
 use Rattle.slot.specs.declared.Settled.{Settled as SettledSlot}
 use Rattle.slot.specs.declared.Taken.{Taken}
 use Rattle.slot.specs.declared.Taken.the-variants.{Data, Nothing as NothingTaken, Closed as ClosedTaken}
@@ -193,17 +193,17 @@ pub record Own (Q : Type 0) (p : RxPolicy) (s : ChannelSlot) (writes : Bool) (t 
 
 abbrev pub Readied-ids : Readied → Type 0
 Readied-ids (Slot t) = IdsFit (idsIn t)
-Readied-ids Short = Unit {0}
+Readied-ids (Bad f) = Unit {0}
 
 opened-ids-by : (s : ChannelSlot) (r : RemoteId) (c : Credit) → IdsFit (idsIn s) → r .0 < 2 ^ 32 → Readied-ids (openedBy s r c)
 unfolding openedBy
 opened-ids-by s r (Of z) h g = record { local = h .local; remote = g }
-opened-ids-by s r CreditShort h g = tt
+opened-ids-by s r (CreditBad f) h g = tt
 
 ready-ids-by : (s : ChannelSlot) (c : Credit) → IdsFit (idsIn s) → Readied-ids (readyBy s c)
 unfolding readyBy
 ready-ids-by s (Of z) h = record { local = h .local; remote = h .remote }
-ready-ids-by s CreditShort h = tt
+ready-ids-by s (CreditBad f) h = tt
 
 -- an OKAY leaves a slot's numbers of 32 bits
 pub readied-ids : (s : ChannelSlot) (r : RemoteId) (payload : List ℕ) (p : RxPolicy) → IdsFit (idsIn s) → r .0 < 2 ^ 32 → Readied-ids (readiedOf s r payload p)
@@ -276,7 +276,7 @@ module _ (Q : Type 0) (p : RxPolicy) (n : ℕ) (ss : List ChannelSlot) (i : ℕ)
   goes-granted : (f : ℕ) (remote : RemoteId) (r : Readied) → Readied-ids r → (i ≡ f → Q → Readied-sound (p .«rx_cap») r) → Goes (granted f (slotIn ss f) remote r)
   unfolding granted
   goes-granted f remote (Slot t) h s = goes-stored (CreditGranted f) f t tt h s (quiet refl)
-  goes-granted f remote Short h s = goes-left (faulted f (slotIn ss f) remote ShortReadyPayload) tt
+  goes-granted f remote (Bad b) h s = goes-left (faulted f (slotIn ss f) remote (BadCredit b)) tt
 
   goes-stray : (remote : RemoteId) (local : LocalId) → remote .0 < 2 ^ 32 → local .0 < 2 ^ 32 → Goes (left (strayOf remote local))
   unfolding strayOf

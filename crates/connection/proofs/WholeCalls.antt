@@ -22,7 +22,9 @@ use Rattle.slot.specs.declared.Failed.{Failed}
 use Rattle.slot.specs.declared.Failed.the-variants.{No, By}
 use Rattle.slot.specs.declared.PendingAck.{PendingAck}
 use Rattle.slot.specs.declared.Readied.{Readied}
-use Rattle.slot.specs.declared.Readied.the-variants.{Slot, Short}
+use Rattle.credit.specs.declared.CreditFault.{CreditFault}
+use Rattle.slot.specs.declared.ChannelFault.the-variants.{BadCredit as CreditBad}
+use Rattle.slot.specs.declared.Readied.the-variants.{Slot, Bad}
 use Rattle.slot.specs.declared.Settled.{Settled as SettledSlot}
 use Rattle.slot.specs.declared.Taken.{Taken}
 use Rattle.slot.specs.declared.Taken.the-variants.{Data, Nothing as NothingTaken, Closed as ClosedTaken}
@@ -43,7 +45,7 @@ use Rattle.connection.specs.declared.Answer.{Answer}
 use Rattle.connection.specs.declared.Answer.the-variants.{Done, Waiting, Nothing, Opened, Settled, Read, Written, Front as FrontIs, Refused}
 use Rattle.connection.specs.declared.Received.{Received}
 use Rattle.connection.specs.declared.Received.the-variants.{Packet as PacketIs, Stop}
-use Rattle.connection.specs.declared.Refusal.the-variants.{PayloadTooLarge, ShortReadyPayload, UnexpectedCommand, OutShort, ChannelClosed, NoFreeChannels}
+use Rattle.connection.specs.declared.Refusal.the-variants.{PayloadTooLarge, BadCredit, UnexpectedCommand, OutShort, ChannelClosed, NoFreeChannels}
 use Rattle.connection.specs.Answer.{refusalNumber, answerNumber}
 use Rattle.connection.specs.Act.{Acted, actOn, PacketFits}
 use Rattle.connection.specs.Calls.{Lent, Work, begun, then, thenActed, ends, dropped, pendingFor, policy, idsIn, isThere, slotFor, ackFrames, faultRefusal, errorRefusal, unlessFault, receivedOf, bodyOf, frameLen, dispatchBy, dispatchStep, settledAs, settleStep, takenBy, takeStep, reread, readSettled, readActed, isDirect, readDirect, readBy, readTaken, readFirst, readStep, sendLen, sendSome, sendBy, sendAgain, writeReadied, writeActed, writeAct, writeBy, writeFirst, writeOn, writeStep, closeStep, takeFrontBy, takeFrontStep, openOn, stillPending, openReadied, openActed, openBy, openStep}
@@ -94,9 +96,9 @@ closed-fine : Admitted (Refused ChannelClosed)
 unfolding answerNumber refusalNumber
 closed-fine = (λ e. omega arith, λ e. omega arith)
 
-short-fine : Admitted (Refused ShortReadyPayload)
-unfolding answerNumber refusalNumber
-short-fine = (λ e. omega arith, λ e. omega arith)
+bad-fine : (f : CreditFault) → Admitted (Refused (BadCredit f))
+unfolding faultRefusal
+bad-fine f = fault-fine (CreditBad f)
 
 early-fine : Admitted (Refused UnexpectedCommand)
 unfolding answerNumber refusalNumber
@@ -286,7 +288,7 @@ module _ (l : Lent) (g : Whole (negotiated l) (l .state .header) (l .state .slot
       write-readied : (used : ℕ) (w : Work) (s : ChannelSlot) → At l (ch .slot) w → (r : Readied) → ReadiedLive (negotiated l) (ch .slot) r → Kept l (writeReadied l ch out bytes used w s r)
       unfolding writeReadied
       write-readied used w s k (Slot t) v = send-again used w t k v
-      write-readied used w s k Short v = at-ends l (ch .slot) w k (Refused ShortReadyPayload) used [] short-fine
+      write-readied used w s k (Bad f) v = at-ends l (ch .slot) w k (Refused (BadCredit f)) used [] (bad-fine f)
 
       write-acted : (used : ℕ) (w : Work) (a : Acted) → At l (ch .slot) (thenActed w a) → (f : Failed) → Kept l (writeActed l ch out bytes used w a f)
       unfolding writeActed
@@ -356,7 +358,7 @@ module _ (l : Lent) (g : Whole (negotiated l) (l .state .header) (l .state .slot
       open-readied remote used (Slot t) v =
           let most = g .limits .within .most-channels in
           ends-kept l _ (slot-whole l _ (dropped-whole l g) (ch .slot) t [] (omega arith) (λ e. never e) (live-whole (negotiated l) (ch .slot) t v)) (Opened ch) used [] (opened-fine ch)
-      open-readied remote used Short v = ends-kept l _ (frames-whole l _ (dropped-whole l g) _) (Refused ShortReadyPayload) used [] short-fine
+      open-readied remote used (Bad f) v = ends-kept l _ (frames-whole l _ (dropped-whole l g) _) (Refused (BadCredit f)) used [] (bad-fine f)
 
       cap-small : policyOf (negotiated l) .«rx_cap» ≤ 16777216
       unfolding policyOf

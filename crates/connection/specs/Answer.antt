@@ -5,8 +5,9 @@ use Rattle.slot.specs.declared.PendingAck.{PendingAck}
 use Rattle.slot.specs.declared.PendingAck.the-variants.{Len, Nothing as NoAck}
 use Rattle.connection.specs.declared.Answer.{Answer}
 use Rattle.connection.specs.declared.Answer.the-variants.{Done, Waiting, Nothing, Opened, Settled, Read, Written, Front, Refused}
+use Rattle.credit.specs.Credit.{creditFaultNumber}
 use Rattle.connection.specs.declared.Refusal.{Refusal}
-use Rattle.connection.specs.declared.Refusal.the-variants.{InvalidCommand, InvalidMagic, PayloadTooLarge, InvalidChecksum, ShortReadyPayload, UnexpectedCommand, BadConfig, StoreShort, OutShort, ChannelClosed, ChannelRxOverflow, NoFreeChannels, BrokenState}
+use Rattle.connection.specs.declared.Refusal.the-variants.{InvalidCommand, InvalidMagic, PayloadTooLarge, InvalidChecksum, BadCredit, UnexpectedCommand, BadConfig, StoreShort, OutShort, ChannelClosed, ChannelRxOverflow, NoFreeChannels, BrokenState}
 
 -- a refusal's number
 unfoldable pub refusalNumber : Refusal → ℕ
@@ -14,7 +15,7 @@ refusalNumber (InvalidCommand word) = 1
 refusalNumber InvalidMagic = 2
 refusalNumber PayloadTooLarge = 3
 refusalNumber InvalidChecksum = 4
-refusalNumber ShortReadyPayload = 5
+refusalNumber (BadCredit f) = creditFaultNumber f
 refusalNumber UnexpectedCommand = 6
 refusalNumber BadConfig = 7
 refusalNumber StoreShort = 8
@@ -47,7 +48,7 @@ refusalWord (InvalidCommand word) = word
 refusalWord InvalidMagic = 0
 refusalWord PayloadTooLarge = 0
 refusalWord InvalidChecksum = 0
-refusalWord ShortReadyPayload = 0
+refusalWord (BadCredit f) = 0
 refusalWord UnexpectedCommand = 0
 refusalWord BadConfig = 0
 refusalWord StoreShort = 0

@@ -24,14 +24,14 @@ use Rattle.slot.specs.declared.Budget.the-variants.{Bytes, Nothing as NoBudget}
 use Rattle.slot.specs.declared.ChannelError.{ChannelError}
 use Rattle.slot.specs.declared.ChannelError.the-variants.{Closed as ErrorClosed, Fault}
 use Rattle.slot.specs.declared.ChannelFault.{ChannelFault}
-use Rattle.slot.specs.declared.ChannelFault.the-variants.{RxOverflow, ShortReadyPayload as CreditShort, UnexpectedCommand as WriteEarly}
+use Rattle.slot.specs.declared.ChannelFault.the-variants.{RxOverflow, BadCredit as CreditBad, UnexpectedCommand as WriteEarly}
 use Rattle.slot.specs.declared.ChannelSlot.{ChannelSlot}
 use Rattle.slot.specs.declared.Failed.{Failed}
 use Rattle.slot.specs.declared.Failed.the-variants.{No, By}
 use Rattle.slot.specs.declared.PendingAck.{PendingAck}
 use Rattle.slot.specs.declared.PendingAck.the-variants.{Len, Nothing as NoAck}
 use Rattle.slot.specs.declared.Readied.{Readied}
-use Rattle.slot.specs.declared.Readied.the-variants.{Slot, Short}
+use Rattle.slot.specs.declared.Readied.the-variants.{Slot, Bad}
 use Rattle.slot.specs.declared.Settled.{Settled as SettledSlot}
 use Rattle.slot.specs.declared.Taken.{Taken}
 use Rattle.slot.specs.declared.Taken.the-variants.{Data, Nothing as NothingTaken, Closed as ClosedTaken}
@@ -52,7 +52,7 @@ use Rattle.connection.specs.declared.Answer.the-variants.{Done, Waiting,
 use Rattle.connection.specs.declared.Received.{Received}
 use Rattle.connection.specs.declared.Received.the-variants.{Packet as PacketIs, Stop}
 use Rattle.connection.specs.declared.Refusal.{Refusal}
-use Rattle.connection.specs.declared.Refusal.the-variants.{InvalidCommand, InvalidMagic, PayloadTooLarge, InvalidChecksum, ShortReadyPayload, UnexpectedCommand, BadConfig, StoreShort, OutShort, ChannelClosed, ChannelRxOverflow, NoFreeChannels, BrokenState}
+use Rattle.connection.specs.declared.Refusal.the-variants.{InvalidCommand, InvalidMagic, PayloadTooLarge, InvalidChecksum, BadCredit, UnexpectedCommand, BadConfig, StoreShort, OutShort, ChannelClosed, ChannelRxOverflow, NoFreeChannels, BrokenState}
 use Rattle.connection.specs.Act.{Acted, actOn}
 use Rattle.connection.specs.Frames.{Frame, okayFrame, closeFrame, openFrame, writeFrame, framesBytes}
 use Rattle.protocol.specs.Message.{messageSize}
@@ -170,7 +170,7 @@ ackFrames s NoAck = []
 -- `fault.error()`
 unfoldable pub faultRefusal : ChannelFault → Refusal
 faultRefusal RxOverflow = ChannelRxOverflow
-faultRefusal CreditShort = ShortReadyPayload
+faultRefusal (CreditBad f) = BadCredit f
 faultRefusal WriteEarly = UnexpectedCommand
 
 -- why a channel can be read or written no more, as a refusal
@@ -347,7 +347,7 @@ sendAgain l ch out bytes used w s =
 -- the channel's own OKAY: its credit is used at once, or it is short (5)
 unfoldable pub writeReadied : Lent → ChannelId → ℕ → List ℕ → ℕ → Work → ChannelSlot → Readied → Outcome
 writeReadied l ch out bytes used w s (Slot t) = sendAgain l ch out bytes used w t
-writeReadied l ch out bytes used w s Short = ends w (Refused ShortReadyPayload) used []
+writeReadied l ch out bytes used w s (Bad f) = ends w (Refused (BadCredit f)) used []
 
 -- a packet that was dispatched: its fault, or the next turn of the loop
 unfoldable pub writeActed : Lent → ChannelId → ℕ → List ℕ → ℕ → Work → Acted → Failed → Outcome
@@ -435,8 +435,8 @@ stillPending (Refused r) h = dropped h
 -- its OKAY
 unfoldable pub openReadied : Lent → ChannelId → ℕ → ℕ → Readied → Outcome
 openReadied l ch remote used (Slot t) = ends (then (begun (dropped (l .state .header)) l) (slotTo (ch .slot) t ∷ []) []) (Opened ch) used []
-openReadied l ch remote used Short =
-    ends (then (begun (dropped (l .state .header)) l) [] (closeFrame (record { local = ch .local; remote = record { 0 = remote } }) ∷ [])) (Refused ShortReadyPayload) used []
+openReadied l ch remote used (Bad f) =
+    ends (then (begun (dropped (l .state .header)) l) [] (closeFrame (record { local = ch .local; remote = record { 0 = remote } }) ∷ [])) (Refused (BadCredit f)) used []
 
 -- any other packet: dispatched
 unfoldable pub openActed : Lent → ℕ → Acted → Outcome

@@ -1,5 +1,6 @@
 // What a connection's calls answer. The calls are defined in specs/; their code is in calls, transfer, reading, writing and
 // opening.
+use credit::CreditFault;
 use protocol::packet::Packet;
 use slot::PendingAck;
 use slot::ids::RemoteId;
@@ -15,7 +16,8 @@ pub enum Refusal {
     InvalidMagic,
     PayloadTooLarge,
     InvalidChecksum,
-    ShortReadyPayload,
+    // 5, 20 and 21.
+    BadCredit(CreditFault),
     UnexpectedCommand,
     BadConfig,
     StoreShort,
@@ -59,7 +61,7 @@ impl Refusal {
             Refusal::InvalidMagic => 2,
             Refusal::PayloadTooLarge => 3,
             Refusal::InvalidChecksum => 4,
-            Refusal::ShortReadyPayload => 5,
+            Refusal::BadCredit(fault) => fault.number(),
             Refusal::UnexpectedCommand => 6,
             Refusal::BadConfig => 7,
             Refusal::StoreShort => 8,

@@ -26,13 +26,13 @@ use Rattle.slot.specs.declared.AckDecision.the-variants.{Now, Hold, Overflow, E
 use Rattle.slot.specs.declared.ChannelFault.the-variants.{RxOverflow}
 use Rattle.slot.specs.declared.ChannelSlot.{ChannelSlot}
 use Rattle.credit.specs.declared.Credit.{Credit}
-use Rattle.credit.specs.declared.Credit.the-variants.{Of, Short as CreditShort}
+use Rattle.credit.specs.declared.Credit.the-variants.{Of, Bad as CreditBad}
 use Rattle.slot.specs.declared.Failed.{Failed}
 use Rattle.slot.specs.declared.Failed.the-variants.{No, By}
 use Rattle.slot.specs.declared.PendingAck.{PendingAck}
 use Rattle.slot.specs.declared.PendingAck.the-variants.{Len, Nothing}
 use Rattle.slot.specs.declared.Readied.{Readied}
-use Rattle.slot.specs.declared.Readied.the-variants.{Slot, Short}
+use Rattle.slot.specs.declared.Readied.the-variants.{Slot, Bad}
 use Rattle.slot.specs.declared.Wrote.{Wrote}
 use Rattle.slot.specs.Slot.{isOpening, isClosed, bufferedWith, isFailed, acksNow, wroteOf, readyBy, readyOf, closedSlot, heldOf, SlotOk}
 use Rattle.credit.specs.Credit.{creditOf}
@@ -129,7 +129,7 @@ silent-close n ss remote local =
 silent-granted : (f : ℕ) (s : ChannelSlot) (remote : RemoteId) (r : Readied) → Silent-step (granted f s remote r)
 unfolding granted
 silent-granted f s remote (Slot t) = refl
-silent-granted f s remote Short = refl
+silent-granted f s remote (Bad b) = refl
 
 silent-stray : (remote : RemoteId) (local : LocalId) → acksFor (strayOf remote local) ≡ 0
 unfolding strayOf
@@ -339,7 +339,7 @@ module _ (p : RxPolicy) (s : ChannelSlot) (q payload : List ℕ) (sound : SlotOk
 ready-live-by : (s : ChannelSlot) (c : Credit) → isClosed (s .state) ≡ false → Leaves (λ (x : ChannelSlot). isClosed (x .state) ≡ false) (readyBy s c)
 unfolding readyBy
 ready-live-by s (Of z) h = h
-ready-live-by s CreditShort h = tt
+ready-live-by s (CreditBad b) h = tt
 
 ready-live : (s : ChannelSlot) (payload : List ℕ) (p : RxPolicy) → isClosed (s .state) ≡ false → Leaves (λ (x : ChannelSlot). isClosed (x .state) ≡ false) (readyOf s payload p)
 unfolding readyOf

@@ -26,7 +26,7 @@ use Rattle.slot.specs.declared.ChannelError.{ChannelError}
 use Rattle.slot.specs.declared.Budget.{Budget}
 use Rattle.slot.specs.declared.Budget.the-variants.{Bytes, Nothing as NoBudget}
 use Rattle.slot.specs.declared.Readied.{Readied}
-use Rattle.slot.specs.declared.Readied.the-variants.{Slot, Short}
+use Rattle.slot.specs.declared.Readied.the-variants.{Slot, Bad}
 use Rattle.slot.specs.declared.Taken.{Taken}
 use Rattle.slot.specs.declared.Taken.the-variants.{Data, Nothing as NothingTaken, Closed as ClosedTaken}
 use Rattle.slot.specs.declared.ids.LocalId.{LocalId}
@@ -45,7 +45,7 @@ use Rattle.table.specs.Table.{slotIn, first, wantedBy, placeOf}
 use Rattle.rx_store.specs.RxStore.{shareOf, frontOf}
 use Rattle.connection.specs.declared.Answer.{Answer}
 use Rattle.connection.specs.declared.Answer.the-variants.{Done, Waiting, Nothing, Settled as SettledIs, Read, Written, Front as FrontIs, Refused}
-use Rattle.connection.specs.declared.Refusal.the-variants.{ChannelClosed, OutShort, ShortReadyPayload as ReadyShort}
+use Rattle.connection.specs.declared.Refusal.the-variants.{ChannelClosed, OutShort, BadCredit as CreditRefused}
 use Rattle.connection.specs.declared.Received.{Received}
 use Rattle.connection.specs.declared.Received.the-variants.{Packet as PacketIs}
 use Rattle.connection.specs.Act.{Acted, actOn}
@@ -60,7 +60,7 @@ use Rattle.history.proofs.Good.{Terms, settled-takes, ready-good, spent
 use Rattle.history.proofs.Packets.{Stops, Got, stopped, packet, got, Marked, marked-set, reads-write, reads-close, reads-arg1, reads-payload, ready-no-write, write-no-close, reads-end, body-length, body-small}
 use Rattle.connection.proofs.Slots.{slots-by, slots-append, slots-length, slotsBy, slot-set-same, slot-set-other}
 use Rattle.history.proofs.Places.{closed-run, ready-run, At, SameRun, TableOk}
-use Rattle.history.proofs.Steps.{fault-apart, unless-is, waiting-four, spent-run, late-error, late-unless, four-error, over-told, table-set, delivered-same, damaged-good, nil-of, settled-run, acted-good, saw, sawOf, stop-good, packet-good, not-four, tells-fault, Fine, ends-fine}
+use Rattle.history.proofs.Steps.{fault-apart, unless-is, waiting-four, spent-run, late-error, late-unless, four-error, over-told, table-set, delivered-same, damaged-good, nil-of, settled-run, acted-good, saw, sawOf, stop-good, packet-good, not-four, tells-fault, Fine, ends-fine, bad-four}
 
 module _ (l : Lent) (credit : Terms) (ok : TableOk (policy l) (l .state .header .negotiated .config .channels) (l .state .slots) (l .rx))
     (lim : Limits (policy l) credit (l .state .header .negotiated .config .«max_payload»)) (i : ℕ) (there : slotIn (l .state .slots) i .filled ≡ true)
@@ -1163,7 +1163,7 @@ module _ (l : Lent) (credit : Terms) (ok : TableOk (policy l) (l .state .header 
               (λ n. readied-left (spentOf t p n) (writeFrame (idsIn t) (take n bytes) ∷ []) (Written n) refl (record { head = spent-run t p n .head ∙ w .head; more = spent-run t p n .more ∙ w .more }) (spent-good p credit t q0 b x n))
               (readied-left t [] Waiting refl w x)
               (λ c. readied-left t [] (Refused ChannelClosed) refl w x)
-          readied-by Short w x = write-ends w0 (Refused ReadyShort) (frameLen k) refl (good-by p credit _ _ _ _ _ _ refl refl (ready-book (Refused ReadyShort) refl) g)
+          readied-by (Bad c) w x = write-ends w0 (Refused (CreditRefused c)) (frameLen k) refl (good-by p credit _ _ _ _ _ _ refl refl (ready-book (Refused (CreditRefused c)) (bad-four c)) g)
 
           this-readied : write-fine (writeReadied l ch out bytes (frameLen k) w0 s0 (readyOf s0 bodyW p))
           this-readied = readied-by (readyOf s0 bodyW p) (ready-run s0 bodyW p) (ready-good p credit s0 q0 b g bodyW)
@@ -1329,7 +1329,7 @@ module _ (l : Lent) (credit : Terms) (ok : TableOk (policy l) (l .state .header 
               (λ n. else-left (spentOf t p n) (writeFrame (idsIn t) (take n bytes) ∷ []) (Written n) (frameLen k) (ready-else (Written n) refl))
               (else-left t [] Waiting (frameLen k) (ready-else Waiting refl))
               (λ c. else-left t [] (Refused ChannelClosed) (frameLen k) (ready-else (Refused ChannelClosed) refl))
-          readied-else Short = write-ends w-else (Refused ReadyShort) (frameLen k) refl (ready-else (Refused ReadyShort) refl)
+          readied-else (Bad c) = write-ends w-else (Refused (CreditRefused c)) (frameLen k) refl (ready-else (Refused (CreditRefused c)) (bad-four c))
 
         -- any other packet
         module _ (u : closedBy (idsIn s-else) k ≡ false) where

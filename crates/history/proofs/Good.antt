@@ -16,9 +16,9 @@ use Rattle.saturate.specs.Saturate.{satSum}
 use Rattle.slot.specs.declared.ids.LocalId.{LocalId}
 use Rattle.slot.specs.declared.ids.RemoteId.{RemoteId}
 use Rattle.credit.specs.declared.Credit.{Credit}
-use Rattle.credit.specs.declared.Credit.the-variants.{Of, Short as CreditShort}
+use Rattle.credit.specs.declared.Credit.the-variants.{Of, Bad as CreditBad}
 use Rattle.slot.specs.declared.Readied.{Readied}
-use Rattle.slot.specs.declared.Readied.the-variants.{Slot, Short}
+use Rattle.slot.specs.declared.Readied.the-variants.{Slot, Bad}
 use Rattle.slot.specs.declared.ChannelSlot.{ChannelSlot}
 use Rattle.slot.specs.declared.PendingAck.{PendingAck}
 use Rattle.slot.specs.declared.PendingAck.the-variants.{Len, Nothing}
@@ -571,7 +571,7 @@ new-numbers p credit asked s l r h f k e1 e2 e3 e4 e5 e6 =
 -- what an OKAY leaves of a slot, if it leaves one
 abbrev pub Leaves : (ChannelSlot → Type 0) → Readied → Type 0
 Leaves P (Slot t) = P t
-Leaves P Short = Unit {0}
+Leaves P (Bad b) = Unit {0}
 
 module _ (p : RxPolicy) (credit : Terms) (asked : ℕ) (l : LocalId) (r : RemoteId) (h : p .delayed ≡ true → asked ≡ credit .credit) where
   abbrev fresh-good : ChannelSlot → Type 0
@@ -580,7 +580,7 @@ module _ (p : RxPolicy) (credit : Terms) (asked : ℕ) (l : LocalId) (r : Remote
   new-by : (c : Credit) → Leaves fresh-good (openedBy (openingSlot l) r c)
   unfolding openedBy openingSlot isClosed
   new-by (Of z) = new-numbers p credit asked _ (l .0) (r .0) h refl refl refl refl refl refl refl refl
-  new-by CreditShort = tt
+  new-by (CreditBad b) = tt
 
   -- the OKAY that answers our OPEN
   pub new-good : (payload : List ℕ) → Leaves fresh-good (openedOf (openingSlot l) r payload p)
@@ -594,7 +594,7 @@ module _ (p : RxPolicy) (credit : Terms) (s : ChannelSlot) (q : List ℕ) (b : B
   ready-by : (c : Credit) → Leaves (λ (t : ChannelSlot). Good p credit t q b) (readyBy s c)
   unfolding readyBy
   ready-by (Of z) = sending-good p credit s q b g (s .«wrte_acked») _
-  ready-by CreditShort = tt
+  ready-by (CreditBad b) = tt
 
   pub ready-good : (payload : List ℕ) → Leaves (λ (t : ChannelSlot). Good p credit t q b) (readyOf s payload p)
   unfolding readyOf

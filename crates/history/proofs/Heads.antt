@@ -24,7 +24,7 @@ use Rattle.slot.specs.declared.ChannelSlot.{ChannelSlot}
 use Rattle.slot.specs.declared.Failed.{Failed}
 use Rattle.slot.specs.declared.Failed.the-variants.{No, By}
 use Rattle.slot.specs.declared.Readied.{Readied}
-use Rattle.slot.specs.declared.Readied.the-variants.{Slot, Short}
+use Rattle.slot.specs.declared.Readied.the-variants.{Slot, Bad}
 use Rattle.slot.specs.declared.Taken.{Taken}
 use Rattle.slot.specs.declared.Taken.the-variants.{Data, Nothing as NothingTaken, Closed as ClosedTaken}
 use Rattle.slot.specs.Ids.{closedBy}
@@ -239,7 +239,7 @@ module _ (l : Lent) where
     readied-heads : (s : ChannelSlot) (r : Readied) → Heads (writeReadied l ch out bytes used (begun h0 l) s r)
     unfolding writeReadied
     readied-heads s (Slot t) = again-heads (begun h0 l) t (refl, refl)
-    readied-heads s Short = off (begun h0 l) _ used [] (refl, refl)
+    readied-heads s (Bad b) = off (begun h0 l) _ used [] (refl, refl)
 
     write-acted-heads : (b : Acted) (f : Failed) → Off (b .header) → Heads (writeActed l ch out bytes used (begun h0 l) b f)
     unfolding writeActed
@@ -290,7 +290,7 @@ module _ (l : Lent) where
   open-readied-heads : (ch : ChannelId) (remote used : ℕ) (r : Readied) → Heads (openReadied l ch remote used r)
   unfolding openReadied
   open-readied-heads ch remote used (Slot t) = off _ _ used [] (refl, refl)
-  open-readied-heads ch remote used Short = off _ _ used [] (refl, refl)
+  open-readied-heads ch remote used (Bad b) = off _ _ used [] (refl, refl)
 
   still-on : (n : Answer) (h : Header) → stillPending n h .pending .on ≡ true → stillPending n h .pending ≡ h .pending
   unfolding stillPending

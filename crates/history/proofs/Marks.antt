@@ -29,7 +29,7 @@ use Rattle.slot.specs.declared.ChannelSlot.{ChannelSlot}
 use Rattle.slot.specs.declared.Failed.{Failed}
 use Rattle.slot.specs.declared.Failed.the-variants.{No, By}
 use Rattle.slot.specs.declared.Readied.{Readied}
-use Rattle.slot.specs.declared.Readied.the-variants.{Slot, Short}
+use Rattle.slot.specs.declared.Readied.the-variants.{Slot, Bad}
 use Rattle.slot.specs.declared.Settled.{Settled}
 use Rattle.slot.specs.declared.Taken.{Taken}
 use Rattle.slot.specs.declared.Taken.the-variants.{Data, Nothing as NothingTaken, Closed as ClosedTaken}
@@ -136,7 +136,7 @@ module _ (p : RxPolicy) (n : ℕ) (ss : List ChannelSlot) (rx : List ℕ) (ok : 
   tame-granted : (f : ℕ) (remote : RemoteId) (r : Readied) → ReadiedStays (slotIn ss f) r → tame-step (granted f (slotIn ss f) remote r)
   unfolding granted
   tame-granted f remote (Slot t) x = (stays-mark (slotIn ss f) t x, tt)
-  tame-granted f remote Short x = tt
+  tame-granted f remote (Bad b) x = tt
 
   tame-ready : (remote : RemoteId) (local : LocalId) → tame-step (grantOf p n ss remote local payload)
   unfolding grantOf readyAt readiedOf
@@ -394,7 +394,7 @@ module _ (l : Lent) (ok : TableOk (policy l) (l .state .header .negotiated .conf
     readied-tame : (used : ℕ) (r : Readied) → ReadiedStays s0 r → tame (writeReadied l ch out bytes used w0 s0 r)
     unfolding writeReadied
     readied-tame used (Slot t) x = again-tame used w0 t tt (stays-mark s0 t x)
-    readied-tame used Short x = tame-plain h0 _ used []
+    readied-tame used (Bad b) x = tame-plain h0 _ used []
 
     fault-tame : (used : ℕ) (k : Packet) (f : Failed) → tame (writeActed l ch out bytes used w0 (actOn h0 ss (l .state .queue) (l .rx) (l .store) k (bodyOf received k)) f)
     unfolding writeActed

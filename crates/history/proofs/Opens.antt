@@ -20,7 +20,8 @@ use Rattle.slot.specs.declared.ChannelSlot.{ChannelSlot}
 use Rattle.slot.specs.declared.Failed.{Failed}
 use Rattle.slot.specs.declared.Failed.the-variants.{No, By}
 use Rattle.slot.specs.declared.Readied.{Readied}
-use Rattle.slot.specs.declared.Readied.the-variants.{Slot, Short}
+use Rattle.credit.proofs.CreditLaws.{by-number}
+use Rattle.slot.specs.declared.Readied.the-variants.{Slot, Bad}
 use Rattle.slot.specs.Slot.{openingSlot, openedOf}
 use Rattle.slot.proofs.Kept.{pick}
 use Rattle.slot.proofs.Laws.{cond-true, cond-false}
@@ -35,7 +36,7 @@ use Rattle.connection.specs.declared.Answer.the-variants.{Waiting, Opened, Refu
 use Rattle.connection.specs.declared.Received.{Received}
 use Rattle.connection.specs.declared.Received.the-variants.{Packet as PacketIs}
 use Rattle.connection.specs.declared.Refusal.{Refusal}
-use Rattle.connection.specs.declared.Refusal.the-variants.{InvalidCommand, InvalidMagic, PayloadTooLarge, InvalidChecksum, ShortReadyPayload, UnexpectedCommand, BadConfig, StoreShort, OutShort, ChannelClosed, ChannelRxOverflow, NoFreeChannels, BrokenState}
+use Rattle.connection.specs.declared.Refusal.the-variants.{InvalidCommand, InvalidMagic, PayloadTooLarge, InvalidChecksum, BadCredit, UnexpectedCommand, BadConfig, StoreShort, OutShort, ChannelClosed, ChannelRxOverflow, NoFreeChannels, BrokenState}
 use Rattle.connection.specs.Act.{Acted, actOn}
 use Rattle.connection.specs.Answer.{refusalNumber, answerNumber}
 use Rattle.connection.specs.Calls.{Lent, Outcome, Work, begun, then, thenActed, storing, ends, untouched, dropped, pendingFor, policy, bodyOf, frameLen, receivedOf, unlessFault, faultRefusal, stillPending, openOn, openReadied, openActed, openBy, openStep}
@@ -48,7 +49,7 @@ use Rattle.history.proofs.Marks.{Tame, tame-ends, tame-act}
 use Rattle.history.proofs.Packets.{Got, stopped, packet, got, Marked, reads-write, reads-close, write-no-close, ready-no-write}
 use Rattle.connection.proofs.Slots.{slotsBy, slot-set-other}
 use Rattle.history.proofs.Places.{TableOk}
-use Rattle.history.proofs.Steps.{saw, sawOf, stop-good, packet-good, acted-good, not-four, tells-fault, waiting-four, Fine, ends-fine}
+use Rattle.history.proofs.Steps.{saw, sawOf, stop-good, packet-good, acted-good, not-four, tells-fault, waiting-four, Fine, ends-fine, bad-four}
 
 pub and-false : (x : Bool) → (x && false) ≡ false
 and-false true = refl
@@ -122,8 +123,8 @@ module _ (l : Lent) (credit : Terms) (ok : TableOk (policy l) (l .state .header 
       readied-fine : isReady (k .command) ≡ true → (r : Readied) → open-fine (openReadied l ch (k .arg0) (frameLen k) r)
       unfolding openReadied answerNumber refusalNumber
       readied-fine rd (Slot t) = open-ends (then (begun (dropped h) l) (slotTo (ch .slot) t ∷ []) []) (Opened ch) (frameLen k) (slot-set-other ss (ch .slot) i t away) refl refl (okay-taken (Opened ch) refl rd)
-      readied-fine rd Short =
-          open-ends (then (begun (dropped h) l) [] (closeFrame (record { local = ch .local; remote = record { 0 = k .arg0 } }) ∷ [])) (Refused ShortReadyPayload) (frameLen k) refl refl refl (okay-taken (Refused ShortReadyPayload) refl rd)
+      readied-fine rd (Bad b) =
+          open-ends (then (begun (dropped h) l) [] (closeFrame (record { local = ch .local; remote = record { 0 = k .arg0 } }) ∷ [])) (Refused (BadCredit b)) (frameLen k) refl refl refl (okay-taken (Refused (BadCredit b)) (bad-four b) rd)
 
       -- a WRTE too early, whose number a channel may share
       early-fine : isWrite (k .command) ≡ true → open-fine (ends (then (begun (dropped h) l) [] (closeFrame (record { local = ch .local; remote = record { 0 = k .arg0 } }) ∷ [])) (Refused UnexpectedCommand) (frameLen k) [])
@@ -201,7 +202,7 @@ refused-is (InvalidCommand word) = refl
 refused-is InvalidMagic = refl
 refused-is PayloadTooLarge = refl
 refused-is InvalidChecksum = refl
-refused-is ShortReadyPayload = refl
+refused-is (BadCredit b) = by-number (λ n. isRefused n ≡ true) refl refl refl b
 refused-is UnexpectedCommand = refl
 refused-is BadConfig = refl
 refused-is StoreShort = refl
@@ -250,7 +251,7 @@ module _ (l : Lent) (ok : TableOk (policy l) (l .state .header .negotiated .conf
       → openedOf (openingSlot (hh .pending .local)) (record { 0 = k .arg0 }) (bodyOf received k) (policy l) ≡ r → Opens l received (openReadied l wch (k .arg0) (frameLen k) r)
   unfolding openReadied ends answerNumber refusalNumber
   opens-readied on k sy (Slot t) e = fills _ t k sy refl refl refl refl on refl e
-  opens-readied on k sy Short e = plain (then (begun (dropped hh) l) [] (closeFrame (record { local = hh .pending .local; remote = record { 0 = k .arg0 } }) ∷ [])) (Refused ShortReadyPayload) (frameLen k) refl tt
+  opens-readied on k sy (Bad b) e = plain (then (begun (dropped hh) l) [] (closeFrame (record { local = hh .pending .local; remote = record { 0 = k .arg0 } }) ∷ [])) (Refused (BadCredit b)) (frameLen k) (by-number (λ n. eqb n 0 ≡ false) refl refl refl b) tt
 
   not-opened : (f : Failed) → eqb (answerNumber (unlessFault f Waiting)) 0 ≡ false
   unfolding unlessFault answerNumber

@@ -21,12 +21,14 @@ use Rattle.protocol.proofs.RoundTrip.{Says}
 use Rattle.protocol.specs.Command.{isReady, isClose, isWrite, isThe, wordOf, lettersOf}
 use Rattle.slot.specs.declared.Budget.{Budget}
 use Rattle.slot.specs.declared.Budget.the-variants.{Bytes, Nothing as NoBudget}
-use Rattle.slot.specs.declared.ChannelFault.the-variants.{RxOverflow, ShortReadyPayload, UnexpectedCommand as WriteEarly}
+use Rattle.credit.proofs.CreditLaws.{by-number}
+use Rattle.credit.specs.declared.CreditFault.{CreditFault}
+use Rattle.slot.specs.declared.ChannelFault.the-variants.{RxOverflow, BadCredit, UnexpectedCommand as WriteEarly}
 use Rattle.slot.specs.declared.ChannelSlot.{ChannelSlot}
 use Rattle.slot.specs.declared.Failed.{Failed}
 use Rattle.slot.specs.declared.Failed.the-variants.{No, By}
 use Rattle.slot.specs.declared.Readied.{Readied}
-use Rattle.slot.specs.declared.Readied.the-variants.{Slot, Short}
+use Rattle.slot.specs.declared.Readied.the-variants.{Slot, Bad}
 use Rattle.slot.specs.declared.Taken.{Taken}
 use Rattle.slot.specs.declared.ids.LocalId.{LocalId}
 use Rattle.slot.specs.declared.ids.RemoteId.{RemoteId}
@@ -49,7 +51,7 @@ use Rattle.connection.specs.declared.Answer.{Answer}
 use Rattle.connection.specs.declared.Answer.the-variants.{Done, Waiting, Opened, Read, Written, Refused}
 use Rattle.connection.specs.declared.Received.{Received}
 use Rattle.connection.specs.declared.Received.the-variants.{Packet as PacketIs}
-use Rattle.connection.specs.declared.Refusal.the-variants.{ChannelClosed, NoFreeChannels, PayloadTooLarge, ShortReadyPayload as ReadyShort, UnexpectedCommand}
+use Rattle.connection.specs.declared.Refusal.the-variants.{ChannelClosed, NoFreeChannels, PayloadTooLarge, BadCredit as CreditRefused, UnexpectedCommand}
 use Rattle.connection.specs.Act.{Acted, tableOf, actOn}
 use Rattle.connection.specs.Answer.{refusalNumber, answerNumber}
 use Rattle.connection.specs.Calls.{Lent, Outcome, Work, begun, then, thenActed, ends, dropped, pendingFor, policy, idsIn, isThere, slotFor, faultRefusal, errorRefusal, unlessFault, receivedOf, bodyOf, frameLen, isDirect, dispatchBy, dispatchStep, settledAs, settleStep, takenBy, takeStep, reread, readSettled, readActed, readDirect, readBy, readTaken, readFirst, readStep, sendSome, sendBy, sendAgain, writeReadied, writeActed, writeAct, writeBy, writeFirst, writeOn, writeStep, closeStep, takeFrontBy, takeFrontStep, openOn, stillPending, openReadied, openActed, openBy, openStep}
@@ -65,7 +67,7 @@ use Rattle.history.proofs.Steps.{table-set}
 abbrev pub overIn : Failed → Bool
 overIn No = false
 overIn (By RxOverflow) = true
-overIn (By ShortReadyPayload) = false
+overIn (By (BadCredit b)) = false
 overIn (By WriteEarly) = false
 
 -- a packet that does not fit: a WRTE with the number of a channel in the table
@@ -91,7 +93,7 @@ module _ (p : RxPolicy) (n : ℕ) (ss : List ChannelSlot) (rx : List ℕ) (ok : 
   calm-granted : (f : ℕ) (s : ChannelSlot) (remote : RemoteId) (r : Readied) → Calm (granted f s remote r)
   unfolding granted
   calm-granted f s remote (Slot t) = refl
-  calm-granted f s remote Short = refl
+  calm-granted f s remote (Bad b) = refl
 
   calm-stray : (remote : RemoteId) (local : LocalId) → overIn (faultOf (strayOf remote local)) ≡ false
   unfolding strayOf
@@ -133,11 +135,15 @@ over-act h ss l k payload ok e =
 abbrev Other : Answer → Type 0
 Other a = answerNumber a ≡ 11 → ⊥
 
+bad-other : (b : CreditFault) → Other (Refused (CreditRefused b))
+unfolding answerNumber refusalNumber
+bad-other b = by-number (λ n. n ≡ 11 → ⊥) (λ e. omega arith) (λ e. omega arith) (λ e. omega arith) b
+
 unless-over : (f : Failed) (a : Answer) → Other a → answerNumber (unlessFault f a) ≡ 11 → overIn f ≡ true
 unfolding unlessFault faultRefusal answerNumber refusalNumber
 unless-over No a h e = absurd (h e)
 unless-over (By RxOverflow) a h e = refl
-unless-over (By ShortReadyPayload) a h e = absurd (omega arith)
+unless-over (By (BadCredit b)) a h e = absurd (bad-other b e)
 unless-over (By WriteEarly) a h e = absurd (omega arith)
 
 -- a channel that did not fail is closed by 10
@@ -333,7 +339,7 @@ module _ (l : Lent) (ok : TableOk (policy l) (l .state .header .negotiated .conf
       readied-notes : (used : ℕ) (w : Work) (s : ChannelSlot) (r : Readied) → E (writeReadied l ch out bytes used w s r)
       unfolding writeReadied answerNumber refusalNumber
       readied-notes used w s (Slot t) = again-notes used w t
-      readied-notes used w s Short = other w (Refused ReadyShort) used [] (λ e. omega arith)
+      readied-notes used w s (Bad b) = other w (Refused (CreditRefused b)) used [] (bad-other b)
 
       fault-notes : (k : Packet) → Says received limit k → (w : Work) (a : Acted) (f : Failed) → (overIn f ≡ true → Over ss (k .command) (k .arg1)) → E (writeActed l ch out bytes (frameLen k) w a f)
       unfolding writeActed unlessFault answerNumber
@@ -375,7 +381,7 @@ module _ (l : Lent) (ok : TableOk (policy l) (l .state .header .negotiated .conf
     open-readied-notes : (ch : ChannelId) (remote used : ℕ) (r : Readied) → E (openReadied l ch remote used r)
     unfolding openReadied answerNumber refusalNumber
     open-readied-notes ch remote used (Slot t) = other _ (Opened ch) used [] (λ e. omega arith)
-    open-readied-notes ch remote used Short = other _ (Refused ReadyShort) used [] (λ e. omega arith)
+    open-readied-notes ch remote used (Bad b) = other _ (Refused (CreditRefused b)) used [] (bad-other b)
 
     open-received-notes : (ch : ChannelId) (r : Received) → Got received limit r → E (openBy l ch received r)
     unfolding openBy openActed answerNumber refusalNumber

@@ -20,14 +20,14 @@ use Rattle.slot.specs.declared.ids.LocalId.{LocalId}
 use Rattle.slot.specs.declared.ids.RemoteId.{RemoteId}
 use Rattle.slot.specs.declared.AckDecision.{AckDecision}
 use Rattle.slot.specs.declared.AckDecision.the-variants.{Now, Hold, Overflow, Early}
-use Rattle.slot.specs.declared.ChannelFault.the-variants.{RxOverflow, ShortReadyPayload}
+use Rattle.slot.specs.declared.ChannelFault.the-variants.{RxOverflow, BadCredit}
 use Rattle.slot.specs.declared.ChannelSlot.{ChannelSlot}
 use Rattle.credit.specs.declared.Credit.{Credit}
-use Rattle.credit.specs.declared.Credit.the-variants.{Of, Short as CreditShort}
+use Rattle.credit.specs.declared.Credit.the-variants.{Of, Bad as CreditBad}
 use Rattle.slot.specs.declared.Failed.{Failed}
 use Rattle.slot.specs.declared.Failed.the-variants.{No, By}
 use Rattle.slot.specs.declared.Readied.{Readied}
-use Rattle.slot.specs.declared.Readied.the-variants.{Slot, Short}
+use Rattle.slot.specs.declared.Readied.the-variants.{Slot, Bad}
 use Rattle.slot.specs.declared.Wrote.{Wrote}
 use Rattle.slot.specs.Slot.{emptySlot, isOpening, isFailed, heldOf, acksNow, bufferedWith, wroteOf, readyBy, readyOf, closedSlot, SlotOk}
 use Rattle.credit.specs.Credit.{creditOf}
@@ -150,7 +150,7 @@ pub record SameRun (s t : ChannelSlot) : Type 0 where
 ready-run-by : (s : ChannelSlot) (c : Credit) → Leaves (SameRun s) (readyBy s c)
 unfolding readyBy
 ready-run-by s (Of z) = record { head = refl; more = refl }
-ready-run-by s CreditShort = tt
+ready-run-by s (CreditBad b) = tt
 
 pub ready-run : (s : ChannelSlot) (payload : List ℕ) (p : RxPolicy) → Leaves (SameRun s) (readyOf s payload p)
 unfolding readyOf
@@ -313,7 +313,7 @@ module _ (p : RxPolicy) (n : ℕ) (ss : List ChannelSlot) (rx : List ℕ) (ok : 
       let w = subst (Leaves (SameRun (slotIn ss i))) e2 (ready-run (slotIn ss i) payload p) in
       credited refl refl (e2 ∙ ap Slot (sym z)) (ap (runOf rx (p .«rx_cap») i) z ∙ run-same t (slotIn ss i) w)))
       (λ u. at-other (CreditGranted f) f t false false refl refl (eqb-false i f u))
-  at-granted f remote Short h e = at-left (faulted f (slotIn ss f) remote ShortReadyPayload) false false refl refl
+  at-granted f remote (Bad b) h e = at-left (faulted f (slotIn ss f) remote (BadCredit b)) false false refl refl
 
   pub at-ready : (remote : RemoteId) (local : LocalId) → AtPlace p ss rx i payload false false (with (grantOf p n ss remote local payload) rx)
   unfolding grantOf readyAt readiedOf

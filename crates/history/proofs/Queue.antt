@@ -32,7 +32,7 @@ use Rattle.slot.specs.declared.Budget.the-variants.{Bytes as Most, Nothing as N
 use Rattle.slot.specs.declared.Failed.{Failed}
 use Rattle.slot.specs.declared.Failed.the-variants.{No, By}
 use Rattle.slot.specs.declared.Readied.{Readied}
-use Rattle.slot.specs.declared.Readied.the-variants.{Slot, Short}
+use Rattle.slot.specs.declared.Readied.the-variants.{Slot, Bad}
 use Rattle.slot.specs.declared.Taken.{Taken}
 use Rattle.slot.specs.declared.Taken.the-variants.{Data, Nothing as NothingTaken, Closed as ClosedTaken}
 use Rattle.slot.specs.Ids.{closedBy}
@@ -116,7 +116,7 @@ module _ (p : RxPolicy) (n : ℕ) (ss : List ChannelSlot) (payload rx : List ℕ
   granted-stays : (i : ℕ) (s : ChannelSlot) (remote : RemoteId) (r : Readied) → stepStays (granted i s remote r)
   unfolding granted moveBy
   granted-stays i s remote (Slot t) = refl
-  granted-stays i s remote Short = refl
+  granted-stays i s remote (Bad b) = refl
 
   ready-stays : (remote : RemoteId) (local : LocalId) → stepStays (grantOf p n ss remote local payload)
   unfolding grantOf readyAt strayOf moveBy
@@ -532,7 +532,7 @@ module _ (l : Lent) (g : Whole (negotiated l) (l .state .header) (l .state .slot
         write-readied : (used : ℕ) (w : Work) (s : ChannelSlot) → Left l m used w → (r : Readied) → Moves l m (writeReadied l ch out bytes used w s r)
         unfolding writeReadied
         write-readied used w s k (Slot t) = send-again used w t k
-        write-readied used w s k Short = ends-left l m w _ used [] k
+        write-readied used w s k (Bad b) = ends-left l m w _ used [] k
 
         write-acted : (used : ℕ) (w : Work) (a : Acted) → Left l m used (thenActed w a) → (f : Failed) → Moves l m (writeActed l ch out bytes used w a f)
         unfolding writeActed
@@ -594,7 +594,7 @@ module _ (l : Lent) (g : Whole (negotiated l) (l .state .header) (l .state .slot
     open-readied : (m : QueueMove) (ch : ChannelId) (remote used : ℕ) (r : Readied) → Left l m used b0 → Moves l m (openReadied l ch remote used r)
     unfolding openReadied
     open-readied m ch remote used (Slot t) k = ends-left l m _ _ used [] k
-    open-readied m ch remote used Short k = ends-left l m _ _ used [] k
+    open-readied m ch remote used (Bad b) k = ends-left l m _ _ used [] k
 
     abbrev pendingId : ChannelId
     pendingId = record { slot = l .state .header .pending .slot; local = l .state .header .pending .local }

@@ -17,7 +17,10 @@ use Rattle.protocol.specs.Command.{isWrite}
 use Rattle.slot.specs.declared.ChannelError.{ChannelError}
 use Rattle.slot.specs.declared.ChannelError.the-variants.{Closed as ErrorClosed, Fault}
 use Rattle.slot.specs.declared.ChannelFault.{ChannelFault}
-use Rattle.slot.specs.declared.ChannelFault.the-variants.{RxOverflow, ShortReadyPayload, UnexpectedCommand}
+use Rattle.credit.proofs.CreditLaws.{by-number}
+use Rattle.credit.specs.declared.CreditFault.{CreditFault}
+use Rattle.connection.specs.declared.Refusal.the-variants.{BadCredit as CreditRefused}
+use Rattle.slot.specs.declared.ChannelFault.the-variants.{RxOverflow, BadCredit, UnexpectedCommand}
 use Rattle.slot.specs.declared.ChannelSlot.{ChannelSlot}
 use Rattle.slot.specs.declared.Failed.{Failed}
 use Rattle.slot.specs.declared.Failed.the-variants.{No, By}
@@ -157,8 +160,13 @@ pub not-four : (fault : Failed) (a : Answer) → eqb (answerNumber a) 4 ≡ fals
 unfolding unlessFault faultRefusal answerNumber refusalNumber
 not-four No a e = e
 not-four (By RxOverflow) a e = refl
-not-four (By ShortReadyPayload) a e = refl
+not-four (By (BadCredit b)) a e = by-number (λ n. eqb n 4 ≡ false) refl refl refl b
 not-four (By UnexpectedCommand) a e = refl
+
+-- nor is that of a credit
+pub bad-four : (b : CreditFault) → eqb (answerNumber (Refused (CreditRefused b))) 4 ≡ false
+unfolding answerNumber refusalNumber
+bad-four b = by-number (λ n. eqb n 4 ≡ false) refl refl refl b
 
 pub tells-fault : (mine : Bool) (fault : Failed) (a : Answer) → isRefused (answerNumber a) ≡ false → Tells mine fault (unlessFault fault a)
 unfolding unlessFault faultRefusal answerNumber refusalNumber
@@ -189,21 +197,21 @@ pub late-error : (e : ChannelError) → isEarly (answerNumber (Refused (errorRef
 unfolding answerNumber refusalNumber errorRefusal faultRefusal
 late-error ErrorClosed = refl
 late-error (Fault RxOverflow) = refl
-late-error (Fault ShortReadyPayload) = refl
+late-error (Fault (BadCredit b)) = by-number (λ n. isEarly n ≡ false) refl refl refl b
 late-error (Fault UnexpectedCommand) = refl
 
 pub late-unless : (f : Failed) (a : Answer) → isEarly (answerNumber a) ≡ false → isEarly (answerNumber (unlessFault f a)) ≡ false
 unfolding unlessFault faultRefusal answerNumber refusalNumber
 late-unless No a e = e
 late-unless (By RxOverflow) a e = refl
-late-unless (By ShortReadyPayload) a e = refl
+late-unless (By (BadCredit b)) a e = by-number (λ n. isEarly n ≡ false) refl refl refl b
 late-unless (By UnexpectedCommand) a e = refl
 
 pub four-error : (x : ChannelError) → eqb (answerNumber (Refused (errorRefusal x))) 4 ≡ false
 unfolding answerNumber refusalNumber errorRefusal faultRefusal
 four-error ErrorClosed = refl
 four-error (Fault RxOverflow) = refl
-four-error (Fault ShortReadyPayload) = refl
+four-error (Fault (BadCredit b)) = by-number (λ n. eqb n 4 ≡ false) refl refl refl b
 four-error (Fault UnexpectedCommand) = refl
 
 -- ---- the place of one channel in a call

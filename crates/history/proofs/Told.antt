@@ -24,7 +24,7 @@ use Rattle.protocol.specs.Message.{messageOf}
 use Rattle.protocol.proofs.PacketLaws.{frame-length}
 use Rattle.credit.specs.declared.Credit.the-variants.{Of}
 use Rattle.slot.specs.Ids.{namedBy}
-use Rattle.credit.specs.Credit.{creditOf}
+use Rattle.credit.specs.Credit.{creditOf, atLeastZero}
 use Rattle.slot.proofs.Kept.{pick}
 use Rattle.slot.proofs.Laws.{cond-true, cond-false}
 use Rattle.le.specs.Rows.{flat}
@@ -130,10 +130,10 @@ size-is n (f ∷ fs) =
 
 -- an OKAY's credit, read as the signed number that it is
 okay-signed : (len : ℕ) → len < 2 ^ 31 → creditOf (creditBytes true len) ≡ Of (pos (creditIn (creditBytes true len)))
-unfolding creditOf creditIn creditBytes bytesOf part signed
+unfolding creditOf atLeastZero creditIn creditBytes bytesOf part signed
 okay-signed len h =
     let w : numOf (bytesOf 4 len) ≡ len = write-read 4 len (omega arith) in
-    ap (λ (x : ℕ). Of (signed 31 x)) w ∙ ap Of (cond-true (ltb len (2 ^ 31)) (pos len) _ (lt-ltb len (2 ^ 31) h)) ∙ sym (ap (λ (x : ℕ). Of (pos x)) w)
+    ap (λ (x : ℕ). atLeastZero (signed 31 x)) w ∙ ap atLeastZero (cond-true (ltb len (2 ^ 31)) (pos len) _ (lt-ltb len (2 ^ 31) h)) ∙ sym (ap (λ (x : ℕ). Of (pos x)) w)
 
 okay-reads : (p : RxPolicy) (n : Negotiated) (f : Frame) → p .delayed ≡ n .«delayed_ack» → FrameFits n f → Reads p (sentOf n f)
 unfolding isReady creditBytes isThe wordOf lettersOf numOf

@@ -35,7 +35,7 @@ use Rattle.slot.specs.declared.Failed.the-variants.{No, By}
 use Rattle.slot.specs.declared.PendingAck.{PendingAck}
 use Rattle.slot.specs.declared.PendingAck.the-variants.{Nothing as NoAck}
 use Rattle.slot.specs.declared.Readied.{Readied}
-use Rattle.slot.specs.declared.Readied.the-variants.{Slot, Short}
+use Rattle.slot.specs.declared.Readied.the-variants.{Slot, Bad}
 use Rattle.slot.specs.declared.ChannelError.{ChannelError}
 use Rattle.slot.specs.declared.Taken.{Taken}
 use Rattle.slot.specs.Ids.{closedBy}
@@ -429,7 +429,7 @@ module _ (l : Lent) (able : Able l) (out room : ℕ) where
       open-readied : (ch : ChannelId) (remote used : ℕ) (r : Readied) → ch .local .0 < 2 ^ 32 → remote < 2 ^ 32 → W (openReadied l ch remote used r)
       unfolding openReadied
       open-readied ch remote used (Slot t) f g = quit (then (begun h₀ l) _ []) _ used (few-none n 2)
-      open-readied ch remote used Short f g =
+      open-readied ch remote used (Bad b) f g =
           quit (then (begun h₀ l) _ (closeFrame (record { local = ch .local; remote = record { 0 = remote } }) ∷ [])) _ used
           (few-up n 1 2 _ (omega arith) (few-close n _ (record { local = f; remote = g })))
 
@@ -503,7 +503,7 @@ module _ (l : Lent) (able : Able l) (out room : ℕ) where
       write-readied : (ch : ChannelId) (given : List ℕ) (used : ℕ) (s : ChannelSlot) (r : Readied) → Readied-ids r → W (writeReadied l ch out given used (begun h₀ l) s r)
       unfolding writeReadied
       write-readied ch given used s (Slot t) i = send-again ch given used (begun h₀ l) t (few-none n 1) refl i
-      write-readied ch given used s Short i = idle h₀ _ used
+      write-readied ch given used s (Bad b) i = idle h₀ _ used
 
       write-acted : (ch : ChannelId) (given : List ℕ) (used : ℕ) (a : Acted) (f : Failed) → ch .slot < 64 → Acts ⊥ h₀ (l .state .slots) (ch .slot) a
           → W (writeActed l ch out given used (begun h₀ l) a f)

@@ -19,18 +19,17 @@ use Rattle.connection.specs.Answer.{answerNumber}
 use Rattle.connection.specs.Calls.{Outcome, dispatchStep}
 use Rattle.slot.specs.declared.ChannelSlot.{ChannelSlot}
 use Rattle.credit.specs.declared.Credit.{Credit}
-use Rattle.credit.specs.declared.Credit.the-variants.{Of, Short}
+use Rattle.credit.specs.declared.Credit.the-variants.{Of, Bad}
 use Rattle.slot.specs.declared.PendingAck.{PendingAck}
 use Rattle.slot.specs.declared.PendingAck.the-variants.{Len, Nothing}
-use Rattle.slot.specs.declared.Readied.{Readied}
-use Rattle.slot.specs.declared.Readied.the-variants.{Slot, Short as ReadyShort}
 use Rattle.slot.specs.declared.Settled.{Settled}
 use Rattle.slot.specs.declared.Taken.{Taken}
 use Rattle.slot.specs.declared.Taken.the-variants.{Data, Nothing as NothingTaken, Closed as ClosedTaken}
 use Rattle.slot.specs.declared.Wrote.{Wrote}
 use Rattle.credit.specs.Credit.{creditNumber, creditOf}
-use Rattle.slot.specs.Numbers.{readiedNumber, decisionNumber, takenNumber}
-use Rattle.slot.specs.Slot.{acceptedSlot, isClosed, readyOf, wroteOf, settledOf, takenOf}
+use Rattle.slot.specs.Numbers.{decisionNumber, takenNumber}
+use Rattle.slot.specs.Slot.{acceptedSlot, isClosed, wroteOf, settledOf, takenOf}
+use Rattle.state.specs.declared.Header.{Header}
 use Rattle.state.specs.declared.QueuedOpen.{QueuedOpen}
 use Rattle.state.specs.Change.{changedAll}
 use Rattle.state.specs.State.{Connection}
@@ -98,7 +97,7 @@ sized (negsuc n) = 1 ∷ suc n ∷ []
 -- a credit: its answer's number, and its value
 abbrev credit : Credit → List ℕ
 credit (Of z) = creditNumber (Of z) ∷ sized z
-credit Short = creditNumber Short ∷ []
+credit (Bad f) = creditNumber (Bad f) ∷ []
 
 -- delayed, cap 10
 abbrev ten : RxPolicy
@@ -108,10 +107,25 @@ ten = record { delayed = true; «rx_cap» = 10; watermark = 10 }
 abbrev channel : ChannelSlot
 channel = acceptedSlot (record { local = record { 0 = 1 }; remote = record { 0 = 7 } }) 1 ten
 
--- what an OKAY leaves of the budget, which is 1 before it
-abbrev budget : Readied → List ℕ
-budget (Slot s) = readiedNumber (Slot s) ∷ sized (s .«send_budget»)
-budget ReadyShort = readiedNumber ReadyShort ∷ []
+-- M6 and M9: a connection in delayed mode, with this many queued opens
+abbrev header-of : ℕ → Header
+header-of queued =
+    record {
+      negotiated = negotiatedOf true true 0x0100_0001 4096 (record { channels = 2; «max_payload» = 4096; «max_rx_per_channel» = 16384; «initial_ack_bytes» = 32768 });
+      «next_local» = 2;
+      pending = record { on = false; slot = 0; local = record { 0 = 0 } };
+      queued = queued;
+    }
+
+-- M6's, with that channel, whose budget is 1
+abbrev ones : Connection
+ones = record { header = header-of 0; slots = channel ∷ []; queue = [] }
+
+-- its OKAY with this payload, dispatched: the answer's number, the bytes used, and the budget then
+abbrev budget : List ℕ → List ℕ
+budget payload =
+    let o = dispatchStep (record { state = ones; rx = []; store = [] }) (packetBytes Ready 7 1 payload 0) in
+    answerNumber (o .answer) ∷ o .used ∷ sized (slotIn (changedAll ones (o .changes) .slots) 0 .«send_budget»)
 
 -- M8, step by step: a WRTE of 6, a settling of 4
 abbrev six : Wrote
@@ -142,13 +156,7 @@ queuedOpens remote = record { remote = record { 0 = remote }; credit = 0; share 
 abbrev zeros : Connection
 zeros =
     record {
-      header =
-          record {
-            negotiated = negotiatedOf true true 0x0100_0001 4096 (record { channels = 2; «max_payload» = 4096; «max_rx_per_channel» = 16384; «initial_ack_bytes» = 32768 });
-            «next_local» = 2;
-            pending = record { on = false; slot = 0; local = record { 0 = 0 } };
-            queued = 2;
-          };
+      header = header-of 2;
       slots = acceptedSlot (record { local = record { 0 = 1 }; remote = record { 0 = 0 } }) 0 ten ∷ [];
       queue = queuedOpens 0 ∷ queuedOpens 1 ∷ [];
     }
@@ -179,9 +187,9 @@ table =
     ∷ row 4 (answer (decodeOf (write 0) 4096)) (0 ∷ 27 ∷ [])
     ∷ row 4 (answer (decodeOf (write 257) 4096)) (4 ∷ 27 ∷ [])
     ∷ row 5 (capOf limits ∷ ceilingOf limits ∷ watermarkOf limits ∷ openingCredit limits ∷ []) (16384 ∷ 12289 ∷ 12289 ∷ 12289 ∷ [])
-    ∷ row 6 (credit (creditOf (255 ∷ 255 ∷ 255 ∷ 255 ∷ []))) (0 ∷ 1 ∷ 1 ∷ [])
-    ∷ row 6 (budget (readyOf channel (255 ∷ 255 ∷ 255 ∷ 255 ∷ []) ten)) (0 ∷ 0 ∷ 0 ∷ [])
-    ∷ row 6 (budget (readyOf channel (255 ∷ 255 ∷ 255 ∷ []) ten)) (5 ∷ [])
+    ∷ row 6 (credit (creditOf (255 ∷ 255 ∷ 255 ∷ 255 ∷ []))) (21 ∷ [])
+    ∷ row 6 (budget (255 ∷ 255 ∷ 255 ∷ 255 ∷ [])) (21 ∷ 28 ∷ 0 ∷ 1 ∷ [])
+    ∷ row 6 (budget (255 ∷ 255 ∷ 255 ∷ [])) (5 ∷ 27 ∷ 0 ∷ 1 ∷ [])
     ∷ row 7 (nextLocal 0xffff_ffff ∷ []) (1 ∷ [])
     ∷ row 8 (wrote six) (0 ∷ 6 ∷ [])
     ∷ row 8 (four .slot .unacked ∷ length-of (four .ack)) (2 ∷ 4 ∷ [])

@@ -17,9 +17,9 @@ use Rattle.slot.specs.declared.ids.ChannelIds.{ChannelIds}
 use Rattle.slot.specs.declared.ChannelSlot.{ChannelSlot}
 use Rattle.slot.specs.declared.ChannelFault.{ChannelFault}
 use Rattle.credit.specs.declared.Credit.{Credit}
-use Rattle.credit.specs.declared.Credit.the-variants.{Of, Short}
+use Rattle.credit.specs.declared.Credit.the-variants.{Of, Bad}
 use Rattle.slot.specs.declared.Readied.{Readied}
-use Rattle.slot.specs.declared.Readied.the-variants.{Slot, Short as ReadyShort}
+use Rattle.slot.specs.declared.Readied.the-variants.{Slot, Bad as ReadyBad}
 use Rattle.slot.specs.declared.PendingAck.{PendingAck}
 use Rattle.slot.specs.declared.PendingAck.the-variants.{Len, Nothing}
 use Rattle.slot.specs.declared.Taken.{Taken}
@@ -96,12 +96,12 @@ accepted-sound ids credit p cap h =
 -- the slot of an answer, if it has one, is sound
 abbrev pub Readied-sound : ℕ → Readied → Type 0
 Readied-sound cap (Slot t) = SlotOk t cap
-Readied-sound cap ReadyShort = Unit {0}
+Readied-sound cap (ReadyBad f) = Unit {0}
 
 opened-by : (s : ChannelSlot) (id : RemoteId) (cap : ℕ) → SlotOk s cap → (c : Credit) → Readied-sound cap (openedBy s id c)
 unfolding openedBy
 opened-by s id cap ok (Of z) = same-sound s _ cap refl refl refl ok
-opened-by s id cap ok Short = tt
+opened-by s id cap ok (Bad f) = tt
 
 pub opened-sound : (s : ChannelSlot) (id : RemoteId) (payload : List ℕ) (p : RxPolicy) (cap : ℕ) → SlotOk s cap → Readied-sound cap (openedOf s id payload p)
 unfolding openedOf
@@ -111,7 +111,7 @@ opened-sound s id payload p cap ok =
 ready-by : (s : ChannelSlot) (cap : ℕ) → SlotOk s cap → (c : Credit) → Readied-sound cap (readyBy s c)
 unfolding readyBy
 ready-by s cap ok (Of z) = same-sound s _ cap refl refl refl ok
-ready-by s cap ok Short = tt
+ready-by s cap ok (Bad f) = tt
 
 pub ready-sound : (s : ChannelSlot) (payload : List ℕ) (p : RxPolicy) (cap : ℕ) → SlotOk s cap → Readied-sound cap (readyOf s payload p)
 unfolding readyOf

@@ -5,7 +5,7 @@ use mathlib.Core.List.{List}
 use Prim.Native.Nat.{ℕ, _+_, _-_, _^_, _<_, min}
 use native.Mathlib.Omega.{arith}
 use lib.Dec.{ltb, leb, eqb}
-use lib.IntN.{ℤ, pos, _+ℤ_, _-ℤ_}
+use lib.IntN.{ℤ, pos, negsuc, _+ℤ_, _-ℤ_}
 use lib.Signed.{mag}
 use lib.ListN.{length}
 use Rattle.le.specs.Le.{numOf, signed, part, Bytes}
@@ -15,15 +15,15 @@ use Rattle.saturate.proofs.Laws.{held-fits}
 use Rattle.config.specs.declared.negotiated.RxPolicy.{RxPolicy}
 use Rattle.slot.specs.declared.ChannelSlot.{ChannelSlot}
 use Rattle.credit.specs.declared.Credit.{Credit}
-use Rattle.credit.specs.declared.Credit.the-variants.{Of, Short}
+use Rattle.credit.specs.declared.Credit.the-variants.{Of, Bad}
 use Rattle.slot.specs.declared.PendingAck.{PendingAck}
 use Rattle.slot.specs.declared.PendingAck.the-variants.{Len, Nothing}
 use Rattle.slot.specs.declared.Readied.{Readied}
-use Rattle.slot.specs.declared.Readied.the-variants.{Slot, Short as ReadyShort}
+use Rattle.slot.specs.declared.Readied.the-variants.{Slot, Bad as ReadyBad}
 use Rattle.slot.specs.declared.Settled.{Settled}
 use Rattle.slot.specs.declared.Wrote.{Wrote}
 use Rattle.slot.specs.Slot.{readyOf, readyBy, heldOf, isOpening, acksNow, bufferedWith, wroteOf, deliveredOf, ackLenOf, settledBy, settledSome, settledOf, tookOf, withNumbers, spentOf, closedSlot}
-use Rattle.credit.specs.Credit.{creditOf}
+use Rattle.credit.specs.Credit.{creditOf, atLeastZero}
 use Rattle.slot.proofs.Kept.{pick}
 
 -- what a slot function leaves as it was
@@ -48,25 +48,32 @@ mag-more z h = omega arith
 -- a credit that was read from bytes
 abbrev pub CreditFits : Credit → Type 0
 CreditFits (Of z) = mag z < 2 ^ 63
-CreditFits Short = Unit {0}
+CreditFits (Bad f) = Unit {0}
+
+zero-fits : (z : ℤ) → mag z < 2 ^ 63 → CreditFits (atLeastZero z)
+unfolding atLeastZero
+zero-fits (pos n) h = h
+zero-fits (negsuc n) h = tt
 
 pub credit-small : (payload : List ℕ) → Bytes payload → CreditFits (creditOf payload)
 unfolding creditOf
 credit-small payload y =
+    let z = signed 31 (numOf (part payload 0 4)) in
     pick CreditFits (ltb (length payload) 4) (λ t. tt)
-    (λ t. mag-more (signed 31 (numOf (part payload 0 4))) (signed-small 31 (numOf (part payload 0 4)) (numOf-part 4 payload 0 y)))
+    (λ t. pick CreditFits (ltb 4 (length payload)) (λ u. tt)
+    (λ u. zero-fits z (mag-more z (signed-small 31 (numOf (part payload 0 4)) (numOf-part 4 payload 0 y)))))
 
 -- ---- an OKAY
 
 abbrev pub ReadiedStays : ChannelSlot → Readied → Type 0
 ReadiedStays s (Slot t) = Stays s t
-ReadiedStays s ReadyShort = Unit {0}
+ReadiedStays s (ReadyBad f) = Unit {0}
 
 ready-stays-by : (s : ChannelSlot) (c : Credit) → ReadiedStays s (readyBy s c)
 unfolding readyBy
 ready-stays-by s (Of z) =
     record { filled = refl; local = refl; remote = refl; known = refl; opening = λ e. e; failed = refl; unacked = λ e. e; budget = λ e. held-fits (s .«send_budget» +ℤ z) }
-ready-stays-by s Short = tt
+ready-stays-by s (Bad f) = tt
 
 pub ready-stays : (s : ChannelSlot) (payload : List ℕ) (p : RxPolicy) → ReadiedStays s (readyOf s payload p)
 unfolding readyOf

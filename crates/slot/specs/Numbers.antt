@@ -1,12 +1,13 @@
 -- The numbers of a slot's answers (docs/SCOPE.md, 6): a refusal's own, 0 for none, 100 for waiting, 101 for nothing there.
 -- Assumes nothing.
 use Prim.Native.Nat.{ℕ}
+use Rattle.credit.specs.Credit.{creditFaultNumber}
 use Rattle.slot.specs.declared.ChannelFault.{ChannelFault}
-use Rattle.slot.specs.declared.ChannelFault.the-variants.{RxOverflow, ShortReadyPayload, UnexpectedCommand}
+use Rattle.slot.specs.declared.ChannelFault.the-variants.{RxOverflow, BadCredit, UnexpectedCommand}
 use Rattle.slot.specs.declared.ChannelError.{ChannelError}
 use Rattle.slot.specs.declared.ChannelError.the-variants.{Closed, Fault}
 use Rattle.slot.specs.declared.Readied.{Readied}
-use Rattle.slot.specs.declared.Readied.the-variants.{Slot, Short}
+use Rattle.slot.specs.declared.Readied.the-variants.{Slot, Bad}
 use Rattle.slot.specs.declared.AckDecision.{AckDecision}
 use Rattle.slot.specs.declared.AckDecision.the-variants.{Now, Hold, Overflow, Early}
 use Rattle.slot.specs.declared.Budget.{Budget}
@@ -14,10 +15,10 @@ use Rattle.slot.specs.declared.Budget.the-variants.{Bytes, Nothing as No
 use Rattle.slot.specs.declared.Taken.{Taken}
 use Rattle.slot.specs.declared.Taken.the-variants.{Data, Nothing as NothingTaken, Closed as ClosedTaken}
 
--- 5: an OKAY whose credit is short
+-- 5, 20 or 21: an OKAY whose credit is refused
 unfoldable pub readiedNumber : Readied → ℕ
 readiedNumber (Slot s) = 0
-readiedNumber Short = 5
+readiedNumber (Bad f) = creditFaultNumber f
 
 -- 11: over the cap; 6: a WRTE for a channel still opening
 unfoldable pub decisionNumber : AckDecision → ℕ
@@ -26,10 +27,10 @@ decisionNumber Hold = 0
 decisionNumber Overflow = 11
 decisionNumber Early = 6
 
--- 11, 5 and 6
+-- 11, a credit's own, and 6
 unfoldable pub faultNumber : ChannelFault → ℕ
 faultNumber RxOverflow = 11
-faultNumber ShortReadyPayload = 5
+faultNumber (BadCredit f) = creditFaultNumber f
 faultNumber UnexpectedCommand = 6
 
 -- 10: closed

@@ -13,7 +13,7 @@ use Rattle.slot.specs.declared.ids.RemoteId.{RemoteId}
 use Rattle.slot.specs.declared.ids.ChannelIds.{ChannelIds}
 use Rattle.credit.specs.Credit.{creditOf}
 use Rattle.credit.specs.declared.Credit.{Credit}
-use Rattle.credit.specs.declared.Credit.the-variants.{Of, Short}
+use Rattle.credit.specs.declared.Credit.the-variants.{Of, Bad}
 use Rattle.slot.specs.declared.ChannelState.{ChannelState}
 use Rattle.slot.specs.declared.ChannelState.the-variants.{Opening, Open, Closed}
 use Rattle.slot.specs.declared.ChannelFault.{ChannelFault}
@@ -25,7 +25,7 @@ use Rattle.slot.specs.declared.ChannelSlot.{ChannelSlot}
 use Rattle.slot.specs.declared.SlotIds.{SlotIds}
 use Rattle.slot.specs.declared.SlotIds.the-variants.{Known, Unknown}
 use Rattle.slot.specs.declared.Readied.{Readied}
-use Rattle.slot.specs.declared.Readied.the-variants.{Slot, Short as ReadyShort}
+use Rattle.slot.specs.declared.Readied.the-variants.{Slot, Bad as ReadyBad}
 use Rattle.slot.specs.declared.AckDecision.{AckDecision}
 use Rattle.slot.specs.declared.AckDecision.the-variants.{Now, Hold, Overflow, Early}
 use Rattle.slot.specs.declared.Wrote.{Wrote}
@@ -185,7 +185,7 @@ errorOf (By fault) = Fault fault
 -- `accept_open_ready`, once the credit is read
 unfoldable pub openedBy : ChannelSlot → RemoteId → Credit → Readied
 openedBy s r (Of z) = Slot (withSending (withState (withRemote s r) Open) (s .«wrte_acked») z)
-openedBy s r Short = ReadyShort
+openedBy s r (Bad f) = ReadyBad f
 
 -- `accept_open_ready`: the device's number, and in delayed mode its credit as the budget
 unfoldable pub openedOf : ChannelSlot → RemoteId → List ℕ → RxPolicy → Readied
@@ -194,7 +194,7 @@ openedOf s r payload p = cond (p .delayed) (openedBy s r (creditOf payload)) (Sl
 -- `apply_ready`, once the credit is read
 unfoldable pub readyBy : ChannelSlot → Credit → Readied
 readyBy s (Of z) = Slot (withSending s (s .«wrte_acked») (clamp (s .«send_budget» +ℤ z)))
-readyBy s Short = ReadyShort
+readyBy s (Bad f) = ReadyBad f
 
 -- `apply_ready`: in delayed mode the credit joins the budget, which stops at the ends of its range
 unfoldable pub readyOf : ChannelSlot → List ℕ → RxPolicy → Readied

@@ -3,6 +3,7 @@
 pub mod ids;
 
 use config::negotiated::RxPolicy;
+use credit::CreditFault;
 use ids::ChannelIds;
 use ids::LocalId;
 use ids::RemoteId;
@@ -18,10 +19,10 @@ pub enum ChannelState {
     Closed,
 }
 
-// What is wrong with a packet for a channel: refusals 11, 5 and 6.
+// What is wrong with a packet for a channel: refusals 11, those of a credit (5, 20, 21), and 6.
 pub enum ChannelFault {
     RxOverflow,
-    ShortReadyPayload,
+    BadCredit(CreditFault),
     UnexpectedCommand,
 }
 
@@ -69,8 +70,8 @@ pub enum SlotIds {
 // What an OKAY did.
 pub enum Readied {
     Slot(ChannelSlot),
-    // Refusal 5.
-    Short,
+    // Refusals 5, 20 and 21.
+    Bad(CreditFault),
 }
 
 // What became of a WRTE's payload.
@@ -129,7 +130,7 @@ impl Readied {
     {
         match self {
             Readied::Slot(_) => 0,
-            Readied::Short => 5,
+            Readied::Bad(fault) => fault.number(),
         }
     }
 }
@@ -153,7 +154,7 @@ impl ChannelFault {
     {
         match self {
             ChannelFault::RxOverflow => 11,
-            ChannelFault::ShortReadyPayload => 5,
+            ChannelFault::BadCredit(fault) => fault.number(),
             ChannelFault::UnexpectedCommand => 6,
         }
     }
@@ -386,5 +387,4 @@ impl ChannelSlot {
             failed: Failed::By(fault),
         }
     }
-
 }

@@ -14,14 +14,19 @@ ghost use lib.IntN.{pos};
 ghost use Rattle.slot.specs.Slot.{openedOf, readyOf, budgetOf, spentOf, refundedOf, reservedOf};
 
 // The OKAY that answers our OPEN.
-pub fn accept_open_ready(slot: ChannelSlot, remote: RemoteId, payload: &[u8], policy: RxPolicy) -> Readied
+pub fn accept_open_ready(
+    slot: ChannelSlot,
+    remote: RemoteId,
+    payload: &[u8],
+    policy: RxPolicy,
+) -> Readied
     ensures { λ r. ⌜ r ≡ openedOf slot remote (now (payload .entry)) policy ⌝ }
 {
     let opened = slot.with_remote(remote).with_state(ChannelState::Open);
     if policy.delayed {
         let credit = parse_ready_credit(payload);
         return match credit {
-            Credit::Short => Readied::Short,
+            Credit::Bad(fault) => Readied::Bad(fault),
             Credit::Of(n) => Readied::Slot(opened.with_sending(slot.wrte_acked, n as i64)),
         };
     }
@@ -36,7 +41,7 @@ pub fn apply_ready(slot: ChannelSlot, payload: &[u8], policy: RxPolicy) -> Readi
     if policy.delayed {
         let credit = parse_ready_credit(payload);
         return match credit {
-            Credit::Short => Readied::Short,
+            Credit::Bad(fault) => Readied::Bad(fault),
             Credit::Of(n) => Readied::Slot(slot.with_sending(
                 slot.wrte_acked,
                 saturate::sat_add(budget, n as i64),

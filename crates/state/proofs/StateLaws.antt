@@ -14,7 +14,8 @@ use Rattle.le.specs.Le.{numOf, bytesOf, unsigned, part, put, Bytes}
 use Rattle.le.proofs.Laws.{bytes-drop, bytes-take, read-write-part, write-read, signed-unsigned, unsigned-signed, signed-small, unsigned-small, numOf-part}
 use Rattle.le.proofs.Parts.{by-test, part-join, length-put, part-put-same, part-put-below, part-put-above}
 use Rattle.config.proofs.Laws.{and-true}
-use Rattle.slot.specs.declared.ChannelFault.the-variants.{RxOverflow, ShortReadyPayload, UnexpectedCommand}
+use Rattle.credit.specs.declared.CreditFault.the-variants.{Short, Long, Negative}
+use Rattle.slot.specs.declared.ChannelFault.the-variants.{RxOverflow, BadCredit, UnexpectedCommand}
 use Rattle.slot.specs.declared.ChannelSlot.{ChannelSlot}
 use Rattle.slot.specs.declared.ChannelState.{ChannelState}
 use Rattle.slot.specs.declared.ChannelState.the-variants.{Opening, Open, Closed}
@@ -49,12 +50,14 @@ state-num (suc zero) h = refl
 state-num (suc (suc zero)) h = refl
 state-num (suc (suc (suc v))) h = absurd (omega arith)
 
-failed-num : (v : ℕ) → v ≤ 3 → failedTag (failedOfTag v) ≡ v
+failed-num : (v : ℕ) → v ≤ 5 → failedTag (failedOfTag v) ≡ v
 failed-num zero h = refl
 failed-num (suc zero) h = refl
 failed-num (suc (suc zero)) h = refl
 failed-num (suc (suc (suc zero))) h = refl
-failed-num (suc (suc (suc (suc v)))) h = absurd (omega arith)
+failed-num (suc (suc (suc (suc zero)))) h = refl
+failed-num (suc (suc (suc (suc (suc zero))))) h = refl
+failed-num (suc (suc (suc (suc (suc (suc v)))))) h = absurd (omega arith)
 
 flag-back : (l : List ℕ) (a : ℕ) → a + 1 ≤ length l → getD l a 0 ≤ 1 → bytesOf 1 (flagByte (flagOf (getD l a 0))) ≡ part l a 1
 flag-back l a h k = flag-same (getD l a 0) k ∙ sym (one l a h)
@@ -75,7 +78,9 @@ state-is Closed = refl
 failed-is : (f : Failed) → failedOfTag (failedTag f) ≡ f
 failed-is No = refl
 failed-is (By RxOverflow) = refl
-failed-is (By ShortReadyPayload) = refl
+failed-is (By (BadCredit Short)) = refl
+failed-is (By (BadCredit Long)) = refl
+failed-is (By (BadCredit Negative)) = refl
 failed-is (By UnexpectedCommand) = refl
 
 flag-le : (f : Bool) → flagByte f ≤ 1
@@ -91,15 +96,17 @@ state-le Opening = omega arith
 state-le Open = omega arith
 state-le Closed = omega arith
 
-failed-le : (f : Failed) → failedTag f ≤ 3
+failed-le : (f : Failed) → failedTag f ≤ 5
 failed-le No = omega arith
 failed-le (By RxOverflow) = omega arith
-failed-le (By ShortReadyPayload) = omega arith
+failed-le (By (BadCredit Short)) = omega arith
+failed-le (By (BadCredit Long)) = omega arith
+failed-le (By (BadCredit Negative)) = omega arith
 failed-le (By UnexpectedCommand) = omega arith
 
 -- five numbers in one byte, and out of it again
 record Tag (f r a s x t : ℕ) : Type 0 where
-  small : t ≤ 127
+  small : t ≤ 191
   one-byte : t % 256 ≡ t
   filled : t % 2 ≡ f
   remote : t / 2 % 2 ≡ r
@@ -107,7 +114,7 @@ record Tag (f r a s x t : ℕ) : Type 0 where
   state : t / 2 / 2 / 2 % 4 ≡ s
   failed : t / 2 / 2 / 2 / 4 ≡ x
 
-tag-parts : (f r a s x : ℕ) → f ≤ 1 → r ≤ 1 → a ≤ 1 → s ≤ 2 → x ≤ 3 → Tag f r a s x (f + 2 * r + 4 * a + 8 * s + 32 * x)
+tag-parts : (f r a s x : ℕ) → f ≤ 1 → r ≤ 1 → a ≤ 1 → s ≤ 2 → x ≤ 5 → Tag f r a s x (f + 2 * r + 4 * a + 8 * s + 32 * x)
 tag-parts f r a s x hf hr ha hs hx =
     let t = f + 2 * r + 4 * a + 8 * s + 32 * x in
     let d1 : t / 2 ≡ r + 2 * a + 4 * s + 16 * x = omega arith in
@@ -123,7 +130,7 @@ tag-parts f r a s x hf hr ha hs hx =
       failed = rw (d1, d2, d3) (omega arith);
     }
 
-tag-whole : (t : ℕ) → t ≤ 127 → t % 2 + 2 * (t / 2 % 2) + 4 * (t / 2 / 2 % 2) + 8 * (t / 2 / 2 / 2 % 4) + 32 * (t / 2 / 2 / 2 / 4) ≡ t
+tag-whole : (t : ℕ) → t ≤ 191 → t % 2 + 2 * (t / 2 % 2) + 4 * (t / 2 / 2 % 2) + 8 * (t / 2 / 2 / 2 % 4) + 32 * (t / 2 / 2 / 2 / 4) ≡ t
 tag-whole t h = omega arith
 
 slot-tag : (s : ChannelSlot) → Tag (flagByte (s .filled)) (flagByte (s .«has_remote»)) (flagByte (s .«wrte_acked»)) (stateTag (s .state)) (failedTag (s .failed)) (tagOf s)
@@ -139,7 +146,7 @@ part-start l n = refl
 -- ---- a slot's bytes, read and written again
 
 pub record SlotTests (t : ℕ) : Type 0 where
-  pub small : t ≤ 127
+  pub small : t ≤ 191
   pub state : t / 2 / 2 / 2 % 4 ≤ 2
 
 pub slot-tests : (l : List ℕ) → isSlot l ≡ true → SlotTests (getD l 48 0)
@@ -230,7 +237,7 @@ pub slot-is : (s : ChannelSlot) → isSlot (slotBytes s) ≡ true
 unfolding isSlot isTag slotBytes slotNumbers bytesOf
 slot-is s =
     let k = slot-tag s in
-    rw (k .one-byte, k .state, le-leb (tagOf s) 127 (k .small), le-leb (stateTag (s .state)) 2 (state-le (s .state)))
+    rw (k .one-byte, k .state, le-leb (tagOf s) 191 (k .small), le-leb (stateTag (s .state)) 2 (state-le (s .state)))
 
 -- ---- a queued open's bytes
 

@@ -5,7 +5,8 @@ use mathlib.Core.List.{List, _++_}
 use lib.Dec.{leb, eqb}
 use lib.ListN.{length, getD, set, drop}
 use Rattle.le.specs.Le.{numOf, bytesOf, signed, unsigned, part, put}
-use Rattle.slot.specs.declared.ChannelFault.the-variants.{RxOverflow, ShortReadyPayload, UnexpectedCommand}
+use Rattle.credit.specs.declared.CreditFault.the-variants.{Short, Long, Negative}
+use Rattle.slot.specs.declared.ChannelFault.the-variants.{RxOverflow, BadCredit, UnexpectedCommand}
 use Rattle.slot.specs.declared.ChannelSlot.{ChannelSlot}
 use Rattle.slot.specs.declared.ChannelState.{ChannelState}
 use Rattle.slot.specs.declared.ChannelState.the-variants.{Opening, Open, Closed}
@@ -63,16 +64,22 @@ stateTag Opening = 0
 stateTag Open = 1
 stateTag Closed = 2
 
--- 0 no fault, 1 overflow, 2 a short credit, 3 a WRTE too early
+-- 0 no fault, 1 overflow, 2 a short credit, 3 a WRTE too early, 4 a long credit, 5 a negative one
 abbrev pub failedOfTag : ℕ → Failed
-failedOfTag b = cond (eqb b 0) No (cond (eqb b 1) (By RxOverflow) (cond (eqb b 2) (By ShortReadyPayload) (By UnexpectedCommand)))
+failedOfTag b =
+    cond (eqb b 0) No
+    (cond (eqb b 1) (By RxOverflow)
+    (cond (eqb b 2) (By (BadCredit Short))
+    (cond (eqb b 3) (By UnexpectedCommand) (cond (eqb b 4) (By (BadCredit Long)) (By (BadCredit Negative))))))
 
 -- the number of a fault
 abbrev pub failedTag : Failed → ℕ
 failedTag No = 0
 failedTag (By RxOverflow) = 1
-failedTag (By ShortReadyPayload) = 2
+failedTag (By (BadCredit Short)) = 2
 failedTag (By UnexpectedCommand) = 3
+failedTag (By (BadCredit Long)) = 4
+failedTag (By (BadCredit Negative)) = 5
 
 -- ---- a slot
 
@@ -109,9 +116,9 @@ slotOf l =
       failed = failedOfTag (getD l 48 0 / 2 / 2 / 2 / 4);
     }
 
--- a tag in range: 7 bits, and one of the three states
+-- a tag in range: one of the three states, and a fault of at most 5
 unfoldable pub isTag : ℕ → Bool
-isTag t = leb t 127 && leb (t / 2 / 2 / 2 % 4) 2
+isTag t = leb t 191 && leb (t / 2 / 2 / 2 % 4) 2
 
 -- bytes that are a slot's
 unfoldable pub isSlot : List ℕ → Bool

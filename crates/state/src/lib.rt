@@ -3,6 +3,7 @@
 // stored.
 use config::ConnectionConfig;
 use config::negotiated::Negotiated;
+use credit::CreditFault;
 use slot::ChannelFault;
 use slot::ChannelSlot;
 use slot::ChannelState;
@@ -99,23 +100,39 @@ fn failed_of(b: u8) -> Failed
         return Failed::By(ChannelFault::RxOverflow);
     }
     if b == 2 {
-        return Failed::By(ChannelFault::ShortReadyPayload);
+        return Failed::By(ChannelFault::BadCredit(CreditFault::Short));
     }
-    Failed::By(ChannelFault::UnexpectedCommand)
+    if b == 3 {
+        return Failed::By(ChannelFault::UnexpectedCommand);
+    }
+    if b == 4 {
+        return Failed::By(ChannelFault::BadCredit(CreditFault::Long));
+    }
+    Failed::By(ChannelFault::BadCredit(CreditFault::Negative))
+}
+
+fn credit_tag(fault: CreditFault) -> u8
+    ensures { λ r. ⌜ (r ≡ failedTag (Failed.By (ChannelFault.BadCredit fault))) × (r ≤ 5) ⌝ }
+{
+    match fault {
+        CreditFault::Short => 2,
+        CreditFault::Long => 4,
+        CreditFault::Negative => 5,
+    }
 }
 
 fn fault_tag(fault: ChannelFault) -> u8
-    ensures { λ r. ⌜ (r ≡ failedTag (Failed.By fault)) × (r ≤ 3) ⌝ }
+    ensures { λ r. ⌜ (r ≡ failedTag (Failed.By fault)) × (r ≤ 5) ⌝ }
 {
     match fault {
         ChannelFault::RxOverflow => 1,
-        ChannelFault::ShortReadyPayload => 2,
+        ChannelFault::BadCredit(credit) => credit_tag(credit),
         ChannelFault::UnexpectedCommand => 3,
     }
 }
 
 fn failed_tag(failed: Failed) -> u8
-    ensures { λ r. ⌜ (r ≡ failedTag failed) × (r ≤ 3) ⌝ }
+    ensures { λ r. ⌜ (r ≡ failedTag failed) × (r ≤ 5) ⌝ }
 {
     match failed {
         Failed::No => 0,
@@ -159,7 +176,7 @@ fn fill_numbers(p: &mut [u8], s: ChannelSlot)
 }
 
 fn tag_of(s: ChannelSlot) -> u8
-    ensures { λ r. ⌜ (r ≡ tagOf s) × (r ≤ 127) ⌝ }
+    ensures { λ r. ⌜ (r ≡ tagOf s) × (r ≤ 191) ⌝ }
 {
     let state = s.state;
     let failed = s.failed;

@@ -8,9 +8,9 @@ use Rattle.config.specs.declared.negotiated.Negotiated.{Negotiated}
 use Rattle.config.specs.Negotiated.{policyOf}
 use Rattle.slot.specs.declared.ChannelSlot.{ChannelSlot}
 use Rattle.credit.specs.declared.Credit.{Credit}
-use Rattle.credit.specs.declared.Credit.the-variants.{Of, Short}
+use Rattle.credit.specs.declared.Credit.the-variants.{Of, Bad}
 use Rattle.slot.specs.declared.Readied.{Readied}
-use Rattle.slot.specs.declared.Readied.the-variants.{Slot, Short as ReadyShort}
+use Rattle.slot.specs.declared.Readied.the-variants.{Slot, Bad as ReadyBad}
 use Rattle.slot.specs.declared.Taken.{Taken}
 use Rattle.slot.specs.declared.Taken.the-variants.{Data, Nothing as NothingTaken, Closed as ClosedTaken}
 use Rattle.slot.specs.declared.ids.LocalId.{LocalId}
@@ -48,12 +48,12 @@ live-stays n i s t v k ok =
 
 abbrev pub ReadiedLive : Negotiated → ℕ → Readied → Type 0
 ReadiedLive n i (Slot t) = Live n i t
-ReadiedLive n i ReadyShort = Unit {0}
+ReadiedLive n i (ReadyBad f) = Unit {0}
 
 module _ (n : Negotiated) (i : ℕ) where
   both-live : (s : ChannelSlot) (r : Readied) → Live n i s → ReadiedStays s r → Readied-sound (policyOf n .«rx_cap») r → ReadiedLive n i r
   both-live s (Slot t) v k ok = live-stays n i s t v k ok
-  both-live s ReadyShort v k ok = tt
+  both-live s (ReadyBad f) v k ok = tt
 
   pub ready-live : (s : ChannelSlot) (payload : List ℕ) → Live n i s → ReadiedLive n i (readyOf s payload (policyOf n))
   ready-live s payload v = both-live s (readyOf s payload (policyOf n)) v (ready-stays s payload (policyOf n)) (ready-sound s payload (policyOf n) (policyOf n .«rx_cap») (v .ok))
@@ -72,7 +72,7 @@ module _ (n : Negotiated) (i : ℕ) where
           ok = record { settled-buffered = omega arith; settled-cap = omega arith; held-cap = omega arith; run-fits = omega arith; cap-small = cap };
           fits = record { local = l; remote = r; budget = f; unacked = omega arith; settled = omega arith; head = omega arith; buffered = omega arith };
         }
-    opened-live-by Short f = tt
+    opened-live-by (Bad b) f = tt
 
     pub opened-live : (payload : List ℕ) → Bytes payload → ReadiedLive n i (openedOf (openingSlot local) remote payload (policyOf n))
     unfolding openedOf openingSlot isOpening isFailed

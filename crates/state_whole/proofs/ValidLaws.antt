@@ -56,7 +56,8 @@ failed-some : (x : ℕ) → 1 ≤ x → isFailed (failedOfTag x) ≡ true
 unfolding isFailed
 failed-some x h =
     rw (ne-eqb x 0 (λ e. omega arith))
-    (by-test (eqb x 1) (λ t. rw t) (λ t. rw t (by-test (eqb x 2) (λ u. rw u) (λ u. rw u))))
+    (by-test (eqb x 1) (λ t. rw t)
+    (λ t. rw t (by-test (eqb x 2) (λ u. rw u) (λ u. rw u (by-test (eqb x 3) (λ v. rw v) (λ v. rw v (by-test (eqb x 4) (λ w. rw w) (λ w. rw w))))))))
 
 -- the state of a filled slot's tag is not opening
 state-some : (x : ℕ) → 1 ≤ x → isOpening (stateOfTag x) ≡ false
@@ -125,7 +126,7 @@ module _ (channels cap i : ℕ) (l : List ℕ) where
   unfolding isTag
   row-failed e n =
       by-test (isTag (getD l 48 0))
-      (λ t. let k = and-true (leb (getD l 48 0) 127) (leb (getD l 48 0 / 2 / 2 / 2 % 4) 2) t in
+      (λ t. let k = and-true (leb (getD l 48 0) 191) (leb (getD l 48 0 / 2 / 2 / 2 % 4) 2) t in
       let b : getD l 48 0 / 2 / 2 / 2 % 4 ≤ 2 = leb-true _ _ (k .1) in
       broken e (filled-failed l cap (failed-some (getD l 48 0 / 2 / 2 / 2 / 4) (omega arith))))
       (λ t. rw (filled-row e) (and-stops (isTag (getD l 48 0)) _ t))
@@ -136,7 +137,7 @@ module _ (channels cap i : ℕ) (l : List ℕ) where
   row-filled r e a b h k =
       let t = getD l 48 0 in
       let z : t / 2 / 2 / 2 / 4 ≡ 0 = omega arith in
-      let o : isTag t ≡ true = rw (le-leb t 127 (omega arith), le-leb (t / 2 / 2 / 2 % 4) 2 (omega arith)) in
+      let o : isTag t ≡ true = rw (le-leb t 191 (omega arith), le-leb (t / 2 / 2 / 2 % 4) 2 (omega arith)) in
       let g : r ≡ filledOk (slotOf l) cap =
       filled-fine l cap r (state-some (t / 2 / 2 / 2 % 4) (omega arith)) (rw z) (eq-eqb (t / 2 % 2) 1 (omega arith)) k in
       rw (filled-row (omega arith)) (and-goes (isTag t) _ r o (and-goes (ltb i channels) (filledOk (slotOf l) cap) r (lt-ltb i channels h) g))

@@ -21,7 +21,7 @@ ghost use Rattle.state_whole.specs.Whole.{HeaderOk, restWhole};
 fn is_tag(tag: u8) -> bool
     ensures { λ r. ⌜ r ≡ isTag tag ⌝ }
 {
-    if tag > 127 {
+    if tag > 191 {
         return false;
     }
     tag / 2 / 2 / 2 % 4 <= 2

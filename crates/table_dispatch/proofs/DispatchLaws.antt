@@ -17,8 +17,9 @@ use Rattle.config.specs.declared.negotiated.RxPolicy.{RxPolicy}
 use Rattle.slot.specs.declared.ids.LocalId.{LocalId}
 use Rattle.slot.specs.declared.ids.RemoteId.{RemoteId}
 use Rattle.slot.specs.declared.ChannelSlot.{ChannelSlot}
-use Rattle.slot.specs.declared.Readied.the-variants.{Slot, Short}
-use Rattle.slot.specs.declared.ChannelFault.the-variants.{RxOverflow, ShortReadyPayload, UnexpectedCommand}
+use Rattle.slot.specs.declared.Readied.the-variants.{Slot, Bad}
+use Rattle.credit.specs.declared.CreditFault.{CreditFault}
+use Rattle.slot.specs.declared.ChannelFault.the-variants.{RxOverflow, BadCredit, UnexpectedCommand}
 use Rattle.slot.specs.declared.AckDecision.{AckDecision}
 use Rattle.slot.specs.declared.AckDecision.the-variants.{Now, Hold, Overflow, Early}
 use Rattle.slot.specs.declared.Wrote.{Wrote}
@@ -98,10 +99,10 @@ module _ (p : RxPolicy) (i : ℕ) (s₀ s : ChannelSlot) (is : s ≡ s₀) (remo
   unfolding readyAt granted
   ready-granted t e h = ready-same ∙ cond-false (isFailed (s .failed)) _ _ e ∙ ap (granted i s remote) h
 
-  pub ready-short : (o : DispatchOutcome) → isFailed (s .failed) ≡ false → readiedOf s remote payload p ≡ Short → o ≡ faulted i s remote ShortReadyPayload
+  pub ready-bad : (f : CreditFault) (o : DispatchOutcome) → isFailed (s .failed) ≡ false → readiedOf s remote payload p ≡ Bad f → o ≡ faulted i s remote (BadCredit f)
       → readyAt p i s₀ remote payload ≡ left o
   unfolding readyAt granted
-  ready-short o e h f = ready-same ∙ cond-false (isFailed (s .failed)) _ _ e ∙ ap (granted i s remote) h ∙ ap left (sym f)
+  ready-bad f o e h g = ready-same ∙ cond-false (isFailed (s .failed)) _ _ e ∙ ap (granted i s remote) h ∙ ap left (sym g)
 
 module _ (remote : RemoteId) (local : LocalId) where
   pub stray-remote : remote .0 ≡ 0 → Unmatched ≡ strayOf remote local

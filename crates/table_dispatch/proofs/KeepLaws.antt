@@ -18,7 +18,7 @@ use Rattle.slot.specs.declared.ids.LocalId.{LocalId}
 use Rattle.slot.specs.declared.ids.RemoteId.{RemoteId}
 use Rattle.slot.specs.declared.ChannelSlot.{ChannelSlot}
 use Rattle.slot.specs.declared.Readied.{Readied}
-use Rattle.slot.specs.declared.Readied.the-variants.{Slot, Short}
+use Rattle.slot.specs.declared.Readied.the-variants.{Slot, Bad}
 use Rattle.slot.specs.declared.Wrote.{Wrote}
 use Rattle.slot.specs.Slot.{emptySlot, isOpening, isFailed, closedSlot, heldOf, acksNow, wroteOf}
 use Rattle.slot.proofs.Kept.{pick}
@@ -146,7 +146,7 @@ module _ (n : Negotiated) (h : Header) (c : Connection) (rx : List ℕ) (g : Who
       → TableKeeps n h c rx (with (granted i (slotIn (c .slots) i) remote r) rx)
   unfolding granted
   granted-keeps i remote (Slot t) v u = stored-keeps (CreditGranted i) i t rx tt v u refl
-  granted-keeps i remote Short v u = left-keeps _ tt
+  granted-keeps i remote (Bad f) v u = left-keeps _ tt
 
   readied-live : (i : ℕ) (s : ChannelSlot) (remote : RemoteId) (payload : List ℕ) → Live n i s → ReadiedLive n i (readiedOf s remote payload (policyOf n))
   unfolding readiedOf

@@ -15,10 +15,10 @@ use Rattle.slot.specs.declared.ids.RemoteId.{RemoteId}
 use Rattle.slot.specs.declared.AckDecision.{AckDecision}
 use Rattle.slot.specs.declared.AckDecision.the-variants.{Now, Hold, Overflow, Early}
 use Rattle.slot.specs.declared.ChannelFault.{ChannelFault as Fault}
-use Rattle.slot.specs.declared.ChannelFault.the-variants.{RxOverflow, ShortReadyPayload, UnexpectedCommand}
+use Rattle.slot.specs.declared.ChannelFault.the-variants.{RxOverflow, BadCredit, UnexpectedCommand}
 use Rattle.slot.specs.declared.ChannelSlot.{ChannelSlot}
 use Rattle.slot.specs.declared.Readied.{Readied}
-use Rattle.slot.specs.declared.Readied.the-variants.{Slot, Short}
+use Rattle.slot.specs.declared.Readied.the-variants.{Slot, Bad}
 use Rattle.slot.specs.Numbers.{faultNumber}
 use Rattle.slot.specs.Slot.{isOpening, isFailed, closedSlot, openedOf, readyOf, wroteOf, SlotOk}
 use Rattle.state.specs.Change.{slotTo, Step, Steps}
@@ -62,10 +62,10 @@ closeOf n ss remote local =
 unfoldable pub readiedOf : ChannelSlot → RemoteId → List ℕ → RxPolicy → Readied
 readiedOf s remote payload p = cond (isOpening (s .state)) (openedOf s remote payload p) (readyOf s payload p)
 
--- the slot with its credit, or 5
+-- the slot with its credit, or what is wrong with the credit: 5, 20, 21
 unfoldable pub granted : ℕ → ChannelSlot → RemoteId → Readied → Step DispatchOutcome
 granted i s remote (Slot t) = stored (CreditGranted i) i t
-granted i s remote Short = left (faulted i s remote ShortReadyPayload)
+granted i s remote (Bad f) = left (faulted i s remote (BadCredit f))
 
 -- for slot i, unless it failed
 unfoldable pub readyAt : RxPolicy → ℕ → ChannelSlot → RemoteId → List ℕ → Step DispatchOutcome

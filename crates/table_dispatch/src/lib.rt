@@ -133,7 +133,7 @@ fn ready_at(
     }
     let granted = readied(s, remote, payload, policy);
     match granted {
-        Readied::Short => fault(i, s, remote, ChannelFault::ShortReadyPayload),
+        Readied::Bad(credit) => fault(i, s, remote, ChannelFault::BadCredit(credit)),
         Readied::Slot(credited) => {
             put_slot(state, i, credited);
             DispatchOutcome::CreditGranted(i)

@@ -1,6 +1,6 @@
-use Rattle.connection.specs.declared.Refusal.the-variants.{ShortReadyPayload}
+use Rattle.connection.specs.declared.Refusal.the-variants.{BadCredit}
 use Rattle.connection.specs.declared.Answer.the-variants.{Opened, Refused}
-use Rattle.call_open.proofs.OpenLaws.{packet-fits, open-limits, open-place, ready-fills, ready-short}
+use Rattle.call_open.proofs.OpenLaws.{packet-fits, open-limits, open-place, ready-fills, ready-bad}
 use Rattle.table.specs.declared.ChannelId.{ChannelId}
 use lib.ListN.{length}
 use Prim.Native.Nat.{_≤_, _<_, ℕ}
@@ -52,12 +52,12 @@ store-slot-requires c κs =
     (open-place (start .args .state .now) (start .args .rx .now) (start .args .store .now) (start .args .out .now) (start .args .h) (start .pre .1)
     (start .pre .0) (start .pre .2))
 
-enum-told : tie.Need-enum-told
-enum-told c = search needs
+enum-known-readied-2 : tie.Need-enum-known-readied-2
+enum-known-readied-2 c = search needs
 
 close-open-requires : tie.Need-close-open-requires
 close-open-requires c κs =
-    let start = c .before .before .before .before .before .before .before .before .before .before .before .before .before .before .before .before .before in
+    let start = c .before .before .before .before .before .before .before .before .before .before .before .before .before .before .before .before .before .before in
     let k = start .pre .0 .room in let j = start .pre .0 .state-fits in (j, omega arith)
 
 same-length : tie.Need-same-length
@@ -93,21 +93,21 @@ same-length-3 c = search needs
 returns-2 : tie.Need-returns-2
 returns-2 c =
     let at-close-open = c .before .before .before .before in
-    let at-enum-told = at-close-open .before .before .before in
-    let at-accept-open-ready = at-enum-told .before .before in
+    let at-readied = at-close-open .before .before .before .before in
+    let at-accept-open-ready = at-readied .before .before in
     let at-rx-policy = at-accept-open-ready .before in
     let at-opening = at-rx-policy .before in
     let at-payload = at-opening .before in
     let at-frame-len = at-payload .before in
     let at-pending-channel = at-frame-len .before .before in
     let start = at-pending-channel .before .before .before .before .before .before .before in
-    ready-short (start .args .state .now) (start .args .rx .now) (start .args .store .now) (start .args .out .now) (start .args .h) (start .pre .1)
+    ready-bad (start .args .state .now) (start .args .rx .now) (start .args .store .now) (start .args .out .now) (start .args .h) (start .pre .1)
     (start .args .received .now) (start .args .packet) (at-pending-channel .pending-channel .result) (at-pending-channel .pending-channel .ensures)
     (at-payload .payload .result .now) (at-payload .payload .ensures) (at-rx-policy .rx-policy .result) (at-rx-policy .rx-policy .ensures)
     (at-opening .opening .result) (at-opening .opening .ensures) (at-accept-open-ready .accept-open-ready .result)
-    (at-accept-open-ready .accept-open-ready .ensures) _ _ _ _ (start .pre .0 .room) (at-enum-told .enum-told .given .1)
+    (at-accept-open-ready .accept-open-ready .ensures) _ _ _ _ _ (start .pre .0 .room) (at-readied .readied2 .given .1)
     (at-close-open .close-open .ensures .0) (at-close-open .close-open .ensures .1)
-    (ap (λ (x : ℕ). record { answer = Refused ShortReadyPayload; used = x; written = at-close-open .close-open .result })
+    (ap (λ (x : ℕ). record { answer = Refused (BadCredit (at-readied .readied2 .given .0 .0)); used = x; written = at-close-open .close-open .result })
     (at-frame-len .frame-len .ensures))
 
 pub open-ready-spec : {M : Type 1} → statement M
@@ -123,7 +123,7 @@ open-ready-spec =
     enum-known-readied
     drop-pending-requires
     store-slot-requires
-    enum-told
+    enum-known-readied-2
     close-open-requires
     same-length
     returns

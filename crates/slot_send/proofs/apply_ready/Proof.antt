@@ -15,14 +15,14 @@ budget-fits c = search needs
 parse-ready-credit-requires : tie.Need-parse-ready-credit-requires
 parse-ready-credit-requires c κs = search needs
 
-enum-told : tie.Need-enum-told
-enum-told c = search needs
-
 enum-known-credit : tie.Need-enum-known-credit
 enum-known-credit c = search needs
 
+enum-known-credit-2 : tie.Need-enum-known-credit-2
+enum-known-credit-2 c = search needs
+
 cast-sat-add : tie.Need-cast-sat-add
-cast-sat-add c = let f : SFits w32 (c .before .credit .given .0 .0) = search needs in rw (toZ-ofZ f) (sfits-widen tt f)
+cast-sat-add c = let f : SFits w32 (c .before .credit2 .given .0 .0) = search needs in rw (toZ-ofZ f) (sfits-widen tt f)
 
 sat-add-requires : tie.Need-sat-add-requires
 sat-add-requires c κs = search needs
@@ -33,10 +33,10 @@ with-sending-requires c κs = search needs
 returns : tie.Need-returns
 unfolding readyOf readyBy
 returns c =
-    let at-parse-ready-credit = c .before .before in
+    let at-parse-ready-credit = c .before .before .before in
     let at-if1 = at-parse-ready-credit .before in
     let start = at-if1 .before .before .before in
-    ap (readyBy (start .args .slot)) (sym (sym (at-parse-ready-credit .parse-ready-credit .ensures) ∙ c .enum-told .given .1)) ∙ sym
+    ap (readyBy (start .args .slot)) (sym (sym (at-parse-ready-credit .parse-ready-credit .ensures) ∙ c .before .credit .given .1)) ∙ sym
     (cond-true _ _ _ (at-if1 .if1 .taken))
 
 returns-2 : tie.Need-returns-2
@@ -46,13 +46,13 @@ returns-2 c =
     let at-if1 = at-parse-ready-credit .before in
     let start = at-if1 .before .before .before in
     let a = start .args in
-    let z = at-credit .credit .given .0 .0 in
+    let z = at-credit .credit2 .given .0 .0 in
     let f : SFits w32 z = search needs in
     let eb = toZ-ofZ (budget-fits (start)) in
     let es = rw (eb, widened z f) at (c .before .sat-add .ensures) in
     let er = toZ-ofZ {w = w64} {z = c .before .sat-add .result} (search needs) in
     readied-is (a .slot) (a .policy) (a .payload .now) z (c .before .sat-add .result) (c .with-sending .result) (at-if1 .if1 .taken)
-    (sym (at-parse-ready-credit .parse-ready-credit .ensures) ∙ at-credit .credit .given .1) es (rw er at (c .with-sending .ensures))
+    (sym (at-parse-ready-credit .parse-ready-credit .ensures) ∙ at-credit .credit2 .given .1) es (rw er at (c .with-sending .ensures))
 
 with-sending-requires-2 : tie.Need-with-sending-requires-2
 with-sending-requires-2 c κs = search needs
@@ -68,8 +68,8 @@ apply-ready-spec =
     tie.close
     (tie.spec
     parse-ready-credit-requires
-    enum-told
     enum-known-credit
+    enum-known-credit-2
     cast-sat-add
     sat-add-requires
     with-sending-requires

@@ -16,9 +16,26 @@ returns-3 c =
 
 returns-4 : tie.Need-returns-4
 returns-4 c =
-    let at-if1 = c .before .before in
+    let at-if2 = c .before .before in
+    let start = at-if2 .before .before in
+    let b = start .args .b in
+    rw (ne-eqb b 0 (at-if2 .before .if1 .left), ne-eqb b 1 (at-if2 .if2 .left), ne-eqb b 2 (c .before .if3 .left), eq-eqb b 3 (c .if4 .taken))
+
+returns-5 : tie.Need-returns-5
+returns-5 c =
+    let at-if3 = c .before .before in
+    let at-if1 = at-if3 .before .before in
     let start = at-if1 .before in
-    rw (ne-eqb (start .args .b) 0 (at-if1 .if1 .left), ne-eqb (start .args .b) 1 (c .before .if2 .left), ne-eqb (start .args .b) 2 (c .if3 .left))
+    let b = start .args .b in
+    rw (ne-eqb b 0 (at-if1 .if1 .left), ne-eqb b 1 (at-if3 .before .if2 .left), ne-eqb b 2 (at-if3 .if3 .left), ne-eqb b 3 (c .before .if4 .left), eq-eqb b 4 (c .if5 .taken))
+
+returns-6 : tie.Need-returns-6
+returns-6 c =
+    let at-if3 = c .before .before in
+    let at-if1 = at-if3 .before .before in
+    let start = at-if1 .before in
+    let b = start .args .b in
+    rw (ne-eqb b 0 (at-if1 .if1 .left), ne-eqb b 1 (at-if3 .before .if2 .left), ne-eqb b 2 (at-if3 .if3 .left), ne-eqb b 3 (c .before .if4 .left), ne-eqb b 4 (c .if5 .left))
 
 pub failed-of-spec : {M : Type 1} → statement M
-failed-of-spec = tie.close (tie.spec returns returns-2 returns-3 returns-4)
+failed-of-spec = tie.close (tie.spec returns returns-2 returns-3 returns-4 returns-5 returns-6)

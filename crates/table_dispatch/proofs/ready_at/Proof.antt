@@ -1,4 +1,4 @@
-use Rattle.table_dispatch.proofs.DispatchLaws.{steps-left, steps-stored, ready-failed, ready-granted, ready-short}
+use Rattle.table_dispatch.proofs.DispatchLaws.{steps-left, steps-stored, ready-failed, ready-granted, ready-bad}
 use mathlib.Core.Path.{sym, _∙_}
 use borrow.Author.Needs.{needs}
 use Rattle.table_dispatch.proofs.ready_at.Statement.{statement}
@@ -23,14 +23,14 @@ returns c =
 readied-requires : tie.Need-readied-requires
 readied-requires c κs = search needs
 
-enum-told : tie.Need-enum-told
-enum-told c = search needs
+enum-known-granted : tie.Need-enum-known-granted
+enum-known-granted c = search needs
 
 fault-requires : tie.Need-fault-requires
 fault-requires c κs = search needs
 
-enum-known-granted : tie.Need-enum-known-granted
-enum-known-granted c = search needs
+enum-known-granted-2 : tie.Need-enum-known-granted-2
+enum-known-granted-2 c = search needs
 
 put-slot-requires : tie.Need-put-slot-requires
 put-slot-requires c κs = search needs
@@ -40,14 +40,15 @@ same-length-2 c = search needs
 
 returns-2 : tie.Need-returns-2
 returns-2 c =
-    let at-readied = c .before .before .before in
+    let at-granted = c .before .before in
+    let at-readied = at-granted .before .before in
     let at-if1 = at-readied .before in
     let at-is-failed = at-if1 .before in
     let at-slot-at = at-is-failed .before in
     let start = at-slot-at .before .before .before .before in
-    steps-left _ _ _ (ready-short (start .args .policy) (start .args .i) _ (at-slot-at .slot-at .result) (at-slot-at .slot-at .ensures)
-    (start .args .remote) (start .args .payload .now) (c .fault .result) (sym (at-is-failed .is-failed .ensures) ∙ at-if1 .if1 .left)
-    (sym (at-readied .readied .ensures) ∙ c .before .enum-told .given .1) (c .fault .ensures))
+    steps-left _ _ _ (ready-bad (start .args .policy) (start .args .i) _ (at-slot-at .slot-at .result) (at-slot-at .slot-at .ensures)
+    (start .args .remote) (start .args .payload .now) _ (c .fault .result) (sym (at-is-failed .is-failed .ensures) ∙ at-if1 .if1 .left)
+    (sym (at-readied .readied .ensures) ∙ at-granted .granted .given .1) (c .fault .ensures))
 
 same-length-3 : tie.Need-same-length-3
 same-length-3 c = search needs
@@ -63,7 +64,7 @@ returns-3 c =
     let start = at-slot-at .before .before .before .before in
     steps-stored _ _ _ _ _ _ (ready-granted (start .args .policy) (start .args .i) _ (at-slot-at .slot-at .result) (at-slot-at .slot-at .ensures)
     (start .args .remote) (start .args .payload .now) _ (sym (at-is-failed .is-failed .ensures) ∙ at-if1 .if1 .left)
-    (sym (at-readied .readied .ensures) ∙ at-granted .granted .given .1)) (at-put-slot .put-slot .ensures)
+    (sym (at-readied .readied .ensures) ∙ at-granted .granted2 .given .1)) (at-put-slot .put-slot .ensures)
 
 pub ready-at-spec : {M : Type 1} → statement M
 ready-at-spec =
@@ -74,9 +75,9 @@ ready-at-spec =
     same-length
     returns
     readied-requires
-    enum-told
-    fault-requires
     enum-known-granted
+    fault-requires
+    enum-known-granted-2
     put-slot-requires
     same-length-2
     returns-2

@@ -15,6 +15,12 @@ enum-told-3 c = search needs
 enum-told-4 : tie.Need-enum-told-4
 enum-told-4 c = search needs
 
+enum-known-self : tie.Need-enum-known-self
+enum-known-self c = search needs
+
+number-requires : tie.Need-number-requires
+number-requires c κs = search needs
+
 enum-told-5 : tie.Need-enum-told-5
 enum-told-5 c = search needs
 
@@ -39,9 +45,6 @@ enum-told-11 c = search needs
 enum-told-12 : tie.Need-enum-told-12
 enum-told-12 c = search needs
 
-enum-told-13 : tie.Need-enum-told-13
-enum-told-13 c = search needs
-
 returns : tie.Need-returns
 unfolding refusalNumber
 returns c = rw (c .enum-told .given .1)
@@ -60,39 +63,39 @@ returns-4 c = rw (c .enum-told4 .given .1)
 
 returns-5 : tie.Need-returns-5
 unfolding refusalNumber
-returns-5 c = rw (c .enum-told5 .given .1)
+returns-5 c = rw (c .before .before .self .given .1) (c .number .ensures)
 
 returns-6 : tie.Need-returns-6
 unfolding refusalNumber
-returns-6 c = rw (c .enum-told6 .given .1)
+returns-6 c = rw (c .enum-told5 .given .1)
 
 returns-7 : tie.Need-returns-7
 unfolding refusalNumber
-returns-7 c = rw (c .enum-told7 .given .1)
+returns-7 c = rw (c .enum-told6 .given .1)
 
 returns-8 : tie.Need-returns-8
 unfolding refusalNumber
-returns-8 c = rw (c .enum-told8 .given .1)
+returns-8 c = rw (c .enum-told7 .given .1)
 
 returns-9 : tie.Need-returns-9
 unfolding refusalNumber
-returns-9 c = rw (c .enum-told9 .given .1)
+returns-9 c = rw (c .enum-told8 .given .1)
 
 returns-10 : tie.Need-returns-10
 unfolding refusalNumber
-returns-10 c = rw (c .enum-told10 .given .1)
+returns-10 c = rw (c .enum-told9 .given .1)
 
 returns-11 : tie.Need-returns-11
 unfolding refusalNumber
-returns-11 c = rw (c .enum-told11 .given .1)
+returns-11 c = rw (c .enum-told10 .given .1)
 
 returns-12 : tie.Need-returns-12
 unfolding refusalNumber
-returns-12 c = rw (c .enum-told12 .given .1)
+returns-12 c = rw (c .enum-told11 .given .1)
 
 returns-13 : tie.Need-returns-13
 unfolding refusalNumber
-returns-13 c = rw (c .enum-told13 .given .1)
+returns-13 c = rw (c .enum-told12 .given .1)
 
 pub number-spec : {M : Type 1} → statement M
 number-spec =
@@ -102,6 +105,8 @@ number-spec =
     enum-told-2
     enum-told-3
     enum-told-4
+    enum-known-self
+    number-requires
     enum-told-5
     enum-told-6
     enum-told-7
@@ -110,7 +115,6 @@ number-spec =
     enum-told-10
     enum-told-11
     enum-told-12
-    enum-told-13
     returns
     returns-2
     returns-3
