@@ -49,7 +49,7 @@ for seed in range(first, last + 1):
 print(f"{n} calls in {last-first+1} scripts agree in both modes ({kept} while an open was kept)")
 for k, v in sorted(seen.items()): print(f"{v:7} ", *k)
 PY
-for list in marked findings ledger differences apart/credit; do
+for list in marked findings ledger differences apart/credit apart/close; do
     "$bin/oracle" < "$here/scripts/$list.txt" | cmp - "$here/scripts/$list.expected"
     echo "scripts/$list.txt as expected"
 done

@@ -44,7 +44,9 @@ use Rattle.le.proofs.RowLaws.{Every}
 use Rattle.state.proofs.StateLaws.{Full, state-full}
 use Rattle.table_dispatch.specs.declared.DispatchOutcome.{DispatchOutcome}
 use Rattle.table_dispatch.specs.declared.DispatchOutcome.the-variants.{AckWrite, CreditGranted, SlotClosed, DataBuffered, IncomingOpen, CancelQueuedOpen, StrayReady, ChannelFault, Unmatched}
-use Rattle.table.specs.declared.Want.the-variants.{Local, Remote}
+use Rattle.table.specs.declared.Want.the-variants.{Local, Remote, Live}
+use Rattle.table.proofs.Laws.{live-remote}
+use Rattle.table_dispatch.proofs.DispatchLaws.{by-named}
 use Rattle.table.specs.Table.{wantedBy, placeOf, slotIn}
 use Rattle.table_dispatch.specs.Dispatch.{left, stored, faulted, remotePlace, closedAt, closeOf, readiedOf, granted, readyAt, strayOf, grantOf, Dispatched, wroteBy, wroteAt, writeOf, routeOf, dispatchOf}
 use Rattle.table_dispatch.proofs.KeepLaws.{place-found}
@@ -108,10 +110,18 @@ module _ (p : RxPolicy) (n : ℕ) (ss : List ChannelSlot) (i : ℕ) (full : n �
   not-remote : (remote : RemoteId) → eqb (remote .0) (own .remote .0) ≡ false → remotePlace n ss remote < n → i ≡ remotePlace n ss remote → ⊥
   unfolding remotePlace wantedBy
   not-remote remote f =
-      pick (λ (x : ℕ). x < n → i ≡ x → ⊥) (eqb (remote .0) 0) (λ z k e. omega arith)
-      (λ z k e. let w : wantedBy (Remote remote) own ≡ true = subst (λ (x : ℕ). wantedBy (Remote remote) (slotIn ss x) ≡ true) (sym e) (place-found (Remote remote) n ss full k) in
-      let q = eqb-true (own .remote .0) (remote .0) (and-true (own .filled && own .«has_remote») _ w .1) in
-      eqb-false (remote .0) (own .remote .0) f (sym q))
+      pick Elsewhere (eqb (remote .0) 0) (λ z k e. omega arith)
+      (λ z. by-named n ss remote Elsewhere
+      (λ _ k e. elsewhere (live-remote remote own (subst (λ (x : ℕ). wantedBy (Live remote) (slotIn ss x) ≡ true) (sym e) (place-found (Live remote) n ss full k))))
+      (λ k e. elsewhere (subst (λ (x : ℕ). wantedBy (Remote remote) (slotIn ss x) ≡ true) (sym e) (place-found (Remote remote) n ss full k))))
+    where
+      Elsewhere : ℕ → Type 0
+      Elsewhere x = x < n → i ≡ x → ⊥
+
+      elsewhere : wantedBy (Remote remote) own ≡ true → ⊥
+      elsewhere w =
+          let q = eqb-true (own .remote .0) (remote .0) (and-true (own .filled && own .«has_remote») _ w .1) in
+          eqb-false (remote .0) (own .remote .0) f (sym q)
 
   -- a WRTE
   goes-buffered : (o : DispatchOutcome) (f k u : ℕ) → Goes (stored o f (bufferedWith (slotIn ss f) p k u))

@@ -1,5 +1,5 @@
 -- Two short runs of the calls, one in each mode. What each call is said to give was recorded from libadb's core (commit
--- 39d2221f4e) on the same bytes. Assumes nothing.
+-- 39d2221f4e) on the same bytes. A third is said by the scope document alone. Assumes nothing.
 use Prim.Native.Nat.{ℕ}
 use mathlib.Core.Path.{_≡_, refl}
 use mathlib.Core.Bool.{true, false}
@@ -25,7 +25,7 @@ use Rattle.wire.specs.Wire.{creditBytes, okayBytes, closeBytes}
 use Rattle.le.specs.Rows.{flat}
 use Rattle.state_whole.specs.Whole.{filledOk, slotFine, slotsFine, queuedFine, queueFine, pendingFine, headerFine, filledAt, whole}
 use Rattle.table.specs.Table.{first, wantedBy, placeOf, nextLocal, allocated, slotIn}
-use Rattle.table_dispatch.specs.Dispatch.{remotePlace, closedAt, closeOf, readiedOf, granted, readyAt, strayOf, grantOf, wroteBy, wroteAt, writeOf, routeOf, dispatchOf}
+use Rattle.table_dispatch.specs.Dispatch.{namedPlace, remotePlace, closedAt, closeOf, readiedOf, granted, readyAt, strayOf, grantOf, wroteBy, wroteAt, writeOf, routeOf, dispatchOf}
 use Rattle.incoming.specs.Incoming.{queuedAs, queuedOpens, named, freeFrom, freeShare, staysBy, kept, withdrawal, popped, nextShare, pushed}
 use Rattle.connection.specs.Frames.{frameBytes, framesBytes}
 use Rattle.connection.specs.Act.{pushedBy, actedBy, tableOf, actOn}
@@ -164,6 +164,22 @@ classicSteps =
     ∷ quiet (closes 0 2) 10 0
     ∷ []
 
-pub agrees : given (start delayed) delayedSteps ++ given (start classic) classicSteps ≡ map (λ (s : Step). s .said) (delayedSteps ++ classicSteps)
-unfolding numOf bytesOf signed part put clamp satSum positivePart slid fitsBehind appendedHead appended takenHead withinLimits capOf ceilingOf watermarkOf openingCredit rxStoreLen openStoreLen storesFit both negotiatedOf policyOf creditOf-config total sumOf policyFor checkFor lettersOf wordOf magicOf commands amongOf commandOf messageOf headerBytes payloadOf checkPasses packetOf knownOf namedOf decodeOf messageFor frameBytes-protocol isClose namedBy closedBy creditOf atLeastZero creditFaultNumber openingSlot emptySlot isOpening isClosed isFailed errorOf openedBy openedOf readyBy readyOf heldOf acksNow bufferedWith wroteOf someLen deliveredOf ackLenOf hasData settledBy settledSome settledOf takeLen tookOf takenOf someBudget budgetOf spentOf closedSlot slotOk creditBytes okayBytes closeBytes flat filledOk slotFine slotsFine queuedFine queueFine pendingFine headerFine filledAt whole first wantedBy placeOf nextLocal allocated slotIn remotePlace closedAt closeOf readiedOf granted readyAt strayOf grantOf shareOf bufferedIn wroteBy wroteAt writeOf routeOf dispatchOf queuedAs queuedOpens named freeFrom freeShare staysBy kept withdrawal popped nextShare pushed frameBytes framesBytes pushedBy actedBy tableOf actOn refusalNumber answerNumber ackLength refusalWord answerValues ends checked checkedOut isThere slotFor ackFrames faultRefusal errorRefusal unlessFault receivedBy receivedOf isWrite isReady fresh dispatchBy dispatchStep settledAs settleStep frontOf takenBy takeStep reread readSettled readActed isDirect readDirect readBy readTaken readFirst readStep sendLen sendSome sendBy sendAgain writeReadied writeActed writeAct writeBy writeFirst writeOn writeStep closeStep takeFrontBy takeFrontStep openOn stillPending openReadied openActed openBy openStep openOutcome dispatchOutcome settleOutcome takeOutcome readOutcome writeOutcome closeOutcome takeFrontOutcome isThe
+-- a closed channel stands below a live one of its remote number: a CLSE without ours goes to the live one, which can then not be
+-- written to; one more counts for the lowest
+abbrev liveSteps : List Step
+liveSteps =
+    step (queue (97 ∷ []) []) 100 0 0 0 (OPEN 1 1 (97 ∷ [])) []
+    ∷ step (queue [] (OKAY 7 1 (5 ∷ 0 ∷ 0 ∷ 0 ∷ []))) 0 28 0 1 [] []
+    ∷ quiet (dispatches (CLSE 7 1 [])) 0 24
+    ∷ step (queue (97 ∷ []) []) 100 0 0 0 (OPEN 2 1 (97 ∷ [])) []
+    ∷ step (queue [] (OKAY 7 2 (5 ∷ 0 ∷ 0 ∷ 0 ∷ []))) 0 28 1 2 [] []
+    ∷ step (writes 1 2 (6 ∷ []) []) 0 0 1 0 (WRTE 2 7 (6 ∷ [])) []
+    ∷ quiet (dispatches (CLSE 7 0 [])) 0 24
+    ∷ quiet (writes 1 2 (6 ∷ []) []) 10 0
+    ∷ quiet (dispatches (CLSE 7 0 [])) 0 24
+    ∷ []
+
+pub agrees : given (start delayed) delayedSteps ++ given (start classic) classicSteps ++ given (start delayed) liveSteps
+    ≡ map (λ (s : Step). s .said) (delayedSteps ++ classicSteps ++ liveSteps)
+unfolding numOf bytesOf signed part put clamp satSum positivePart slid fitsBehind appendedHead appended takenHead withinLimits capOf ceilingOf watermarkOf openingCredit rxStoreLen openStoreLen storesFit both negotiatedOf policyOf creditOf-config total sumOf policyFor checkFor lettersOf wordOf magicOf commands amongOf commandOf messageOf headerBytes payloadOf checkPasses packetOf knownOf namedOf decodeOf messageFor frameBytes-protocol isClose namedBy closedBy creditOf atLeastZero creditFaultNumber openingSlot emptySlot isOpening isClosed isFailed errorOf openedBy openedOf readyBy readyOf heldOf acksNow bufferedWith wroteOf someLen deliveredOf ackLenOf hasData settledBy settledSome settledOf takeLen tookOf takenOf someBudget budgetOf spentOf closedSlot slotOk creditBytes okayBytes closeBytes flat filledOk slotFine slotsFine queuedFine queueFine pendingFine headerFine filledAt whole first wantedBy placeOf nextLocal allocated slotIn namedPlace remotePlace closedAt closeOf readiedOf granted readyAt strayOf grantOf shareOf bufferedIn wroteBy wroteAt writeOf routeOf dispatchOf queuedAs queuedOpens named freeFrom freeShare staysBy kept withdrawal popped nextShare pushed frameBytes framesBytes pushedBy actedBy tableOf actOn refusalNumber answerNumber ackLength refusalWord answerValues ends checked checkedOut isThere slotFor ackFrames faultRefusal errorRefusal unlessFault receivedBy receivedOf isWrite isReady fresh dispatchBy dispatchStep settledAs settleStep frontOf takenBy takeStep reread readSettled readActed isDirect readDirect readBy readTaken readFirst readStep sendLen sendSome sendBy sendAgain writeReadied writeActed writeAct writeBy writeFirst writeOn writeStep closeStep takeFrontBy takeFrontStep openOn stillPending openReadied openActed openBy openStep openOutcome dispatchOutcome settleOutcome takeOutcome readOutcome writeOutcome closeOutcome takeFrontOutcome isThe
 agrees = refl

@@ -44,9 +44,9 @@ use Rattle.state.specs.declared.QueuedOpen.{QueuedOpen}
 use Rattle.state.specs.Change.{Step, Change, slotTo, headerTo, queuedTo, queueTo}
 use Rattle.table_dispatch.specs.declared.DispatchOutcome.{DispatchOutcome}
 use Rattle.table_dispatch.specs.declared.DispatchOutcome.the-variants.{AckWrite, CreditGranted, SlotClosed, DataBuffered, IncomingOpen, CancelQueuedOpen, StrayReady, ChannelFault, Unmatched}
-use Rattle.table.specs.declared.Want.the-variants.{Local, Remote}
+use Rattle.table.specs.declared.Want.the-variants.{Local}
 use Rattle.table.specs.Table.{placeOf, slotIn}
-use Rattle.table_dispatch.specs.Dispatch.{remotePlace, readiedOf, Dispatched, wroteBy, wroteAt, writeOf, closedAt, closeOf, readyAt, grantOf, granted, strayOf, routeOf, dispatchOf}
+use Rattle.table_dispatch.specs.Dispatch.{namedPlace, remotePlace, readiedOf, Dispatched, wroteBy, wroteAt, writeOf, closedAt, closeOf, readyAt, grantOf, granted, strayOf, routeOf, dispatchOf}
 use Rattle.table_dispatch.proofs.RouteLaws.{by-route}
 use Rattle.connection.specs.declared.Answer.{Answer}
 use Rattle.connection.specs.Act.{Acted, pushedBy, actedBy, tableOf, actOn}
@@ -229,7 +229,7 @@ mineOf ss i k = isWrite (k .command) && eqb (k .arg1) (slotIn ss i .local .0)
 abbrev pub endsOf : ℕ → List ChannelSlot → ℕ → Packet → Bool
 endsOf n ss i k =
     isClose (k .command)
-    && cond (eqb (k .arg1) 0) (not (eqb (k .arg0) 0) && eqb (placeOf (Remote (record { 0 = k .arg0 })) n ss) i) (eqb (k .arg1) (slotIn ss i .local .0))
+    && cond (eqb (k .arg1) 0) (not (eqb (k .arg0) 0) && eqb (namedPlace (record { 0 = k .arg0 }) n ss) i) (eqb (k .arg1) (slotIn ss i .local .0))
 
 module _ (h : Header) (ss : List ChannelSlot) (queue : List QueuedOpen) (rx store : List ℕ) (k : Packet) (payload : List ℕ) where
   abbrev pol : RxPolicy

@@ -51,9 +51,9 @@ use Rattle.connection.specs.declared.Received.the-variants.{Packet as PacketIs}
 use Rattle.connection.specs.Act.{Acted, actOn}
 use Rattle.connection.specs.Answer.{refusalNumber, answerNumber}
 use Rattle.table.specs.declared.ChannelId.{ChannelId}
-use Rattle.table.specs.declared.Want.the-variants.{Remote}
+use Rattle.table_dispatch.specs.Dispatch.{namedPlace}
 use Rattle.connection.specs.Calls.{untouched, sendLen, sendSome, sendBy, sendAgain, writeReadied, writeActed, writeAct, writeBy, writeFirst, writeOn, writeStep, faultRefusal, readDirect, readActed, readSettled, reread, isDirect, readBy, readTaken, readFirst, readStep, idsIn, closeStep, takeFrontBy, takeFrontStep, errorRefusal, takenBy, takeStep, ackFrames, settledAs, settleStep, isThere, slotFor, Lent, Outcome, Work, begun, then, thenActed, ends, dropped, policy, bodyOf, frameLen, receivedOf, unlessFault, dispatchBy, dispatchStep}
-use Rattle.history.specs.Book.{writeB, isClse, hasRemote, endsOther, ownEnd, acceptedB, sentB, closedB, damagedB, isWrte, payloadAt, readB, readUsedB, isRefused, handedB, isEarly, settleB, isOn, Book, ackedB, acksOf, packetB, frameB, headerAt, never}
+use Rattle.history.specs.Book.{writeB, isClse, namedIn, endsOther, ownEnd, acceptedB, sentB, closedB, damagedB, isWrte, payloadAt, readB, readUsedB, isRefused, handedB, isEarly, settleB, isOn, Book, ackedB, acksOf, packetB, frameB, headerAt, never}
 use Rattle.history.specs.Demand3.{runOf}
 use Rattle.history.proofs.Acts.{frame-none, at-keeps, at-stays, at-named, at-sound, at-fits, at-live, acted-length, acks-own, acks-other, acksIn, acks-append, mineOf, endsOf, acted-acks, acted-at, Tells, good-by}
 use Rattle.history.proofs.Good.{Terms, settled-takes, ready-good, spent-good, Leaves, deliver-good, shut-good, settle-empty, acked-drop, took-good, handed-none, Good, Limits, acked-none, carried, settle-good}
@@ -549,7 +549,7 @@ module _ (l : Lent) (credit : Terms) (ok : TableOk (policy l) (l .state .header 
         there1 = ap (λ (x : ChannelSlot). x .filled) u1 ∙ alike1 .filled ∙ there
 
         marked1 : Marked books ss1
-        marked1 = marked-set books ss i s1 mk (alike1 .filled) (alike1 .remote)
+        marked1 = marked-set books ss i s1 mk (alike1 .filled) (alike1 .remote) (ap isClosed (settled-state (slotIn ss i) p room))
 
         abbrev act : Acted
         act = actOn (dropped (l .state .header)) ss1 (l .state .queue) (l .rx) (l .store) k body
@@ -818,7 +818,7 @@ module _ (l : Lent) (credit : Terms) (ok : TableOk (policy l) (l .state .header 
             (frame-none books i (b .acked) m (bodyOf received k) a b
             (by-test (isWrte m && eqb (m .arg1) (b .local))
             (λ t. absurd (dif (sym (reads-arg1 received limitE k sy) ∙ eqb-true (m .arg1) (b .local) (and-true (isWrte m) (eqb (m .arg1) (b .local)) t .1)))) (λ t. t))
-            (ap (λ (x : Bool). x && cond (eqb (m .arg1) 0) (not (eqb (m .arg0) 0) && (eqb (first (hasRemote (m .arg0)) books) i)) (eqb (m .arg1) (b .local))) ec)) g)
+            (ap (λ (x : Bool). x && cond (eqb (m .arg1) 0) (not (eqb (m .arg0) 0) && (eqb (namedIn (m .arg0) books) i)) (eqb (m .arg1) (b .local))) ec)) g)
 
         else-direct : isDirect sj room k ≡ true → else-fine (readDirect ch (frameLen k) wj (bodyOf received k) (deliveredOf sj p (k .«data_length»)))
         unfolding readDirect isDirect answerNumber
@@ -853,7 +853,7 @@ module _ (l : Lent) (credit : Terms) (ok : TableOk (policy l) (l .state .header 
         therej = ap (λ (x : ChannelSlot). x .filled) uj ∙ alikej .filled ∙ fill
 
         markedj : Marked books ssj
-        markedj = marked-set books ss j sj mk (alikej .filled) (alikej .remote)
+        markedj = marked-set books ss j sj mk (alikej .filled) (alikej .remote) (ap isClosed (settled-state (slotIn ss j) p room))
 
         abbrev actj : Acted
         actj = actOn (dropped (l .state .header)) ssj (l .state .queue) (l .rx) (l .store) k (bodyOf received k)
@@ -936,7 +936,7 @@ module _ (l : Lent) (credit : Terms) (ok : TableOk (policy l) (l .state .header 
           still-live =
               let nc = write-no-close (k .command) own-write in
               ap isClosed (settled-state (slotIn tsj j) p room)
-              ∙ at-stays p _ _ _ _ _ _ _ _ atj (ap (λ (x : Bool). x && cond (eqb (k .arg1) 0) (not (eqb (k .arg0) 0) && eqb (placeOf (Remote (record { 0 = k .arg0 })) (l .state .header .negotiated .config .channels) ssj) j) (eqb (k .arg1) (slotIn ssj j .local .0))) nc)
+              ∙ at-stays p _ _ _ _ _ _ _ _ atj (ap (λ (x : Bool). x && cond (eqb (k .arg1) 0) (not (eqb (k .arg0) 0) && eqb (namedPlace (record { 0 = k .arg0 }) (l .state .header .negotiated .config .channels) ssj) j) (eqb (k .arg1) (slotIn ssj j .local .0))) nc)
               (ap (λ (x : ChannelSlot). isClosed (x .state)) uj ∙ live)
 
         else-again : hasData sj ≡ false → isClosed (sj .state) ≡ false → closedBy (idsIn sj) k ≡ false → else-fine (reread ch (p .«rx_cap») (frameLen k) (actj .fault) wj3 (rj3 .slot) (takenOf (rj3 .slot) room))
@@ -1151,7 +1151,7 @@ module _ (l : Lent) (credit : Terms) (ok : TableOk (policy l) (l .state .header 
               used-book-frame a four not-end
               ∙ frame-none books i (b .acked) mW bodyW a b
               (ap (λ (x : Bool). x && eqb (mW .arg1) (b .local)) (reads-write received limW k sy ∙ ready-no-write (k .command) rd .0))
-              (ap (λ (x : Bool). x && cond (eqb (mW .arg1) 0) (not (eqb (mW .arg0) 0) && (eqb (first (hasRemote (mW .arg0)) books) i)) (eqb (mW .arg1) (b .local))) (reads-close received limW k sy ∙ ready-no-write (k .command) rd .1))
+              (ap (λ (x : Bool). x && cond (eqb (mW .arg1) 0) (not (eqb (mW .arg0) 0) && (eqb (namedIn (mW .arg0) books) i)) (eqb (mW .arg1) (b .local))) (reads-close received limW k sy ∙ ready-no-write (k .command) rd .1))
 
           readied-left : (t : ChannelSlot) (f : List Frame) (a : Answer) → eqb (answerNumber a) 4 ≡ false → SameRun s0 t → Good p credit t q0 b → Left (then w0 (slotTo (ch .slot) t ∷ []) f) a (frameLen k)
           readied-left t f a four w x = this-left t f a (frameLen k) w (good-by p credit _ _ _ _ _ _ refl refl (ready-book a four) x)
@@ -1320,7 +1320,7 @@ module _ (l : Lent) (credit : Terms) (ok : TableOk (policy l) (l .state .header 
               (good-by p credit _ _ _ _ b _ refl refl
               (frame-none books i (b .acked) m-else body-else a b
               (ap (λ (x : Bool). x && eqb (m-else .arg1) (b .local)) (reads-write received lim-else k sy ∙ rw2 .0))
-              (ap (λ (x : Bool). x && cond (eqb (m-else .arg1) 0) (not (eqb (m-else .arg0) 0) && (eqb (first (hasRemote (m-else .arg0)) books) i)) (eqb (m-else .arg1) (b .local))) (reads-close received lim-else k sy ∙ rw2 .1))) g))
+              (ap (λ (x : Bool). x && cond (eqb (m-else .arg1) 0) (not (eqb (m-else .arg0) 0) && (eqb (namedIn (m-else .arg0) books) i)) (eqb (m-else .arg1) (b .local))) (reads-close received lim-else k sy ∙ rw2 .1))) g))
 
           readied-else : (r : Readied) → write-fine (writeReadied l ch out bytes (frameLen k) w-else s-else r)
           unfolding writeReadied answerNumber refusalNumber
@@ -1364,7 +1364,7 @@ module _ (l : Lent) (credit : Terms) (ok : TableOk (policy l) (l .state .header 
               record {
                 taken = λ own f.
                     let nc = write-no-close (k .command) (and-true (isWrite (k .command)) (eqb (k .arg1) (slotIn ss i .local .0)) own .0) in
-                    absurd (true≢false (sym c ∙ at-stays p _ _ _ _ _ _ _ _ at-else (ap (λ (x : Bool). x && cond (eqb (k .arg1) 0) (not (eqb (k .arg0) 0) && eqb (placeOf (Remote (record { 0 = k .arg0 })) (l .state .header .negotiated .config .channels) ss) j-else) (eqb (k .arg1) (slotIn ss j-else .local .0))) nc) open-else));
+                    absurd (true≢false (sym c ∙ at-stays p _ _ _ _ _ _ _ _ at-else (ap (λ (x : Bool). x && cond (eqb (k .arg1) 0) (not (eqb (k .arg0) 0) && eqb (namedPlace (record { 0 = k .arg0 }) (l .state .header .negotiated .config .channels) ss) j-else) (eqb (k .arg1) (slotIn ss j-else .local .0))) nc) open-else));
                 over = λ own f. absurd (fault-apart (sym e ∙ f));
               }
 

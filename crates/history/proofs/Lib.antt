@@ -6,6 +6,7 @@ pub mod Good
 pub mod Heads
 pub mod Heard
 pub mod Joins
+pub mod LiveClose
 pub mod Marks
 pub mod Never13
 pub mod Opens

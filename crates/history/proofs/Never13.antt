@@ -215,7 +215,7 @@ never-13 s cs =
 
 -- ---- any whole state
 
-whole-holds : (w : World) → Bytes (w .state) → isWhole (w .state) ≡ true → Holds (stateOf (w .state) .header .negotiated) (drop stateLen (w .state)) (length (w .rx)) (length (w .store)) w
+pub whole-holds : (w : World) → Bytes (w .state) → isWhole (w .state) ≡ true → Holds (stateOf (w .state) .header .negotiated) (drop stateLen (w .state)) (length (w .rx)) (length (w .store)) w
 unfolding isWhole
 whole-holds w y e =
     let k = and-true (isState (w .state)) _ e in

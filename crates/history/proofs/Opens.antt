@@ -41,7 +41,7 @@ use Rattle.connection.specs.Act.{Acted, actOn}
 use Rattle.connection.specs.Answer.{refusalNumber, answerNumber}
 use Rattle.connection.specs.Calls.{Lent, Outcome, Work, begun, then, thenActed, storing, ends, untouched, dropped, pendingFor, policy, bodyOf, frameLen, receivedOf, unlessFault, faultRefusal, stillPending, openOn, openReadied, openActed, openBy, openStep}
 use Rattle.connection.specs.Frames.{closeFrame, openFrame, Sent}
-use Rattle.history.specs.Book.{Book, hasRemote, ackedB, acksOf, packetB, frameB, headerAt, isWrte, isClse, isRefused, endsOpen}
+use Rattle.history.specs.Book.{Book, namedIn, ackedB, acksOf, packetB, frameB, headerAt, isWrte, isClse, isRefused, endsOpen}
 use Rattle.history.specs.Demand3.{runOf}
 use Rattle.history.proofs.Acts.{acksIn, mineOf, acted-acks, good-by, frame-none, close-fault}
 use Rattle.history.proofs.Good.{Terms, Good, Limits, sent-good, quiet-good, acked-none}
@@ -118,7 +118,7 @@ module _ (l : Lent) (credit : Terms) (ok : TableOk (policy l) (l .state .header 
           packet-good p credit _ lim _ _ b g books i received (endsOpen (answerNumber a)) lim9 k a fs [] _ _ sy four (ap (λ (x : Bool). x && isRefused (answerNumber a)) ec)
           (good-by p credit _ _ _ _ b _ refl refl
           (frame-none books i (b .acked) m body a b (ap (λ (x : Bool). x && eqb (m .arg1) (b .local)) (reads-write received lim9 k sy ∙ r .0))
-          (ap (λ (x : Bool). x && cond (eqb (m .arg1) 0) (not (eqb (m .arg0) 0) && (eqb (first (hasRemote (m .arg0)) books) i)) (eqb (m .arg1) (b .local))) ec)) g)
+          (ap (λ (x : Bool). x && cond (eqb (m .arg1) 0) (not (eqb (m .arg0) 0) && (eqb (namedIn (m .arg0) books) i)) (eqb (m .arg1) (b .local))) ec)) g)
 
       readied-fine : isReady (k .command) ≡ true → (r : Readied) → open-fine (openReadied l ch (k .arg0) (frameLen k) r)
       unfolding openReadied answerNumber refusalNumber
@@ -133,8 +133,8 @@ module _ (l : Lent) (credit : Terms) (ok : TableOk (policy l) (l .state .header 
           let a : Answer = Refused UnexpectedCommand in
           let nc = write-no-close (k .command) wr in
           let ec : isClse m ≡ false = reads-close received lim9 k sy ∙ nc in
-          let e0 : (isClse m && cond (eqb (m .arg1) 0) (not (eqb (m .arg0) 0) && (eqb (first (hasRemote (m .arg0)) books) i)) (eqb (m .arg1) (b .local))) ≡ false =
-          ap (λ (x : Bool). x && cond (eqb (m .arg1) 0) (not (eqb (m .arg0) 0) && (eqb (first (hasRemote (m .arg0)) books) i)) (eqb (m .arg1) (b .local))) ec in
+          let e0 : (isClse m && cond (eqb (m .arg1) 0) (not (eqb (m .arg0) 0) && (eqb (namedIn (m .arg0) books) i)) (eqb (m .arg1) (b .local))) ≡ false =
+          ap (λ (x : Bool). x && cond (eqb (m .arg1) 0) (not (eqb (m .arg0) 0) && (eqb (namedIn (m .arg0) books) i)) (eqb (m .arg1) (b .local))) ec in
           open-ends (then (begun (dropped h) l) [] (closeFrame (record { local = ch .local; remote = record { 0 = k .arg0 } }) ∷ [])) a (frameLen k) refl refl refl
           (packet-good p credit _ lim _ _ b g books i received (endsOpen (answerNumber a)) lim9 k a fs [] _ _ sy refl (ap (λ (x : Bool). x && true) ec)
           (pick here (isWrte m && eqb (m .arg1) (b .local))

@@ -4,10 +4,10 @@ use mathlib.Core.Bool.{Bool, true, false, not, cond, _&&_, true≢false}
 use mathlib.Core.List.{List}
 use Prim.Native.Nat.{ℕ, _+_, _-_, _≤_}
 use native.Mathlib.Omega.{arith}
-use lib.Dec.{eqb}
+use lib.Dec.{eqb, ltb}
 use lib.ListN.{length, getD, set, length-set, List·getD-map}
 use lib.Seq.{map-set-same}
-use borrow.Author.Tests.{eqb-true, eqb-false, eq-eqb, ne-eqb}
+use borrow.Author.Tests.{eqb-true, eqb-false, eq-eqb, ne-eqb, ltb-true, ltb-false, lt-ltb}
 use Rattle.le.specs.Le.{part, numOf}
 use Rattle.le.proofs.Parts.{by-test, length-part}
 use Rattle.config.specs.declared.negotiated.RxPolicy.{RxPolicy}
@@ -25,8 +25,11 @@ use Rattle.slot.specs.declared.ChannelSlot.{ChannelSlot}
 use Rattle.slot.specs.declared.ids.ChannelIds.{ChannelIds}
 use Rattle.slot.specs.declared.ids.RemoteId.{RemoteId}
 use Rattle.slot.specs.Ids.{namedBy, closedBy}
-use Rattle.slot.specs.Slot.{emptySlot}
-use Rattle.table.specs.declared.Want.the-variants.{Remote}
+use Rattle.slot.specs.Slot.{emptySlot, isClosed}
+use Rattle.table.specs.declared.Want.{Want}
+use Rattle.table.specs.declared.Want.the-variants.{Remote, Live}
+use Rattle.table.proofs.Laws.{live-remote}
+use Rattle.table_dispatch.specs.Dispatch.{namedPlace}
 use Rattle.table.specs.Table.{first, wantedBy, placeOf, slotIn}
 use Rattle.table_dispatch.proofs.DispatchLaws.{first-found}
 use Rattle.connection.specs.declared.Answer.{Answer}
@@ -36,7 +39,7 @@ use Rattle.connection.specs.declared.Received.the-variants.{Packet as PacketIs,
 use Rattle.connection.specs.declared.Refusal.the-variants.{InvalidCommand, InvalidMagic, PayloadTooLarge, InvalidChecksum}
 use Rattle.connection.specs.Answer.{refusalNumber, answerNumber}
 use Rattle.connection.specs.Calls.{Lent, receivedBy, receivedOf, bodyOf, frameLen}
-use Rattle.history.specs.Book.{Book, noBook, hasRemote, isWrte, isClse, isEarly, headerAt, payloadAt, closesB, ownEnd}
+use Rattle.history.specs.Book.{Book, noBook, hasRemote, isLive, namedIn, isWrte, isClse, isEarly, headerAt, payloadAt, closesB, ownEnd}
 use Rattle.history.proofs.Places.{TableOk, first-le, found-there, place-le}
 use Rattle.history.proofs.Acts.{endsOf}
 
@@ -162,11 +165,12 @@ module _ (received : List ℕ) (limit : ℕ) (k : Packet) (r : Says received lim
 
 -- ---- books beside slots
 
--- the books tell which slots are filled, and with what remote number
+-- the books tell which slots are filled, with what remote number, and which are closed
 pub record Marked (d : List Book) (ss : List ChannelSlot) : Type 0 where
   pub size : length d ≡ length ss
   pub there : (j : ℕ) → getD d j noBook .there ≡ slotIn ss j .filled
   pub remote : (j : ℕ) → slotIn ss j .filled ≡ true → getD d j noBook .remote ≡ slotIn ss j .remote .0
+  pub closed : (j : ℕ) → slotIn ss j .filled ≡ true → getD d j noBook .closed ≡ isClosed (slotIn ss j .state)
 
 -- what a slot stored at a place leaves as it was, it leaves so at each place
 pub set-same : {A : Type 0} (f : ChannelSlot → A) (ss : List ChannelSlot) (j k : ℕ) (t : ChannelSlot) → f t ≡ f (slotIn ss j) → f (slotIn (set ss j t) k) ≡ f (slotIn ss k)
@@ -175,72 +179,123 @@ set-same f ss j k t e =
     sym (List·getD-map f (set ss j t) k emptySlot) ∙ ap (λ z. getD z k (f emptySlot)) (map-set-same f ss j t emptySlot e) ∙ List·getD-map f ss k emptySlot
 
 -- so the books tell the same of a table with a slot of the same channel stored anew
-pub marked-set : (d : List Book) (ss : List ChannelSlot) (j : ℕ) (t : ChannelSlot) → Marked d ss → t .filled ≡ slotIn ss j .filled → t .remote ≡ slotIn ss j .remote → Marked d (set ss j t)
-marked-set d ss j t mk e f =
+pub marked-set : (d : List Book) (ss : List ChannelSlot) (j : ℕ) (t : ChannelSlot) → Marked d ss → t .filled ≡ slotIn ss j .filled → t .remote ≡ slotIn ss j .remote
+    → isClosed (t .state) ≡ isClosed (slotIn ss j .state) → Marked d (set ss j t)
+marked-set d ss j t mk e f g =
     let fill : (k : ℕ) → slotIn (set ss j t) k .filled ≡ slotIn ss k .filled = λ k. set-same (λ (s : ChannelSlot). s .filled) ss j k t e in
     record {
       size = mk .size ∙ sym (length-set ss j t);
       there = λ k. mk .there k ∙ sym (fill k);
       remote = λ k h. mk .remote k (sym (fill k) ∙ h) ∙ sym (set-same (λ (s : ChannelSlot). s .remote .0) ss j k t (ap (λ (x : RemoteId). x .0) f));
+      closed = λ k h. mk .closed k (sym (fill k) ∙ h) ∙ sym (set-same (λ (s : ChannelSlot). isClosed (s .state)) ss j k t g);
     }
 
-module _ (p : RxPolicy) (n : ℕ) (ss : List ChannelSlot) (rx : List ℕ) (ok : TableOk p n ss rx) (d : List Book) (mk : Marked d ss) (r : ℕ) where
-  abbrev F : ℕ
-  F = first (hasRemote r) d
+module _ (p : RxPolicy) (n : ℕ) (ss : List ChannelSlot) (rx : List ℕ) (ok : TableOk p n ss rx) (d : List Book) (mk : Marked d ss) where
+  -- a test of books that passes just where a search over the slots stops
+  module _ (w : Want) (q : Book → Bool) (agrees : (i : ℕ) → slotIn ss i .filled ≡ true → q (getD d i noBook) ≡ wantedBy w (slotIn ss i))
+      (booked : (j : ℕ) → q (getD d j noBook) ≡ true → slotIn ss j .filled ≡ true) (wanted : (j : ℕ) → wantedBy w (slotIn ss j) ≡ true → slotIn ss j .filled ≡ true) where
+    abbrev F : ℕ
+    F = first q d
 
-  abbrev f : ℕ
-  f = placeOf (Remote (record { 0 = r })) n ss
+    abbrev f : ℕ
+    f = placeOf w n ss
 
-  -- a slot with that remote number has such a book, and the other way
-  wanted-mark : (i : ℕ) → slotIn ss i .filled ≡ true → (hasRemote r (getD d i noBook)) ≡ wantedBy (Remote (record { 0 = r })) (slotIn ss i)
-  unfolding wantedBy
-  wanted-mark i there =
-      ap (λ (x : Bool). x && eqb (getD d i noBook .remote) r) (mk .there i)
-      ∙ ap (λ (x : ℕ). slotIn ss i .filled && eqb x r) (mk .remote i there)
-      ∙ ap (λ (x : Bool). x && eqb (slotIn ss i .remote .0) r) (there ∙ sym (ap (λ (x : Bool). x && slotIn ss i .«has_remote») there ∙ ok .known i there))
+    -- the first such book is at a channel's place just where the walk over the slots ends there
+    module _ (i : ℕ) (there : slotIn ss i .filled ≡ true) where
+      forth : f ≡ i → F ≡ i
+      forth e =
+          let z = ok .size in
+          let y = ok .most in
+          let b = ok .below i there in
+          let l = mk .size in
+          let v : wantedBy w (slotIn ss i) ≡ true = ap (λ (x : ℕ). wantedBy w (slotIn ss x)) (sym e) ∙ found-there p n ss rx ok w (omega arith) in
+          let le : F ≤ i = first-le q d i noBook (omega arith) (agrees i there ∙ v) in
+          let m = first-found q d noBook (omega arith) in
+          let t = booked F m in
+          let ge = place-le p n ss rx ok w F (ok .below F t) (sym (agrees F t) ∙ m) in
+          omega arith
 
-  wanted-filled : (j : ℕ) → wantedBy (Remote (record { 0 = r })) (slotIn ss j) ≡ true → slotIn ss j .filled ≡ true
-  unfolding wantedBy
-  wanted-filled j v =
-      let s = slotIn ss j in
-      and-true (s .filled) (s .«has_remote») (and-true (s .filled && s .«has_remote») (eqb (s .remote .0) r) v .0) .0
+      back : F ≡ i → f ≡ i
+      back e =
+          let z = ok .size in
+          let y = ok .most in
+          let b = ok .below i there in
+          let l = mk .size in
+          let m = first-found q d noBook (omega arith) in
+          let v : wantedBy w (slotIn ss i) ≡ true = sym (agrees i there) ∙ ap (λ (x : ℕ). q (getD d x noBook)) (sym e) ∙ m in
+          let le = place-le p n ss rx ok w i b v in
+          let u = found-there p n ss rx ok w (omega arith) in
+          let t = wanted f u in
+          let ge : F ≤ f = first-le q d f noBook (let h = ok .below f t in omega arith) (agrees f t ∙ u) in
+          omega arith
 
-  -- the first such book is at a channel's place just where the walk over the slots ends there
-  marked-there : (j : ℕ) → hasRemote r (getD d j noBook) ≡ true → slotIn ss j .filled ≡ true
-  marked-there j e = sym (mk .there j) ∙ and-true (getD d j noBook .there) (eqb (getD d j noBook .remote) r) e .0
+      tells-place : eqb F i ≡ eqb f i
+      tells-place =
+          by-test (eqb f i) (λ t. eq-eqb F i (forth (eqb-true f i t)) ∙ sym t)
+          (λ t. ne-eqb F i (λ e. eqb-false f i t (back e)) ∙ sym t)
 
-  module _ (i : ℕ) (there : slotIn ss i .filled ≡ true) where
-    forth : f ≡ i → F ≡ i
-    forth e =
-        let z = ok .size in
+    -- and there is one just where the walk finds one
+    tells-found : ltb F (length d) ≡ ltb f n
+    tells-found =
+        by-test (ltb f n)
+        (λ t. let z = ok .size in
         let y = ok .most in
-        let b = ok .below i there in
         let l = mk .size in
-        let w : wantedBy (Remote (record { 0 = r })) (slotIn ss i) ≡ true = ap (λ (x : ℕ). wantedBy (Remote (record { 0 = r })) (slotIn ss x)) (sym e) ∙ found-there p n ss rx ok (Remote (record { 0 = r })) (omega arith) in
-        let le : F ≤ i = first-le (hasRemote r) d i noBook (omega arith) (wanted-mark i there ∙ w) in
-        let m = first-found (hasRemote r) d noBook (omega arith) in
-        let t = marked-there F m in
-        let ge = place-le p n ss rx ok (Remote (record { 0 = r })) F (ok .below F t) (sym (wanted-mark F t) ∙ m) in
-        omega arith
+        let k = ltb-true f n t in
+        let u = found-there p n ss rx ok w k in
+        let there = wanted f u in
+        let le : F ≤ f = first-le q d f noBook (omega arith) (agrees f there ∙ u) in
+        lt-ltb F (length d) (omega arith) ∙ sym t)
+        (λ t. by-test (ltb F (length d))
+        (λ v. let m = first-found q d noBook (ltb-true F (length d) v) in
+        let there = booked F m in
+        let b = ok .below F there in
+        let le = place-le p n ss rx ok w F b (sym (agrees F there) ∙ m) in
+        let k = ltb-false f n t in
+        absurd (omega arith))
+        (λ v. v ∙ sym t))
 
-    back : F ≡ i → f ≡ i
-    back e =
-        let z = ok .size in
-        let y = ok .most in
-        let b = ok .below i there in
-        let l = mk .size in
-        let m = first-found (hasRemote r) d noBook (omega arith) in
-        let w : wantedBy (Remote (record { 0 = r })) (slotIn ss i) ≡ true = sym (wanted-mark i there) ∙ ap (λ (x : ℕ). hasRemote r (getD d x noBook)) (sym e) ∙ m in
-        let le = place-le p n ss rx ok (Remote (record { 0 = r })) i b w in
-        let v = found-there p n ss rx ok (Remote (record { 0 = r })) (omega arith) in
-        let t = wanted-filled f v in
-        let ge : F ≤ f = first-le (hasRemote r) d f noBook (let h = ok .below f t in omega arith) (wanted-mark f t ∙ v) in
-        omega arith
+  module _ (r : ℕ) where
+    abbrev who : RemoteId
+    who = record { 0 = r }
 
-    pub marks-agree : eqb F i ≡ eqb f i
-    marks-agree =
-        by-test (eqb f i) (λ t. eq-eqb F i (forth (eqb-true f i t)) ∙ sym t)
-        (λ t. ne-eqb F i (λ e. eqb-false f i t (back e)) ∙ sym t)
+    -- a slot with that remote number has such a book, and the other way
+    remote-agrees : (i : ℕ) → slotIn ss i .filled ≡ true → hasRemote r (getD d i noBook) ≡ wantedBy (Remote who) (slotIn ss i)
+    unfolding wantedBy
+    remote-agrees i there =
+        ap (λ (x : Bool). x && eqb (getD d i noBook .remote) r) (mk .there i)
+        ∙ ap (λ (x : ℕ). slotIn ss i .filled && eqb x r) (mk .remote i there)
+        ∙ ap (λ (x : Bool). x && eqb (slotIn ss i .remote .0) r) (there ∙ sym (ap (λ (x : Bool). x && slotIn ss i .«has_remote») there ∙ ok .known i there))
+
+    remote-booked : (j : ℕ) → hasRemote r (getD d j noBook) ≡ true → slotIn ss j .filled ≡ true
+    remote-booked j e = sym (mk .there j) ∙ and-true (getD d j noBook .there) (eqb (getD d j noBook .remote) r) e .0
+
+    remote-wanted : (j : ℕ) → wantedBy (Remote who) (slotIn ss j) ≡ true → slotIn ss j .filled ≡ true
+    unfolding wantedBy
+    remote-wanted j v =
+        let s = slotIn ss j in
+        and-true (s .filled) (s .«has_remote») (and-true (s .filled && s .«has_remote») (eqb (s .remote .0) r) v .0) .0
+
+    live-agrees : (i : ℕ) → slotIn ss i .filled ≡ true → isLive r (getD d i noBook) ≡ wantedBy (Live who) (slotIn ss i)
+    unfolding wantedBy
+    live-agrees i there =
+        ap (λ (x : Bool). x && not (getD d i noBook .closed)) (remote-agrees i there)
+        ∙ ap (λ (x : Bool). wantedBy (Remote who) (slotIn ss i) && not x) (mk .closed i there)
+
+    -- the book that is named is at a channel's place just where the slot that is named is
+    pub marks-agree : (i : ℕ) → slotIn ss i .filled ≡ true → eqb (namedIn r d) i ≡ eqb (namedPlace who n ss) i
+    unfolding namedPlace
+    marks-agree i there =
+        ap (λ (x : Bool). eqb (cond x (first (isLive r) d) (first (hasRemote r) d)) i) (tells-found (Live who) (isLive r) live-agrees live-booked live-wanted)
+        ∙ by-test (ltb (placeOf (Live who) n ss) n)
+        (λ t. rw t (tells-place (Live who) (isLive r) live-agrees live-booked live-wanted i there))
+        (λ t. rw t (tells-place (Remote who) (hasRemote r) remote-agrees remote-booked remote-wanted i there))
+      where
+        live-booked : (j : ℕ) → isLive r (getD d j noBook) ≡ true → slotIn ss j .filled ≡ true
+        live-booked j e = remote-booked j (and-true (hasRemote r (getD d j noBook)) (not (getD d j noBook .closed)) e .0)
+
+        live-wanted : (j : ℕ) → wantedBy (Live who) (slotIn ss j) ≡ true → slotIn ss j .filled ≡ true
+        live-wanted j v = remote-wanted j (live-remote who (slotIn ss j) v)
 
 -- so the book takes for the channel's end what dispatching does
 pub closes-agree : (p : RxPolicy) (n : ℕ) (ss : List ChannelSlot) (rx : List ℕ) (ok : TableOk p n ss rx) (d : List Book) (mk : Marked d ss) (i : ℕ) (there : slotIn ss i .filled ≡ true) (b : Book) (received : List ℕ) (limit : ℕ) (k : Packet)
@@ -249,8 +304,8 @@ closes-agree p n ss rx ok d mk i there b received limit k r e =
     let m = headerAt received in
     let a0 = reads-arg0 received limit k r in
     let a1 = reads-arg1 received limit k r in
-    ap (λ (x : Bool). x && cond (eqb (m .arg1) 0) (not (eqb (m .arg0) 0) && (eqb (first (hasRemote (m .arg0)) d) i)) (eqb (m .arg1) (b .local))) (reads-close received limit k r)
-    ∙ ap (λ (x : ℕ). isClose (k .command) && cond (eqb x 0) (not (eqb (m .arg0) 0) && (eqb (first (hasRemote (m .arg0)) d) i)) (eqb x (b .local))) a1
-    ∙ ap (λ (x : ℕ). isClose (k .command) && cond (eqb (k .arg1) 0) (not (eqb x 0) && (eqb (first (hasRemote x) d) i)) (eqb (k .arg1) (b .local))) a0
-    ∙ ap (λ (x : ℕ). isClose (k .command) && cond (eqb (k .arg1) 0) (not (eqb (k .arg0) 0) && (eqb (first (hasRemote (k .arg0)) d) i)) (eqb (k .arg1) x)) e
+    ap (λ (x : Bool). x && cond (eqb (m .arg1) 0) (not (eqb (m .arg0) 0) && (eqb (namedIn (m .arg0) d) i)) (eqb (m .arg1) (b .local))) (reads-close received limit k r)
+    ∙ ap (λ (x : ℕ). isClose (k .command) && cond (eqb x 0) (not (eqb (m .arg0) 0) && (eqb (namedIn (m .arg0) d) i)) (eqb x (b .local))) a1
+    ∙ ap (λ (x : ℕ). isClose (k .command) && cond (eqb (k .arg1) 0) (not (eqb x 0) && (eqb (namedIn x d) i)) (eqb (k .arg1) (b .local))) a0
+    ∙ ap (λ (x : ℕ). isClose (k .command) && cond (eqb (k .arg1) 0) (not (eqb (k .arg0) 0) && (eqb (namedIn (k .arg0) d) i)) (eqb (k .arg1) x)) e
     ∙ ap (λ (x : Bool). isClose (k .command) && cond (eqb (k .arg1) 0) (not (eqb (k .arg0) 0) && x) (eqb (k .arg1) (slotIn ss i .local .0))) (marks-agree p n ss rx ok d mk (k .arg0) i there)

@@ -37,9 +37,9 @@ use Rattle.state.specs.Change.{Step}
 use Rattle.table_dispatch.specs.declared.DispatchOutcome.{DispatchOutcome}
 use Rattle.table_dispatch.specs.declared.DispatchOutcome.the-variants.{AckWrite, CreditGranted, SlotClosed, DataBuffered, IncomingOpen, CancelQueuedOpen, StrayReady, ChannelFault, Unmatched}
 use Rattle.table.specs.declared.Want.{Want}
-use Rattle.table.specs.declared.Want.the-variants.{Local, Remote}
+use Rattle.table.specs.declared.Want.the-variants.{Local}
 use Rattle.table.specs.Table.{first, wantedBy, placeOf, slotIn}
-use Rattle.table_dispatch.specs.Dispatch.{left, stored, faulted, remotePlace, closedAt, closeOf, readiedOf, granted, readyAt, strayOf, grantOf, Dispatched, with, wroteBy, wroteAt, writeOf, routeOf}
+use Rattle.table_dispatch.specs.Dispatch.{left, stored, faulted, namedPlace, remotePlace, closedAt, closeOf, readiedOf, granted, readyAt, strayOf, grantOf, Dispatched, with, wroteBy, wroteAt, writeOf, routeOf}
 use Rattle.table_dispatch.proofs.KeepLaws.{place-found}
 use Rattle.table_dispatch.proofs.RouteLaws.{by-route}
 use Rattle.rx_store.proofs.ShareLaws.{share-in, buffered-own, buffered-other}
@@ -344,12 +344,12 @@ module _ (p : RxPolicy) (n : ℕ) (ss : List ChannelSlot) (rx : List ℕ) (ok : 
   -- whether a CLSE closes the slot at place i
   abbrev pub closes : RemoteId → LocalId → Bool
   closes remote local =
-      cond (eqb (local .0) 0) (not (eqb (remote .0) 0) && eqb (placeOf (Remote remote) n ss) i) (eqb (local .0) (slotIn ss i .local .0))
+      cond (eqb (local .0) 0) (not (eqb (remote .0) 0) && eqb (namedPlace remote n ss) i) (eqb (local .0) (slotIn ss i .local .0))
 
   pub at-close : (remote : RemoteId) (local : LocalId) → AtPlace p ss rx i payload false (closes remote local) (with (closeOf n ss remote local) rx)
   unfolding closeOf remotePlace
   at-close remote local =
-      let f = placeOf (Remote remote) n ss in
+      let f = namedPlace remote n ss in
       let g = placeOf (Local local) n ss in
       let K : Bool → Step DispatchOutcome → Type 0 = λ ends x. AtPlace p ss rx i payload false ends (with x rx) in
       let b = ok .below i there in

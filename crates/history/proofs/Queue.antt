@@ -58,7 +58,8 @@ use Rattle.table_dispatch.specs.declared.DispatchOutcome.{DispatchOutcome}
 use Rattle.table_dispatch.specs.declared.DispatchOutcome.the-variants.{AckWrite, CreditGranted, SlotClosed, DataBuffered, IncomingOpen, CancelQueuedOpen, StrayReady, ChannelFault, Unmatched}
 use Rattle.table.specs.declared.Want.the-variants.{Local, Remote}
 use Rattle.table.specs.Table.{first, wantedBy, placeOf, slotIn}
-use Rattle.table_dispatch.specs.Dispatch.{remotePlace, closedAt, closeOf as tableClose, granted, readyAt, strayOf, grantOf, Dispatched, wroteBy, wroteAt, writeOf as tableWrite, routeOf, dispatchOf as tableDispatch}
+use Rattle.table_dispatch.specs.Dispatch.{namedPlace, remotePlace, closedAt, closeOf as tableClose, granted, readyAt, strayOf, grantOf, Dispatched, wroteBy, wroteAt, writeOf as tableWrite, routeOf, dispatchOf as tableDispatch}
+use Rattle.table_dispatch.proofs.DispatchLaws.{named-found}
 use Rattle.table_dispatch.proofs.KeepLaws.{dispatch-keeps}
 use Rattle.connection.specs.declared.Answer.{Answer}
 use Rattle.connection.specs.declared.Answer.the-variants.{Done, Waiting, Nothing, Opened, Settled, Read, Written, Front as FrontIs, Refused}
@@ -176,7 +177,12 @@ command-set n ss i t k Close a b payload =
     let f : wantedBy (Remote (record { 0 = a })) t ≡ wantedBy (Remote (record { 0 = a })) s
     = ap (λ (x : Bool). x && t .«has_remote» && eqb (t .remote .0) a) (k .filled) ∙ ap (λ (x : Bool). s .filled && x && eqb (t .remote .0) a) (k .known)
     ∙ ap (λ (x : RemoteId). s .filled && s .«has_remote» && eqb (x .0) a) (k .remote) in
-    ap (λ (x : ℕ). cond (eqb b 0) (cond (ltb (cond (eqb a 0) n x) n) stays (withdraws (record { 0 = a }))) stays) (first-set (wantedBy (Remote (record { 0 = a }))) n ss i t emptySlot f)
+    let e : ltb (cond (eqb a 0) n (namedPlace (record { 0 = a }) n (set ss i t))) n ≡ ltb (cond (eqb a 0) n (namedPlace (record { 0 = a }) n ss)) n
+    = by-test (eqb a 0) (λ z. rw z)
+    (λ z. rw z
+    (named-found n (set ss i t) (record { 0 = a }) ∙ ap (λ (x : ℕ). ltb x n) (first-set (wantedBy (Remote (record { 0 = a }))) n ss i t emptySlot f)
+    ∙ sym (named-found n ss (record { 0 = a })))) in
+    ap (λ (x : Bool). cond (eqb b 0) (cond x stays (withdraws (record { 0 = a }))) stays) e
 command-set n ss i t k Write a b payload = refl
 command-set n ss i t k Auth a b payload = refl
 command-set n ss i t k StartTls a b payload = refl

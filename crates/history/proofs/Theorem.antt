@@ -90,6 +90,7 @@ marked reads n w y z k =
       size = k .size ∙ sym z;
       there = λ j. by-test (slotIn (stateOf (w .state) .slots) j .filled) (λ t. k .each j .full t .there ∙ sym t) (λ t. k .each j .none t ∙ sym t);
       remote = λ j f. k .each j .full f .rem;
+      closed = λ j f. k .each j .full f .ends;
     }
 
 -- ---- one call

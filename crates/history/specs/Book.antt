@@ -202,9 +202,17 @@ ownEnd l r m = isClse m && namedBy (record { local = record { 0 = l }; remote = 
 abbrev pub hasRemote : ℕ → Book → Bool
 hasRemote r b = b .there && eqb (b .remote) r
 
--- its own by dispatch: place i is the first with that remote number, which is not 0, or the CLSE has its local number
+-- such a channel that is not closed
+abbrev pub isLive : ℕ → Book → Bool
+isLive r b = hasRemote r b && not (b .closed)
+
+-- the place that a CLSE with that remote number and none of ours names: the first that is not closed; where all are, the first
+abbrev pub namedIn : ℕ → List Book → ℕ
+namedIn r d = cond (ltb (first (isLive r) d) (length d)) (first (isLive r) d) (first (hasRemote r) d)
+
+-- its own by dispatch: place i is the one that is named by a remote number, which is not 0, or the CLSE has its local number
 abbrev pub closesB : List Book → ℕ → Book → Message → Bool
-closesB d i b m = isClse m && cond (eqb (m .arg1) 0) (not (eqb (m .arg0) 0) && (eqb (first (hasRemote (m .arg0)) d) i)) (eqb (m .arg1) (b .local))
+closesB d i b m = isClse m && cond (eqb (m .arg1) 0) (not (eqb (m .arg0) 0) && (eqb (namedIn (m .arg0) d) i)) (eqb (m .arg1) (b .local))
 
 -- ---- a packet that a call used. d: the books of all places before the call; i: this book's place
 

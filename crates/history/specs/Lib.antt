@@ -1,5 +1,6 @@
 pub mod Book
 pub mod Demand3
+pub mod LiveClose
 pub mod Never13
 pub mod NoLeak
 pub mod Numbers

@@ -19,9 +19,9 @@ use Rattle.credit.specs.Credit.{creditNumber, creditFaultNumber, creditOf, atLe
 use Rattle.slot.specs.Numbers.{decisionNumber, takenNumber, errorNumber}
 use Rattle.slot.specs.Slot.{openingSlot, acceptedSlot, isOpening, isClosed, isFailed, readyBy, readyOf, heldOf, acksNow, bufferedWith, wroteOf, someLen, ackLenOf, hasData, settledBy, settledSome, settledOf, takeLen, tookOf, takenOf, errorOf}
 use Rattle.table.specs.Table.{first, wantedBy, placeOf, slotIn, nextLocal}
-use Rattle.table_dispatch.specs.Dispatch.{remotePlace, closedAt, closeOf, readiedOf, granted, readyAt, grantOf, routeOf, dispatchOf}
+use Rattle.table_dispatch.specs.Dispatch.{namedPlace, remotePlace, closedAt, closeOf, readiedOf, granted, readyAt, grantOf, routeOf, dispatchOf}
 use Rattle.marked.specs.Marked.{Row, table}
 
 pub agrees : map (λ (r : Row). r .given) table ≡ map (λ (r : Row). r .said) table
-unfolding table numOf bytesOf part total sumOf checkFor lettersOf wordOf magicOf commands amongOf commandOf sameBytes colonsIn colonAfter begins named afterName firstPart onFirst partsOf anySame listed hasFeature messageOf headerBytes payloadOf checkPasses packetOf knownOf namedOf decodeOf decodedNumber usedOf messageFor packetBytes signed capOf ceilingOf watermarkOf openingCredit fitsBehind appendedHead takenHead clamp satSum creditNumber creditFaultNumber atLeastZero faultRefusal refusalNumber wantedBy first placeOf isReady isThe isFailed readiedOf granted readyAt grantOf decisionNumber takenNumber errorNumber creditOf openingSlot acceptedSlot isOpening isClosed readyBy readyOf heldOf acksNow bufferedWith wroteOf someLen ackLenOf hasData settledBy settledSome settledOf takeLen tookOf takenOf errorOf nextLocal both negotiatedOf policyOf actedBy tableOf actOn answerNumber ends unlessFault receivedBy receivedOf dispatchBy dispatchStep staysBy kept withdrawal slotIn remotePlace closedAt closeOf routeOf dispatchOf
+unfolding table numOf bytesOf part total sumOf checkFor lettersOf wordOf magicOf commands amongOf commandOf sameBytes colonsIn colonAfter begins named afterName firstPart onFirst partsOf anySame listed hasFeature messageOf headerBytes payloadOf checkPasses packetOf knownOf namedOf decodeOf decodedNumber usedOf messageFor packetBytes signed capOf ceilingOf watermarkOf openingCredit fitsBehind appendedHead takenHead clamp satSum creditNumber creditFaultNumber atLeastZero faultRefusal refusalNumber wantedBy first placeOf isReady isThe isFailed readiedOf granted readyAt grantOf decisionNumber takenNumber errorNumber creditOf openingSlot acceptedSlot isOpening isClosed readyBy readyOf heldOf acksNow bufferedWith wroteOf someLen ackLenOf hasData settledBy settledSome settledOf takeLen tookOf takenOf errorOf nextLocal both negotiatedOf policyOf actedBy tableOf actOn answerNumber ends unlessFault receivedBy receivedOf dispatchBy dispatchStep staysBy kept withdrawal slotIn namedPlace remotePlace closedAt closeOf routeOf dispatchOf
 agrees = refl

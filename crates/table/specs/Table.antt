@@ -5,24 +5,25 @@ use mathlib.Core.List.{List, [], _∷_}
 use lib.Dec.{eqb, ltb}
 use lib.ListN.{take, getD}
 use Rattle.slot.specs.declared.ChannelSlot.{ChannelSlot}
-use Rattle.slot.specs.Slot.{emptySlot}
+use Rattle.slot.specs.Slot.{emptySlot, isClosed}
 use Rattle.state.specs.declared.Header.{Header}
 use Rattle.table.specs.declared.Allocated.{Allocated}
 use Rattle.table.specs.declared.Allocated.the-variants.{Channel, NoFree}
 use Rattle.table.specs.declared.ChannelId.{ChannelId}
 use Rattle.table.specs.declared.Want.{Want}
-use Rattle.table.specs.declared.Want.the-variants.{Empty, Local, Remote}
+use Rattle.table.specs.declared.Want.the-variants.{Empty, Local, Remote, Live}
 
 -- the place of the first element that passes, or the length where none does
 unfoldable pub first : {A : Type 0} → (A → Bool) → List A → ℕ
 first p [] = 0
 first p (x ∷ xs) = cond (p x) 0 (suc (first p xs))
 
--- a slot with no channel; one whose channel has our number; one whose channel has the device's
+-- a slot with no channel; one whose channel has our number; one whose channel has the device's; such a one that is not closed
 unfoldable pub wantedBy : Want → ChannelSlot → Bool
 wantedBy Empty s = not (s .filled)
 wantedBy (Local n) s = s .filled && eqb (s .local .0) (n .0)
 wantedBy (Remote n) s = s .filled && s .«has_remote» && eqb (s .remote .0) (n .0)
+wantedBy (Live n) s = s .filled && s .«has_remote» && eqb (s .remote .0) (n .0) && not (isClosed (s .state))
 
 -- the lowest such place below n, or n
 unfoldable pub placeOf : Want → ℕ → List ChannelSlot → ℕ

@@ -2,6 +2,7 @@
 use slot::ChannelSlot;
 use slot::ids::LocalId;
 use slot::ids::RemoteId;
+use slot::is_closed;
 use state::Header;
 use state::slot_at;
 ghost use mathlib.Core.Path.{_≡_};
@@ -9,7 +10,7 @@ ghost use mathlib.Core.Bool.{cond};
 ghost use Prim.Native.Nat.{_≤_};
 ghost use lib.ListN.{length};
 ghost use Rattle.state.specs.State.{stateLen, stateOf};
-ghost use Rattle.table.specs.declared.Want.the-variants.{Local, Remote};
+ghost use Rattle.table.specs.declared.Want.the-variants.{Local, Remote, Live};
 ghost use Rattle.table.specs.Table.{allocatedNumber, wantedBy, placeOf, inUse, nextLocal, numbered, allocated};
 
 // A channel as its holder names it.
@@ -23,6 +24,8 @@ pub enum Want {
     Empty,
     Local(LocalId),
     Remote(RemoteId),
+    // By the device's number, and not closed.
+    Live(RemoteId),
 }
 
 pub enum Allocated {
@@ -65,6 +68,16 @@ fn has_remote(s: ChannelSlot, n: RemoteId) -> bool
     false
 }
 
+fn is_live(s: ChannelSlot, n: RemoteId) -> bool
+    ensures { λ r. ⌜ r ≡ wantedBy (Live n) s ⌝ }
+{
+    let state = s.state;
+    if has_remote(s, n) {
+        return !is_closed(state);
+    }
+    false
+}
+
 fn is_wanted(s: ChannelSlot, want: Want) -> bool
     ensures { λ r. ⌜ r ≡ wantedBy want s ⌝ }
 {
@@ -72,6 +85,7 @@ fn is_wanted(s: ChannelSlot, want: Want) -> bool
         Want::Empty => !s.filled,
         Want::Local(n) => has_local(s, n),
         Want::Remote(n) => has_remote(s, n),
+        Want::Live(n) => is_live(s, n),
     }
 }
 

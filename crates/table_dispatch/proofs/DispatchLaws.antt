@@ -7,7 +7,7 @@ use native.Mathlib.Omega.{arith}
 use lib.Dec.{eqb, ltb}
 use lib.ListN.{length, take, getD}
 use lib.Seq.{getD-take, length-take-le}
-use borrow.Author.Tests.{eq-eqb, ne-eqb, lt-ltb, le-ltb, ltb-false}
+use borrow.Author.Tests.{eq-eqb, ne-eqb, lt-ltb, le-ltb, ltb-true, ltb-false}
 use Rattle.le.proofs.Parts.{by-test}
 use Rattle.protocol.specs.declared.command.Command.{Command}
 use Rattle.protocol.specs.declared.packet.Packet.{Packet}
@@ -25,6 +25,8 @@ use Rattle.slot.specs.declared.AckDecision.the-variants.{Now, Hold, Overflow, E
 use Rattle.slot.specs.declared.Wrote.{Wrote}
 use Rattle.slot.specs.Slot.{emptySlot, isOpening, isFailed, closedSlot, heldOf, wroteOf, SlotOk}
 use Rattle.slot.proofs.Laws.{cond-true, cond-false}
+use Rattle.slot.proofs.Kept.{pick}
+use Rattle.table.proofs.Laws.{first-weaker, live-remote}
 use Rattle.state.specs.Change.{Step, Steps}
 use Rattle.state.proofs.ChangeLaws.{steps-by}
 use Rattle.state.specs.State.{stateOf, slotAt, putSlot}
@@ -32,9 +34,9 @@ use Rattle.le.proofs.RowLaws.{never}
 use Rattle.state.proofs.StateLaws.{slot-in, state-full}
 use Rattle.table_dispatch.specs.declared.DispatchOutcome.{DispatchOutcome}
 use Rattle.table_dispatch.specs.declared.DispatchOutcome.the-variants.{AckWrite, DataBuffered, CreditGranted, SlotClosed, CancelQueuedOpen, StrayReady, Unmatched}
-use Rattle.table.specs.declared.Want.the-variants.{Local, Remote}
+use Rattle.table.specs.declared.Want.the-variants.{Local, Remote, Live}
 use Rattle.table.specs.Table.{first, wantedBy, placeOf, slotIn}
-use Rattle.table_dispatch.specs.Dispatch.{left, stored, faulted, remotePlace, closedAt, closeOf, readiedOf, granted, readyAt, strayOf, grantOf, Dispatched, with, wroteBy, wroteAt, writeOf, routeOf, dispatchOf, Dispatches}
+use Rattle.table_dispatch.specs.Dispatch.{left, stored, faulted, namedPlace, remotePlace, closedAt, closeOf, readiedOf, granted, readyAt, strayOf, grantOf, Dispatched, with, wroteBy, wroteAt, writeOf, routeOf, dispatchOf, Dispatches}
 
 pub slot-here : (b : List ℕ) (i : ℕ) → i < 64 → slotIn (stateOf b .slots) i ≡ slotAt b i
 unfolding slotIn
@@ -57,9 +59,33 @@ module _ (n : ℕ) (ss : List ChannelSlot) (remote : RemoteId) where
   unfolding remotePlace
   remote-none e = sym (cond-true (eqb (remote .0) 0) n _ (eq-eqb (remote .0) 0 e))
 
-  pub remote-some : (i : ℕ) → (remote .0 ≡ 0 → ⊥) → i ≡ placeOf (Remote remote) n ss → i ≡ remotePlace n ss remote
-  unfolding remotePlace
-  remote-some i e h = h ∙ sym (cond-false (eqb (remote .0) 0) n _ (ne-eqb (remote .0) 0 e))
+  -- a live channel's place, or that of a closed one
+  pub remote-live : (i : ℕ) → (remote .0 ≡ 0 → ⊥) → i ≡ placeOf (Live remote) n ss → i < n → i ≡ remotePlace n ss remote
+  unfolding remotePlace namedPlace
+  remote-live i e h k =
+      h ∙ sym (cond-true (ltb (placeOf (Live remote) n ss) n) _ _ (lt-ltb _ n (subst (λ (x : ℕ). x < n) h k)))
+      ∙ sym (cond-false (eqb (remote .0) 0) n _ (ne-eqb (remote .0) 0 e))
+
+  pub remote-closed : (j i : ℕ) → (remote .0 ≡ 0 → ⊥) → j ≡ placeOf (Live remote) n ss → n ≤ j → i ≡ placeOf (Remote remote) n ss → i ≡ remotePlace n ss remote
+  unfolding remotePlace namedPlace
+  remote-closed j i e h k g =
+      g ∙ sym (cond-false (ltb (placeOf (Live remote) n ss) n) _ _ (le-ltb _ n (subst (λ (x : ℕ). n ≤ x) h k)))
+      ∙ sym (cond-false (eqb (remote .0) 0) n _ (ne-eqb (remote .0) 0 e))
+
+  -- whatever holds of a live channel's place and of the lowest of that number holds of the one that is named
+  pub by-named : (P : ℕ → Type 0) → (placeOf (Live remote) n ss < n → P (placeOf (Live remote) n ss)) → P (placeOf (Remote remote) n ss) → P (namedPlace remote n ss)
+  unfolding namedPlace
+  by-named P f g = pick P (ltb (placeOf (Live remote) n ss) n) (λ t. f (ltb-true _ n t)) (λ t. g)
+
+  -- a slot is named just where one has that number
+  pub named-found : ltb (namedPlace remote n ss) n ≡ ltb (placeOf (Remote remote) n ss) n
+  unfolding namedPlace placeOf
+  named-found =
+      by-test (ltb (first (wantedBy (Live remote)) (take n ss)) n)
+      (λ t. let le = first-weaker (wantedBy (Live remote)) (wantedBy (Remote remote)) (live-remote remote) (take n ss) in
+      let k = ltb-true _ n t in
+      ap (λ (x : ℕ). ltb x n) (cond-true (ltb (first (wantedBy (Live remote)) (take n ss)) n) _ _ t) ∙ t ∙ sym (lt-ltb _ n (omega arith)))
+      (λ t. ap (λ (x : ℕ). ltb x n) (cond-false (ltb (first (wantedBy (Live remote)) (take n ss)) n) _ _ t))
 
   module _ (local : LocalId) where
     pub close-remote : (i : ℕ) → local .0 ≡ 0 → i ≡ remotePlace n ss remote → closeOf n ss remote local ≡ closedAt i n ss (CancelQueuedOpen remote)

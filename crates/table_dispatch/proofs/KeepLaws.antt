@@ -29,12 +29,13 @@ use Rattle.le.proofs.RowLaws.{Every, never}
 use Rattle.table_dispatch.specs.declared.DispatchOutcome.{DispatchOutcome}
 use Rattle.table_dispatch.specs.declared.DispatchOutcome.the-variants.{AckWrite, CreditGranted, SlotClosed, DataBuffered, IncomingOpen, CancelQueuedOpen, StrayReady, ChannelFault, Unmatched}
 use Rattle.table.specs.declared.Want.{Want}
-use Rattle.table.specs.declared.Want.the-variants.{Local, Remote}
+use Rattle.table.specs.declared.Want.the-variants.{Local, Remote, Live as WantLive}
+use Rattle.table.proofs.Laws.{live-remote}
 use Rattle.table.specs.Table.{first, wantedBy, placeOf, slotIn}
 use Rattle.table_dispatch.specs.Dispatch.{left, stored, remotePlace, closedAt, closeOf, readiedOf, granted, readyAt, strayOf, grantOf, Dispatched, with, wroteBy, wroteAt, writeOf, routeOf, dispatchOf}
 use Rattle.rx_store.specs.RxStore.{bufferedIn}
 use Rattle.table_dispatch.proofs.RouteLaws.{by-route}
-use Rattle.table_dispatch.proofs.DispatchLaws.{first-found}
+use Rattle.table_dispatch.proofs.DispatchLaws.{first-found, by-named}
 use Rattle.rx_store.proofs.ShareLaws.{share-in, length-buffered}
 use Rattle.state_whole.proofs.WholeLaws.{Live, Whole, whole-live}
 use Rattle.state_whole.proofs.LiveLaws.{ReadiedLive, ready-live, wrote-live, closed-live}
@@ -118,7 +119,10 @@ module _ (n : Negotiated) (h : Header) (c : Connection) (rx : List ℕ) (g : Who
 
   remote-found : (remote : RemoteId) → Found (remotePlace (n .config .channels) (c .slots) remote)
   unfolding remotePlace
-  remote-found remote = pick Found (eqb (remote .0) 0) (λ z k. absurd (omega arith)) (λ z. live-found (Remote remote) (remote-filled remote))
+  remote-found remote =
+      pick Found (eqb (remote .0) 0) (λ z k. absurd (omega arith))
+      (λ z. by-named (n .config .channels) (c .slots) remote Found
+      (λ _. live-found (WantLive remote) (λ s e. remote-filled remote s (live-remote remote s e))) (live-found (Remote remote) (remote-filled remote)))
 
   closed-keeps : (i : ℕ) (other : DispatchOutcome) → AnswerFits other → Found i → TableKeeps n h c rx (with (closedAt i (n .config .channels) (c .slots) other) rx)
   unfolding closedAt

@@ -25,7 +25,7 @@ use Rattle.state.specs.Change.{slotTo, Step, Steps}
 use Rattle.state.specs.State.{stateLen, slotAt}
 use Rattle.table_dispatch.specs.declared.DispatchOutcome.{DispatchOutcome}
 use Rattle.table_dispatch.specs.declared.DispatchOutcome.the-variants.{AckWrite, CreditGranted, SlotClosed, DataBuffered, IncomingOpen, CancelQueuedOpen, StrayReady, ChannelFault, Unmatched}
-use Rattle.table.specs.declared.Want.the-variants.{Local, Remote}
+use Rattle.table.specs.declared.Want.the-variants.{Local, Remote, Live}
 use Rattle.table.specs.Table.{placeOf, slotIn}
 
 -- nothing changes
@@ -42,9 +42,13 @@ faulted i s remote f = ChannelFault i (record { local = s .local; remote = remot
 
 -- ---- CLSE
 
--- the lowest slot with the device's number, closed ones too, or n; a number of 0 names none
+-- the lowest slot with the device's number that is not closed; where all are, the lowest; or n
+unfoldable pub namedPlace : RemoteId → ℕ → List ChannelSlot → ℕ
+namedPlace remote n ss = cond (ltb (placeOf (Live remote) n ss) n) (placeOf (Live remote) n ss) (placeOf (Remote remote) n ss)
+
+-- the same, and a number of 0 names none
 unfoldable pub remotePlace : ℕ → List ChannelSlot → RemoteId → ℕ
-remotePlace n ss remote = cond (eqb (remote .0) 0) n (placeOf (Remote remote) n ss)
+remotePlace n ss remote = cond (eqb (remote .0) 0) n (namedPlace remote n ss)
 
 -- the slot at place i closed, or another answer where i is not below n
 unfoldable pub closedAt : ℕ → ℕ → List ChannelSlot → DispatchOutcome → Step DispatchOutcome

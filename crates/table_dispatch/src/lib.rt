@@ -67,13 +67,17 @@ fn fault(i: usize, s: ChannelSlot, remote: RemoteId, fault: ChannelFault) -> Dis
     DispatchOutcome::ChannelFault(i, ChannelIds { local, remote }, is_opening(state), fault)
 }
 
-// The lowest slot with the device's number, or n.
+// The lowest slot with the device's number that is not closed, or, where all are, the lowest; or n.
 fn remote_place(state: &[u8], n: usize, remote: RemoteId) -> usize
     requires { ⌜ Walks (now state) n ⌝ }
     ensures { λ r. ⌜ r ≡ remotePlace n (stateOf (now (state .entry)) .slots) remote ⌝ }
 {
     if remote.0 == 0 {
         return n;
+    }
+    let live = place_below(state, n, Want::Live(remote));
+    if live < n {
+        return live;
     }
     place_below(state, n, Want::Remote(remote))
 }
