@@ -41,7 +41,7 @@ use Rattle.incoming.specs.declared.Front.{Front}
 use Rattle.incoming.specs.declared.Front.the-variants.{Open as FrontOpen, Nothing as NoFront}
 use Rattle.incoming.specs.Incoming.{popped}
 use Rattle.connection.specs.Frames.{Frame, closeFrame, writeFrame, framesBytes, Sent}
-use Rattle.table.specs.Table.{slotIn, first, wantedBy, placeOf}
+use Rattle.table.specs.Table.{slotIn, first, wantedBy}
 use Rattle.rx_store.specs.RxStore.{shareOf, frontOf}
 use Rattle.connection.specs.declared.Answer.{Answer}
 use Rattle.connection.specs.declared.Answer.the-variants.{Done, Waiting, Nothing, Settled as SettledIs, Read, Written, Front as FrontIs, Refused}

@@ -1,43 +1,40 @@
 -- A CLSE that leaves our number out goes to the lowest live channel of its number. Assumes nothing.
-use mathlib.Core.Path.{_≡_, refl, sym, ap, subst, _∙_}
-use mathlib.Core.Bool.{Bool, true, false, not, cond, _&&_, true≢false}
+use mathlib.Core.Path.{_≡_, refl, sym, ap, _∙_}
+use mathlib.Core.Bool.{Bool, true, false, not, _&&_}
 use mathlib.Core.List.{List, [], _∷_}
-use Prim.Native.Nat.{ℕ, zero, suc, _+_, _≤_, _<_}
+use Prim.Native.Nat.{ℕ, zero, suc, _≤_, _<_}
 use native.Mathlib.Omega.{arith}
 use lib.Dec.{eqb, ltb}
-use lib.ListN.{length, take, drop, getD, set}
+use lib.ListN.{length, take, getD, set}
 use lib.Seq.{getD-take, length-take-le}
-use borrow.Author.Tests.{ne-eqb, lt-ltb, le-ltb}
+use borrow.Author.Tests.{lt-ltb, le-ltb}
 use Rattle.le.proofs.Parts.{by-test}
 use Rattle.config.proofs.Laws.{and-true}
 use Rattle.config.specs.Config.{storesFit}
 use Rattle.protocol.specs.declared.packet.Packet.{Packet}
-use Rattle.protocol.specs.declared.packet.Decoded.{Decoded}
 use Rattle.slot.specs.declared.ChannelSlot.{ChannelSlot}
 use Rattle.slot.specs.declared.ids.RemoteId.{RemoteId}
 use Rattle.slot.specs.Slot.{emptySlot, isClosed, closedSlot}
 use Rattle.slot.proofs.Laws.{cond-true, cond-false}
 use Rattle.state.specs.Change.{slotTo, changedAll}
-use Rattle.state.specs.State.{stateLen, stateOf, Connection}
+use Rattle.state.specs.State.{stateOf, Connection}
 use Rattle.state_whole.specs.Whole.{isWhole}
 use Rattle.table.specs.declared.Want.the-variants.{Live}
 use Rattle.table.specs.Table.{first, wantedBy, placeOf, countOf, slotIn}
 use Rattle.table.proofs.Laws.{live-remote}
 use Rattle.table_dispatch.specs.declared.DispatchOutcome.the-variants.{SlotClosed, CancelQueuedOpen}
-use Rattle.table_dispatch.specs.Dispatch.{stored, remotePlace, closedAt, closeOf, Dispatched, with, routeOf, dispatchOf}
+use Rattle.table_dispatch.specs.Dispatch.{stored, closedAt, closeOf, Dispatched, with, routeOf, dispatchOf}
 use Rattle.table_dispatch.proofs.DispatchLaws.{remote-live}
 use Rattle.table_dispatch.proofs.KeepLaws.{place-found}
 use Rattle.connection.specs.declared.Answer.the-variants.{Done}
-use Rattle.connection.specs.declared.Received.{Received}
 use Rattle.connection.specs.declared.Received.the-variants.{Packet as PacketIs}
 use Rattle.connection.specs.Act.{actedBy, tableOf, actOn}
 use Rattle.connection.specs.Answer.{answerNumber}
 use Rattle.connection.specs.Calls.{Lent, Outcome, begun, then, thenActed, ends, checked, checkedOut, dropped, unlessFault, receivedBy, receivedOf, bodyOf, frameLen, dispatchBy, dispatchStep, dispatchOutcome}
 use Rattle.connection.proofs.Slots.{slotsBy, slots-by, slot-set-same, slot-set-other}
-use Rattle.history.specs.Run.{bytesIn, Call, dispatchCall, World, lent, outcome, after}
-use Rattle.history.specs.Demand3.{placeSlot}
-use Rattle.history.specs.LiveClose.{liveCount, closing, ClosesLowest, ClseGoesLive}
-use Rattle.history.proofs.Never13.{Holds, whole-holds, state-after}
+use Rattle.history.specs.Run.{bytesIn, dispatchCall, lent, outcome, after}
+use Rattle.history.specs.LiveClose.{liveCount, closing, ClseGoesLive}
+use Rattle.history.proofs.Never13.{whole-holds, state-after}
 use Rattle.history.proofs.Places.{first-le}
 
 -- ---- lists

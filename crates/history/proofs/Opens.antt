@@ -30,7 +30,7 @@ use Rattle.state.specs.Change.{slotTo, changedAll}
 use Rattle.table.specs.declared.Allocated.{Allocated}
 use Rattle.table.specs.declared.Allocated.the-variants.{Channel, NoFree}
 use Rattle.table.specs.declared.ChannelId.{ChannelId}
-use Rattle.table.specs.Table.{first, allocated, numbered, slotIn}
+use Rattle.table.specs.Table.{allocated, numbered, slotIn}
 use Rattle.connection.specs.declared.Answer.{Answer}
 use Rattle.connection.specs.declared.Answer.the-variants.{Waiting, Opened, Refused}
 use Rattle.connection.specs.declared.Received.{Received}

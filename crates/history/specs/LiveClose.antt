@@ -12,7 +12,6 @@ use Rattle.protocol.specs.declared.packet.Decoded.the-variants.{Accepted}
 use Rattle.protocol.specs.Packet.{decodeOf}
 use Rattle.slot.specs.declared.ids.RemoteId.{RemoteId}
 use Rattle.slot.specs.Slot.{closedSlot}
-use Rattle.state.specs.State.{stateOf}
 use Rattle.state_whole.specs.Whole.{isWhole}
 use Rattle.table.specs.declared.Want.the-variants.{Live}
 use Rattle.table.specs.Table.{wantedBy, countOf}
