@@ -1,17 +1,18 @@
 # C programs on the static libraries. `rt` proves a library before it writes it.
 #   make demo      forty simulated peers on one connection, in each mode (ARGS: seed, MiB)
 #   make files     a file by the sync messages to a simulated device and back, in each mode (ARGS: seed, bytes)
-#   make damage    the calls on broken states and short buffers; the sync messages on any bytes
+#   make console   a recorded console session, its output and errors apart, and its exit code (ARGS: bytes a piece; SESSION: a file)
+#   make damage    the calls on broken states and short buffers; the sync messages and the shell frames on any bytes
 #   make replay    recorded calls, and the answers and states that libadb gave for them, on the library
 #   make compare   the port against libadb: SEEDS names libadb's folder libadb/src (ARGS: first and last seed, calls)
 #   make bench     the port's and libadb's time side by side: SEEDS as for compare (ARGS: repeats, ms each, rows)
-#   make header    adb.h and adb_sync.h, each alone and in either order, as C99 and as C++
-#   make example   the examples in adb.h and adb_sync.h, compiled
-#   make seam      what the tests run of these: header, example, replay, damage, a demonstration of 1 MiB, and a file of
-#                  200,003 bytes
+#   make header    adb.h, adb_sync.h and adb_shell.h, each alone and with the others, as C99 and as C++
+#   make example   the examples in adb.h, adb_sync.h and adb_shell.h, compiled
+#   make seam      what the tests run of these: header, example, replay, damage, a demonstration of 1 MiB, a file of 200,003
+#                  bytes, and the recorded session in pieces of several lengths
 #   make clean     removes what these targets built, but not what is proved
-# CC, CXX and CFLAGS may be set, as CFLAGS='-O1 -g -fsanitize=address,undefined'; LIB and SYNC_LIB name
-# other static libraries.
+# CC, CXX and CFLAGS may be set, as CFLAGS='-O1 -g -fsanitize=address,undefined'; LIB, SYNC_LIB and
+# SHELL_LIB name other static libraries.
 
 CFLAGS ?= -O2
 CXX ?= c++
@@ -19,10 +20,12 @@ WARNINGS = -Wall -Wextra -pedantic
 OUT = target/c
 LIB = target/staticlib/libadb.a
 SYNC_LIB = target/staticlib/libadb_sync.a
+SHELL_LIB = target/staticlib/libadb_shell.a
+SESSION = vectors/shell/session.out
 
-.PHONY: all demo files damage replay compare bench header example seam clean
+.PHONY: all demo files console damage replay compare bench header example seam clean
 
-all: header example replay demo files damage
+all: header example replay demo files console damage
 
 demo: $(OUT)/demo
 	$(OUT)/demo $(ARGS)
@@ -30,9 +33,13 @@ demo: $(OUT)/demo
 files: $(OUT)/files
 	$(OUT)/files $(ARGS)
 
-damage: $(OUT)/damage $(OUT)/damage_sync
+console: $(OUT)/console
+	$(OUT)/console $(ARGS) < $(SESSION)
+
+damage: $(OUT)/damage $(OUT)/damage_sync $(OUT)/damage_shell
 	$(OUT)/damage $(ARGS)
 	$(OUT)/damage_sync $(ARGS)
+	$(OUT)/damage_shell $(ARGS)
 
 replay: $(OUT)/driver
 	@for calls in vectors/recorded/*.txt; do \
@@ -49,7 +56,7 @@ bench:
 	@LIB='$(OTHER_LIB)' bench/run.sh $(ARGS)
 
 # Which headers, in which order.
-INCLUDED = adb.h,adb.h adb_sync.h,adb_sync.h adb.h,adb_sync.h adb_sync.h,adb.h
+INCLUDED = adb.h,adb.h adb_sync.h,adb_sync.h adb_shell.h,adb_shell.h adb.h,adb_sync.h,adb_shell.h adb_shell.h,adb_sync.h,adb.h
 
 header:
 	@for two in $(INCLUDED); do \
@@ -70,12 +77,17 @@ example:
 	{ cat tests/example_sync.head; $(EXAMPLE) include/adb_sync.h; echo '}'; } > $(OUT)/example_sync.c
 	grep -q 'adb_sync_read(' $(OUT)/example_sync.c
 	$(CC) -std=c99 $(WARNINGS) -Werror -Iinclude -c $(OUT)/example_sync.c -o $(OUT)/example_sync.o
+	{ cat tests/example_shell.head; $(EXAMPLE) include/adb_shell.h; echo '}'; } > $(OUT)/example_shell.c
+	grep -q 'adb_shell_read(' $(OUT)/example_shell.c
+	$(CC) -std=c99 $(WARNINGS) -Werror -Iinclude -c $(OUT)/example_shell.c -o $(OUT)/example_shell.o
 
-seam: header example replay $(OUT)/damage $(OUT)/damage_sync $(OUT)/demo $(OUT)/files
+seam: header example replay $(OUT)/damage $(OUT)/damage_sync $(OUT)/damage_shell $(OUT)/demo $(OUT)/files $(OUT)/console
 	$(OUT)/damage
 	$(OUT)/damage_sync
+	$(OUT)/damage_shell
 	$(OUT)/demo 1 1
 	$(OUT)/files 1 200003
+	tests/console.sh $(OUT)/console
 
 $(OUT)/demo: demo/demo.c demo/common.h demo/numbers.h include/adb.h $(LIB)
 	@mkdir -p $(OUT)
@@ -96,6 +108,14 @@ $(OUT)/damage: tests/damage.c demo/common.h demo/numbers.h include/adb.h $(LIB)
 $(OUT)/damage_sync: tests/damage_sync.c demo/numbers.h include/adb_sync.h $(SYNC_LIB)
 	@mkdir -p $(OUT)
 	$(CC) -std=c99 $(WARNINGS) $(CFLAGS) -Iinclude tests/damage_sync.c $(SYNC_LIB) -o $@
+
+$(OUT)/damage_shell: tests/damage_shell.c demo/numbers.h include/adb_shell.h $(SHELL_LIB)
+	@mkdir -p $(OUT)
+	$(CC) -std=c99 $(WARNINGS) $(CFLAGS) -Iinclude tests/damage_shell.c $(SHELL_LIB) -o $@
+
+$(OUT)/console: demo/console.c include/adb_shell.h $(SHELL_LIB)
+	@mkdir -p $(OUT)
+	$(CC) -std=c99 $(WARNINGS) $(CFLAGS) -Iinclude demo/console.c $(SHELL_LIB) -o $@
 
 target/staticlib/lib%.a: crates.txt $(shell find crates -name '*.rt' -o -name '*.antt')
 	rt staticlib $*

@@ -4,12 +4,12 @@ use mathlib.Core.List.{List, [], _∷_, _++_, append-assoc, append-nil}
 use Prim.Native.Nat.{ℕ, _+_, _^_, _≤_, _<_}
 use native.Mathlib.Omega.{arith}
 use lib.ListN.{length, drop, length-append}
-use lib.Seq.{take-at, drop-at}
 use borrow.Author.Tests.{lt-ltb, le-ltb}
 use Rattle.le.specs.Le.{numOf, bytesOf, put}
 use Rattle.le.specs.Rows.{flat, rows}
 use Rattle.le.proofs.Laws.{length-bytesOf, write-read}
 use Rattle.le.proofs.Parts.{put-put}
+use Rattle.le.proofs.RowLaws.{Every, rows-flat}
 use Rattle.exchange.specs.declared.SyncId.{SyncId}
 use Rattle.exchange.specs.declared.Layout.{Layout}
 use Rattle.exchange.specs.declared.Found.the-variants.{Known, Unknown}
@@ -75,23 +75,14 @@ said-put d d₄ d₅ s k e₄ e₅ =
 
 -- ---- what the bytes say
 
--- each is of 64 bits
-abbrev Small : List ℕ → Type 0
-Small [] = Unit {0}
-Small (x ∷ l) = (x < 2 ^ 64) × Small l
+abbrev Small : ℕ → Type 0
+Small x = x < 2 ^ 64
 
--- numbers, read from their bytes
-words-back : (l rest : List ℕ) → Small l → rows 8 numOf (length l) (flat (bytesOf 8) l ++ rest) ≡ l
-unfolding rows flat
-words-back [] rest h = refl
-words-back (x ∷ l) rest h =
-    let b = length-bytesOf 8 x in
-    let r = flat (bytesOf 8) l ++ rest in
-    rw (append-assoc (bytesOf 8 x) (flat (bytesOf 8) l) rest, take-at (bytesOf 8 x) r 8 b, drop-at (bytesOf 8 x) r 8 b, write-read 8 x (h .0), words-back l rest (h .1))
-
-put-back : (d l : List ℕ) → Small l → rows 8 numOf (length l) (put d 0 (flat (bytesOf 8) l)) ≡ l
+-- numbers that were put, read from their bytes
+put-back : (d l : List ℕ) → Every Small l → rows 8 numOf (length l) (put d 0 (flat (bytesOf 8) l)) ≡ l
 unfolding put
-put-back d l h = words-back l (drop (0 + length (flat (bytesOf 8) l)) d) h
+put-back d l fits =
+    rows-flat 8 (bytesOf 8) numOf Small (λ x. length-bytesOf 8 x) (λ x q. write-read 8 x q) l (drop (0 + length (flat (bytesOf 8) l)) d) fits
 
 pub said-back : (d d₅ : List ℕ) (s : Said) → s .used < 2 ^ 64 → s .at < 2 ^ 64 → s .length < 2 ^ 64 → s .word < 2 ^ 32 → s .values .a < 2 ^ 32 → s .values .b < 2 ^ 32
     → s .values .c < 2 ^ 32 → s .values .d < 2 ^ 32 → d₅ ≡ put d 0 (saidBytes s) → rows 8 numOf 8 d₅ ≡ numbersIn s

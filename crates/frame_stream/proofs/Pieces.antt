@@ -4,7 +4,7 @@
 --     sent-arrives   frames encoded one behind the other, in whatever pieces they arrive, are decoded as they were
 use mathlib.Core.Path.{_≡_, refl, ap, subst, _∙_}
 use mathlib.Core.Bool.{false, not}
-use mathlib.Core.List.{List, [], _∷_, _++_}
+use mathlib.Core.List.{List, [], _++_}
 use Prim.Native.Nat.{ℕ, _+_, _≤_, _<_, min}
 use native.Mathlib.Omega.{arith}
 use lib.Dec.{T, eqb, ltb}
@@ -25,8 +25,8 @@ use Rattle.protocol.specs.Packet.{maxPayload, payloadOf, checkPasses, packetOf,
 use Rattle.checksum.proofs.ChecksumLaws.{check-small}
 use Rattle.protocol.proofs.PacketLaws.{frame-length}
 use Rattle.protocol.proofs.RoundTrip.{frame-payload, not-refused, own-check}
-use Rattle.stream.specs.Stream.{message, refused, isWaiting, joined, readAll, begun, feedAll, Stable, more, Every, none-left, each, written, ReadsBack}
-use Rattle.stream.proofs.Cut.{cut, arrives}
+use Rattle.stream.specs.Stream.{message, refused, isWaiting, joined, readAll, begun, feedAll, Stable, more, Every, written, ReadsBack}
+use Rattle.stream.proofs.Cut.{cut, arrives, every}
 use Rattle.frame_stream.specs.Frames.{Got, answerOf, receives, bytesFor, Sendable}
 
 -- what is used is here
@@ -155,10 +155,6 @@ reads-back limit k g s rest =
       ← s .length-is,
     )
 
-all-read-back : (limit : ℕ) (k : Checksum) (gs : List Got) → Every (Sendable limit) gs → Every (ReadsBack (receives limit) (bytesFor k)) gs
-all-read-back limit k [] none-left = none-left
-all-read-back limit k (g ∷ gs) (each s e) = each (reads-back limit k g s) (all-read-back limit k gs e)
-
 pub sent-arrives : (limit : ℕ) (k : Checksum) (gs : List Got) (cs : List (List ℕ)) → Every (Sendable limit) gs → joined cs ≡ written (bytesFor k) gs
     → feedAll (receives limit) begun cs ≡ record { messages = gs; ending = more; rest = [] }
-sent-arrives limit k gs cs e j = arrives (receives limit) (stable limit) (bytesFor k) gs cs (all-read-back limit k gs e) j
+sent-arrives limit k gs cs e j = arrives (receives limit) (stable limit) (bytesFor k) gs cs (every (reads-back limit k) gs e) j

@@ -16,6 +16,11 @@ pub data End : Type 0 where
   more : End
   stopped : ℕ → End
 
+-- a refusal that ended it has a property
+unfoldable pub Ends : (ℕ → Type 0) → End → Type 0
+Ends P more = Unit {0}
+Ends P (stopped n) = P n
+
 -- what was read of a stream so far: the messages, why reading ended, the bytes that are left
 pub record Reading (M : Type 0) : Type 0 where
   pub messages : List M

@@ -1,9 +1,9 @@
 -- Messages that were written one behind the other are read as they were, in whatever pieces their bytes arrive. Assumes nothing.
 use mathlib.Core.Path.{_≡_}
-use mathlib.Core.List.{List, [], _∷_}
+use mathlib.Core.List.{List, []}
 use Prim.Native.Nat.{ℕ}
-use Rattle.stream.specs.Stream.{more, joined, begun, feedAll, Every, none-left, each, written, ReadsBack}
-use Rattle.stream.proofs.Cut.{arrives}
+use Rattle.stream.specs.Stream.{more, joined, begun, feedAll, Every, written, ReadsBack}
+use Rattle.stream.proofs.Cut.{arrives, every}
 use Rattle.exchange.specs.declared.Exchange.{Exchange}
 use Rattle.sync.specs.Message.{usedOf}
 use Rattle.sync.specs.Pieces.{Got, answerOf, receives}
@@ -22,10 +22,6 @@ reads-back x g s rest =
       message-length (g .got) (g .text),
     )
 
-all-read-back : (x : Exchange) (gs : List Got) → Every (Sent x) gs → Every (ReadsBack (receives x) bytesFor) gs
-all-read-back x [] none-left = none-left
-all-read-back x (g ∷ gs) (each s e) = each (reads-back x g s) (all-read-back x gs e)
-
 pub sent-arrives : (x : Exchange) (gs : List Got) (cs : List (List ℕ)) → Every (Sent x) gs → joined cs ≡ written bytesFor gs
     → feedAll (receives x) begun cs ≡ record { messages = gs; ending = more; rest = [] }
-sent-arrives x gs cs e j = arrives (receives x) (stable x) bytesFor gs cs (all-read-back x gs e) j
+sent-arrives x gs cs e j = arrives (receives x) (stable x) bytesFor gs cs (every (reads-back x) gs e) j
