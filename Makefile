@@ -1,18 +1,20 @@
 # C programs on the static libraries. `rt` proves a library before it writes it.
-#   make demo      forty simulated peers on one connection, in each mode (ARGS: seed, MiB)
+#   make demo      forty simulated peers on one connection, in each mode (ARGS: --capture and a file; seed, MiB)
 #   make files     a file by the sync messages to a simulated device and back, in each mode (ARGS: seed, bytes)
 #   make console   a recorded console session, its output and errors apart, and its exit code (ARGS: bytes a piece; SESSION: a file)
-#   make damage    the calls on broken states and short buffers; the sync messages and the shell frames on any bytes
+#   make damage    the calls on broken states and short buffers; the sync messages, shell frames and captures on any
+#                  bytes
+#   make captures  the programs frames_to_pcap and pcap_to_frames, on stored files
 #   make replay    recorded calls, and the answers and states that libadb gave for them, on the library
 #   make compare   the port against libadb: SEEDS names libadb's folder libadb/src (ARGS: first and last seed, calls)
 #   make bench     the port's and libadb's time side by side: SEEDS as for compare (ARGS: repeats, ms each, rows)
-#   make header    adb.h, adb_sync.h and adb_shell.h, each alone and with the others, as C99 and as C++
-#   make example   the examples in adb.h, adb_sync.h and adb_shell.h, compiled
-#   make seam      what the tests run of these: header, example, replay, damage, a demonstration of 1 MiB, a file of 200,003
-#                  bytes, and the recorded session in pieces of several lengths
+#   make header    the four headers, each alone and with the others, as C99 and as C++
+#   make example   the examples in the headers, compiled
+#   make seam      what the tests run of these: header, example, replay, damage, a demonstration of 1 MiB with a capture, a
+#                  file of 200,003 bytes, the recorded session in pieces of several lengths, and captures
 #   make clean     removes what these targets built, but not what is proved
-# CC, CXX and CFLAGS may be set, as CFLAGS='-O1 -g -fsanitize=address,undefined'; LIB, SYNC_LIB and
-# SHELL_LIB name other static libraries.
+# CC, CXX and CFLAGS may be set, as CFLAGS='-O1 -g -fsanitize=address,undefined'; LIB, SYNC_LIB,
+# SHELL_LIB and PCAP_LIB name other static libraries.
 
 CFLAGS ?= -O2
 CXX ?= c++
@@ -21,11 +23,13 @@ OUT = target/c
 LIB = target/staticlib/libadb.a
 SYNC_LIB = target/staticlib/libadb_sync.a
 SHELL_LIB = target/staticlib/libadb_shell.a
+PCAP_LIB = target/staticlib/libadb_pcap.a
+CONVERTERS = target/bin/frames_to_pcap target/bin/pcap_to_frames
 SESSION = vectors/shell/session.out
 
-.PHONY: all demo files console damage replay compare bench header example seam clean
+.PHONY: all demo files console damage captures replay compare bench header example seam clean
 
-all: header example replay demo files console damage
+all: header example replay demo files console damage captures
 
 demo: $(OUT)/demo
 	$(OUT)/demo $(ARGS)
@@ -36,10 +40,14 @@ files: $(OUT)/files
 console: $(OUT)/console
 	$(OUT)/console $(ARGS) < $(SESSION)
 
-damage: $(OUT)/damage $(OUT)/damage_sync $(OUT)/damage_shell
+damage: $(OUT)/damage $(OUT)/damage_sync $(OUT)/damage_shell $(OUT)/damage_pcap
 	$(OUT)/damage $(ARGS)
 	$(OUT)/damage_sync $(ARGS)
 	$(OUT)/damage_shell $(ARGS)
+	$(OUT)/damage_pcap $(ARGS)
+
+captures: $(CONVERTERS)
+	tests/captures.sh $(ARGS)
 
 replay: $(OUT)/driver
 	@for calls in vectors/recorded/*.txt; do \
@@ -56,7 +64,8 @@ bench:
 	@LIB='$(OTHER_LIB)' bench/run.sh $(ARGS)
 
 # Which headers, in which order.
-INCLUDED = adb.h,adb.h adb_sync.h,adb_sync.h adb_shell.h,adb_shell.h adb.h,adb_sync.h,adb_shell.h adb_shell.h,adb_sync.h,adb.h
+INCLUDED = adb.h,adb.h adb_sync.h,adb_sync.h adb_shell.h,adb_shell.h adb_pcap.h,adb_pcap.h \
+    adb.h,adb_sync.h,adb_shell.h,adb_pcap.h adb_pcap.h,adb_shell.h,adb_sync.h,adb.h
 
 header:
 	@for two in $(INCLUDED); do \
@@ -80,18 +89,24 @@ example:
 	{ cat tests/example_shell.head; $(EXAMPLE) include/adb_shell.h; echo '}'; } > $(OUT)/example_shell.c
 	grep -q 'adb_shell_read(' $(OUT)/example_shell.c
 	$(CC) -std=c99 $(WARNINGS) -Werror -Iinclude -c $(OUT)/example_shell.c -o $(OUT)/example_shell.o
+	{ cat tests/example_pcap.head; $(EXAMPLE) include/adb_pcap.h; echo '}'; } > $(OUT)/example_pcap.c
+	grep -q 'adb_pcap_read_record(' $(OUT)/example_pcap.c
+	$(CC) -std=c99 $(WARNINGS) -Werror -Iinclude -c $(OUT)/example_pcap.c -o $(OUT)/example_pcap.o
 
-seam: header example replay $(OUT)/damage $(OUT)/damage_sync $(OUT)/damage_shell $(OUT)/demo $(OUT)/files $(OUT)/console
+seam: header example replay $(OUT)/damage $(OUT)/damage_sync $(OUT)/damage_shell $(OUT)/damage_pcap $(OUT)/demo $(OUT)/files \
+    $(OUT)/console $(CONVERTERS)
 	$(OUT)/damage
 	$(OUT)/damage_sync
 	$(OUT)/damage_shell
-	$(OUT)/demo 1 1
+	$(OUT)/damage_pcap
+	$(OUT)/demo --capture $(OUT)/demo.pcap 1 1
 	$(OUT)/files 1 200003
 	tests/console.sh $(OUT)/console
+	tests/captures.sh $(OUT)/demo.pcap
 
-$(OUT)/demo: demo/demo.c demo/common.h demo/numbers.h include/adb.h $(LIB)
+$(OUT)/demo: demo/demo.c demo/common.h demo/numbers.h include/adb.h include/adb_pcap.h $(LIB) $(PCAP_LIB)
 	@mkdir -p $(OUT)
-	$(CC) -std=c99 $(WARNINGS) $(CFLAGS) -Iinclude demo/demo.c $(LIB) -o $@
+	$(CC) -std=c99 $(WARNINGS) $(CFLAGS) -Iinclude demo/demo.c $(LIB) $(PCAP_LIB) -o $@
 
 $(OUT)/files: demo/files.c demo/common.h demo/numbers.h include/adb.h include/adb_sync.h $(LIB) $(SYNC_LIB)
 	@mkdir -p $(OUT)
@@ -113,9 +128,18 @@ $(OUT)/damage_shell: tests/damage_shell.c demo/numbers.h include/adb_shell.h $(S
 	@mkdir -p $(OUT)
 	$(CC) -std=c99 $(WARNINGS) $(CFLAGS) -Iinclude tests/damage_shell.c $(SHELL_LIB) -o $@
 
+$(OUT)/damage_pcap: tests/damage_pcap.c demo/numbers.h include/adb_pcap.h $(PCAP_LIB)
+	@mkdir -p $(OUT)
+	$(CC) -std=c99 $(WARNINGS) $(CFLAGS) -Iinclude tests/damage_pcap.c $(PCAP_LIB) -o $@
+
 $(OUT)/console: demo/console.c include/adb_shell.h $(SHELL_LIB)
 	@mkdir -p $(OUT)
 	$(CC) -std=c99 $(WARNINGS) $(CFLAGS) -Iinclude demo/console.c $(SHELL_LIB) -o $@
+
+# The programs that convert captures: proved, built and run on their own stored input.
+$(CONVERTERS): crates.txt $(shell find crates -name '*.rt' -o -name '*.antt')
+	rt check $(@F)
+	@touch $@
 
 target/staticlib/lib%.a: crates.txt $(shell find crates -name '*.rt' -o -name '*.antt')
 	rt staticlib $*

@@ -1,14 +1,17 @@
 /* Forty simulated peers on one connection, in each mode: channels are opened, some megabytes go both ways by reads and writes
  * in a random order, every byte is checked at its end, and a table says what happened. Exit status 1 on any fault.
  *
- *   demo [SEED [MIB]]       (default 1 and 8: MiB each way and mode)
+ *   demo [--capture FILE] [SEED [MIB]]       (default 1 and 8: MiB each way and mode)
  *
+ * With --capture every frame that the host takes or writes goes into a pcap file, with the time at which it did.
  * The host's half uses the C interface alone. The device's half is simulated here: it answers OPENs, sends no more than the
  * protocol lets it, acknowledges late, and opens channels towards the host now and then, which the host refuses. What the
  * device sends arrives cut at random places.
  */
 #define _POSIX_C_SOURCE 199309L
 #include "common.h"
+
+#include <adb_pcap.h>
 
 #include <time.h>
 
@@ -103,7 +106,7 @@ struct peer {
 
 struct tally {
     uint64_t calls, waiting, partial, frames_in, frames_out, wrte_in, wrte_out, okay_in, okay_out;
-    uint64_t bytes_in, bytes_out, opens, refused, full, ns, wall;
+    uint64_t bytes_in, bytes_out, opens, refused, full, ns, wall, captured;
 };
 
 static struct peer peers[PEERS];
@@ -119,6 +122,37 @@ static size_t wire_len, wire_at;
 static uint32_t next_open;   /* opens of the device's so far */
 static uint32_t next_front;  /* of those, answered by take_front or refused since too many waited */
 static uint8_t refused[DEVICE_OPENS];
+
+/* ---- the capture */
+
+static FILE *capture; /* NULL for none */
+
+static void capture_bytes(const uint8_t *bytes, size_t n)
+{
+    if (fwrite(bytes, 1, n, capture) != n) die("the capture cannot be written", n, 0);
+}
+
+static void capture_begins(const char *path)
+{
+    uint8_t header[ADB_PCAP_HEADER_LEN];
+    capture = fopen(path, "wb");
+    if (!capture) die("the capture cannot be opened", 0, 0);
+    if (adb_pcap_write_header(header, sizeof header) != ADB_PCAP_DONE) die("a capture's header is refused", 0, 0);
+    capture_bytes(header, sizeof header);
+}
+
+static void capture_frame(const uint8_t *frame, size_t n)
+{
+    static uint8_t record[ADB_PCAP_RECORD_LEN + ADB_HEADER_LEN + MAX_DATA];
+    struct timespec now;
+    uint32_t said;
+    if (!capture) return;
+    clock_gettime(CLOCK_REALTIME, &now);
+    said = adb_pcap_write_record((uint32_t)now.tv_sec, (uint32_t)(now.tv_nsec / 1000), frame, n, record, sizeof record);
+    if (said != ADB_PCAP_DONE) die("a frame is not captured", said, n);
+    capture_bytes(record, ADB_PCAP_RECORD_LEN + n);
+    t.captured++;
+}
 
 /* ---- the device */
 
@@ -273,10 +307,12 @@ static void after(uint32_t said, int has_out)
         t.waiting++;
         t.partial += !used && have;
     }
+    if (used) capture_frame(in.at, (size_t)used);
     for (size_t at = 0; at < written;) {
         if (written - at < ADB_HEADER_LEN) die("a part of a frame was written", written, at);
         const size_t n = adb_le32(out.at + at + 12);
         if (written - at - ADB_HEADER_LEN < n) die("a part of a frame was written", written, at);
+        capture_frame(out.at + at, ADB_HEADER_LEN + n);
         t.full += !memcmp(out.at + at, names[CLSE], 4) && !adb_le32(out.at + at + 4);
         device_hears(out.at + at, n);
         at += ADB_HEADER_LEN + n;
@@ -531,13 +567,18 @@ static void row(const char *what, uint64_t classic, uint64_t with_delayed)
 
 int main(int argc, char **argv)
 {
-    const uint64_t seed = argc > 1 ? strtoull(argv[1], NULL, 0) : 1;
-    const uint64_t mib = argc > 2 ? strtoull(argv[2], NULL, 0) : 8;
+    const int captures = argc > 1 && !strcmp(argv[1], "--capture");
+    const char *const path = captures ? argv[2] : NULL; /* NULL too where no file is named */
     struct tally c, d;
-    if (argc > 3 || mib < 1 || mib > 4096) {
-        fputs("usage: demo [SEED [MIB]]\n", stderr);
+    uint64_t seed, mib;
+    if (captures) argc -= 2, argv += 2;
+    seed = argc > 1 ? strtoull(argv[1], NULL, 0) : 1;
+    mib = argc > 2 ? strtoull(argv[2], NULL, 0) : 8;
+    if (argc < 1 || argc > 3 || mib < 1 || mib > 4096) {
+        fputs("usage: demo [--capture FILE] [SEED [MIB]]\n", stderr);
         return 2;
     }
+    if (path) capture_begins(path);
     c = run(0, seed, mib << 20);
     d = run(1, seed, mib << 20);
     printf("%d peers on one connection, seed %" PRIu64 ", every byte checked\n", PEERS, seed);
@@ -559,5 +600,7 @@ int main(int argc, char **argv)
     row("MiB/s both ways, time in calls", ((c.bytes_in + c.bytes_out) * 1000000000u >> 20) / (c.ns + 1),
         ((d.bytes_in + d.bytes_out) * 1000000000u >> 20) / (d.ns + 1));
     row("ms in all, the device's half with it", c.wall / 1000000, d.wall / 1000000);
+    if (path) row("frames in the capture", c.captured, d.captured);
+    if (capture && fclose(capture)) die("the capture cannot be written", 0, 0);
     return 0;
 }

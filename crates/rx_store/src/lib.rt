@@ -7,7 +7,7 @@ ghost use Rattle.le.specs.Le.{part, put};
 ghost use Rattle.rx_store.specs.RxStore.{Room, slid, appendedHead, takenHead, Appends, ShareFits, bufferedIn, frontOf};
 
 // The run, moved down to the start of the share.
-fn move_down(share: &mut [u8], head: usize, n: usize)
+pub fn move_down(share: &mut [u8], head: usize, n: usize)
     requires { ⌜ head + n ≤ length (now share) ⌝ }
     ensures { λ _. ⌜ now (share .exit) ≡ slid (now (share .entry)) head n ⌝ }
 {

@@ -1,0 +1,4 @@
+pub mod WriteLaws
+pub mod ReadLaws
+pub mod RoundTrip
+pub mod Pieces

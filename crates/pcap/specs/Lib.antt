@@ -1,0 +1,3 @@
+pub mod Header
+pub mod Record
+pub mod File
