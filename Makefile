@@ -54,11 +54,13 @@ replay: $(OUT)/driver
 	    $(OUT)/driver < $$calls | cmp - $${calls%.txt}.expected && echo "replay: $$calls: $$(wc -l < $$calls) calls agree" || exit 1; \
 	done
 
-# compare.sh and run.sh make the default library themselves.
+# compare.sh, stat2.sh and run.sh make the default library themselves.
 OTHER_LIB = $(if $(filter-out target/staticlib/libadb.a,$(LIB)),$(abspath $(LIB)))
+OTHER_SYNC_LIB = $(if $(filter-out target/staticlib/libadb_sync.a,$(SYNC_LIB)),$(abspath $(SYNC_LIB)))
 
 compare:
 	CC='$(CC)' LIB='$(OTHER_LIB)' oracle/compare.sh $(ARGS)
+	CC='$(CC)' SYNC_LIB='$(OTHER_SYNC_LIB)' oracle/stat2.sh
 
 bench:
 	@LIB='$(OTHER_LIB)' bench/run.sh $(ARGS)

@@ -1,6 +1,6 @@
 #!/bin/sh
 # Generates a source tree under $BUILD from the harness beside this script and libadb's own files under $SEEDS, which are
-# copied byte for byte, and builds the programs `oracle` and `gen` there.
+# copied byte for byte, and builds the programs `oracle`, `gen` and `stat2` there.
 #   SEEDS  libadb's folder libadb/src                          (no default)
 #   BUILD  where to generate and build                         (default target/oracle of this repository)
 #   JOBS   how many compilers cargo may run at a time          (default 1)
@@ -62,6 +62,7 @@ base/send_queue             base/send_queue.rs
 base/session                base/session.rs
 base/slot                   base/slot.seed.rs
 base/wire                   base/wire.rs
+sync/format                 sync/format.rs
 MAP
 
 if ! { diff -r "$fresh/src" "$BUILD/src" && diff -r "$fresh/shims" "$BUILD/shims"; } >/dev/null 2>&1; then
@@ -75,4 +76,4 @@ rm -rf "$fresh"
 
 cd "$BUILD"
 CARGO_TARGET_DIR=$BUILD/target cargo build --release --offline --quiet -j "${JOBS:-1}"
-echo "built: $BUILD/target/release/oracle $BUILD/target/release/gen"
+echo "built: $BUILD/target/release/oracle $BUILD/target/release/gen $BUILD/target/release/stat2"

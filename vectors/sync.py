@@ -3,6 +3,8 @@
 
     read EXCHANGE BYTES
     write EXCHANGE ID LAYOUT A B C D TEXT ROOM        zeros EXCHANGE ID LAYOUT A B C D LENGTH ROOM
+    v2 EXCHANGE ID LAYOUT ERROR DEV INO MODE NLINK UID GID SIZE ATIME MTIME CTIME LAST TEXT ROOM
+    narrow 0 0 0 ERROR DEV INO MODE NLINK UID GID SIZE ATIME MTIME CTIME        old MODE SIZE MTIME
 
 BYTES and TEXT in hexadecimal, - for none; zeros writes a text of so many zero bytes. Answers are worked out here by Python's
 struct, from the table below, and not by the crates. docs/VECTORS.md says where the recorded streams are from.
@@ -11,20 +13,26 @@ import pathlib
 import struct
 import sys
 
-IDS = ["LIST", "RECV", "SEND", "STAT", "DATA", "DONE", "QUIT", "DENT", "OKAY", "FAIL"]
-TEXT, NUMBER, STAT, ENTRY, END = range(5)
+IDS = ["LIST", "RECV", "SEND", "STAT", "DATA", "DONE", "QUIT", "DENT", "OKAY", "FAIL", "LIS2", "STA2", "DNT2"]
+TEXT, NUMBER, STAT, ENTRY, END, STAT2, ENTRY2, END2 = range(8)
 # an exchange's messages: (id, layout)
 EXCHANGES = [
-    {"LIST": TEXT, "RECV": TEXT, "SEND": TEXT, "STAT": TEXT, "DATA": TEXT, "DONE": NUMBER, "QUIT": NUMBER},
+    {"LIST": TEXT, "RECV": TEXT, "SEND": TEXT, "STAT": TEXT, "DATA": TEXT, "DONE": NUMBER, "QUIT": NUMBER,
+     "LIS2": TEXT, "STA2": TEXT},
     {"DENT": ENTRY, "DONE": END},
     {"STAT": STAT},
     {"DATA": TEXT, "DONE": NUMBER, "FAIL": TEXT},
     {"OKAY": NUMBER, "FAIL": TEXT},
+    {"DNT2": ENTRY2, "DONE": END2},
+    {"STA2": STAT2},
 ]
-WORDS = {TEXT: 1, NUMBER: 1, STAT: 3, ENTRY: 4, END: 4}
-NAMES = {TEXT: [], NUMBER: ["number"], STAT: ["mode", "size", "mtime"], ENTRY: ["mode", "size", "mtime"],
-         END: ["mode", "size", "mtime", "last"]}
-HAS_TEXT = (TEXT, ENTRY)
+# a layout's numbers, but for a text's length, and how struct packs them
+V1 = ["mode", "size", "mtime"]
+V2 = ["error", "dev", "ino", "mode", "nlink", "uid", "gid", "size", "atime", "mtime", "ctime"]
+NAMES = {TEXT: [], NUMBER: ["number"], STAT: V1, ENTRY: V1, END: V1 + ["last"], STAT2: V2, ENTRY2: V2, END2: V2 + ["last"]}
+PACK = {TEXT: "", NUMBER: "I", STAT: "3I", ENTRY: "3I", END: "4I", STAT2: "IQQ4IQ3q", ENTRY2: "IQQ4IQ3q", END2: "IQQ4IQ3qI"}
+HAS_TEXT = (TEXT, ENTRY, ENTRY2)
+WIDE = (STAT2, ENTRY2, END2)
 TOP = 0xFFFF_FFFF
 DATA_MAX = 65_536
 answers = "--answers" in sys.argv
@@ -34,9 +42,17 @@ def hexed(data):
     return data.hex() if data else "-"
 
 
+def form(layout):
+    return "<" + PACK[layout] + ("I" if layout in HAS_TEXT else "")
+
+
+def head_of(layout):
+    return 4 + struct.calcsize(form(layout))
+
+
 def packed(name, layout, numbers, text):
     words = list(numbers[:len(NAMES[layout])]) + ([len(text)] if layout in HAS_TEXT else [])
-    return name.encode() + struct.pack(f"<{len(words)}I", *words) + text
+    return name.encode() + struct.pack(form(layout), *words) + text
 
 
 def read_answer(x, data):
@@ -47,10 +63,10 @@ def read_answer(x, data):
     if name not in table:
         return "refused 14 used=0"
     layout = table[name]
-    head = 4 + 4 * WORDS[layout]
+    head = head_of(layout)
     if len(data) < head:
         return "waiting used=0"
-    words = struct.unpack(f"<{WORDS[layout]}I", data[4:head])
+    words = struct.unpack(form(layout), data[4:head])
     length = words[-1] if layout in HAS_TEXT else 0
     if name == "DATA" and length > DATA_MAX:
         return "refused 15 used=0"
@@ -72,7 +88,7 @@ def write_answer(x, name, layout, numbers, text, room):
         number = 14
     elif name == "DATA" and len(text) > DATA_MAX:
         number = 15
-    elif layout not in HAS_TEXT and text or 4 + 4 * WORDS[layout] + len(text) > room:
+    elif layout not in HAS_TEXT and text or head_of(layout) + len(text) > room:
         number = 9
     else:
         made = packed(name, layout, numbers, text)
@@ -80,7 +96,8 @@ def write_answer(x, name, layout, numbers, text, room):
 
 
 def write(x, name, layout, numbers, text, room, word="write"):
-    numbers = (list(numbers) + [0] * 4)[:4]
+    numbers = (list(numbers) + [0] * 12)[:12 if layout in WIDE else 4]
+    word = "v2" if layout in WIDE else word
     if answers:
         print(write_answer(x, name, layout, numbers, text, room))
     else:
@@ -89,12 +106,15 @@ def write(x, name, layout, numbers, text, room, word="write"):
 
 
 SAMPLES = [[0, 0, 0, 0], [1, 2, 3, 4], [0o100644, 65_537, 1_700_000_000, 9], [TOP, TOP, TOP, TOP]]
+FILE = [0, 0xFD01, 131_074, 0o100644, 1, 1000, 1000, 4_294_967_296, 1_700_000_001, -1, 1_700_000_003, 9]
+WIDES = [[0] * 12, list(range(1, 13)), FILE,
+         [TOP, 2 ** 64 - 1, 2 ** 64 - 1, TOP, TOP, TOP, TOP, 2 ** 64 - 1, -2 ** 63, 2 ** 63 - 1, -2, TOP]]
 TEXTS = [b"", b"/", b"/data/a.txt", b"/data/x.bin,33188", bytes(range(256))]
 
 # every message of every exchange: whole, with more behind it, and cut at every byte of its head and around its text's end
 for x, table in enumerate(EXCHANGES):
     for name, layout in table.items():
-        for numbers in SAMPLES:
+        for numbers in WIDES if layout in WIDE else SAMPLES:
             for text in TEXTS if layout in HAS_TEXT else TEXTS[:1]:
                 data = packed(name, layout, numbers, text)
                 read(x, data)
@@ -102,18 +122,20 @@ for x, table in enumerate(EXCHANGES):
                 write(x, name, layout, numbers, text, len(data))
                 write(x, name, layout, numbers, text, len(data) + 3)
                 write(x, name, layout, numbers, text, len(data) - 1)
-        data = packed(name, layout, SAMPLES[2], b"/data")
+        data = packed(name, layout, FILE if layout in WIDE else SAMPLES[2], b"/data")
         for n in range(len(data)):
             read(x, data[:n])
 
 # every id and every number in every exchange, with exchanges that are none
 for x in range(len(EXCHANGES) + 2):
-    for name in IDS + ["list", "STA2", "\0\0\0\0", "TSIL"]:
+    for name in IDS + ["list", "SND2", "\0\0\0\0", "TSIL"]:
         for n in (3, 4, 8, 20):
             read(x, (name.encode() + bytes(16))[:n])
     for name in IDS:
         for layout in range(5):
             write(x, name, layout, [5, 6, 7, 8], b"", 24)
+        for layout in WIDE if name in ("STAT", "DONE", "LIS2", "STA2", "DNT2") else ():
+            write(x, name, layout, FILE, b"", 76)
     read(TOP - x, b"QUIT\0\0\0\0")
 
 # data at its maximum and past it; other texts have none
@@ -130,14 +152,47 @@ write(0, "DATA", TEXT, [], bytes(700), 708, "zeros")
 read(0, packed("DATA", TEXT, [], bytes(i % 251 for i in range(DATA_MAX))) + b"DO")
 
 # a text where there is none, and room for the head alone
-for x, name, layout in ((0, "DONE", NUMBER), (1, "DONE", END), (2, "STAT", STAT), (4, "OKAY", NUMBER)):
-    write(x, name, layout, [1, 2, 3, 4], b"a", 64)
-for x, name, layout in ((0, "LIST", TEXT), (1, "DENT", ENTRY), (4, "FAIL", TEXT)):
-    write(x, name, layout, [1, 2, 3, 4], b"no", 4 + 4 * WORDS[layout])
+for x, name, layout in ((0, "DONE", NUMBER), (1, "DONE", END), (2, "STAT", STAT), (4, "OKAY", NUMBER),
+                        (5, "DONE", END2), (6, "STA2", STAT2)):
+    write(x, name, layout, [1, 2, 3, 4], b"a", 96)
+for x, name, layout in ((0, "LIST", TEXT), (1, "DENT", ENTRY), (4, "FAIL", TEXT), (5, "DNT2", ENTRY2)):
+    write(x, name, layout, [1, 2, 3, 4], b"no", head_of(layout))
+
+# every number of a stat by itself, so that no two can change places
+for i in range(len(V2)):
+    for bits in (1, 8, 31, 32, 63):
+        if i in (1, 2, 7) or i > 7 or bits < 32:
+            data = packed("STA2", STAT2, [(2 ** bits - 1 if j == i else 0) for j in range(len(V2))], b"")
+            read(6, data)
+
+
+def narrow(numbers):
+    error, mode, size, mtime = numbers[0], numbers[3], numbers[7], numbers[9]
+    if not answers:
+        print("narrow 0 0 0", *numbers[:11])
+    elif error:
+        print("narrowed 17")
+    elif size >= 2 ** 32 or not 0 <= mtime < 2 ** 32:
+        print("narrowed 16")
+    else:
+        print(f"narrowed 0 mode={mode} size={size} mtime={mtime}")
+
+
+# between the two layouts: at the ends of 32 bits, an error with and without a size or a time that is out of range, and widened
+EDGES = [0, 1, 2 ** 32 - 1, 2 ** 32, 2 ** 63 - 1]
+for error in (0, 1, 2, TOP):
+    for size in EDGES + [2 ** 64 - 1]:
+        for mtime in EDGES + [-1, -2 ** 32, -2 ** 63]:
+            narrow([error, 5, 6, 0o100644, 7, 8, 9, size, -3, mtime, 2 ** 40])
+OLDS = [(0, 0, 0), (1, 2, 3), (0o100644, 65_537, 1_700_000_000), (TOP, TOP, TOP), (TOP, 0, 1), (0, TOP, 2), (3, 4, TOP)]
+for mode, size, mtime in OLDS:
+    wide = [0, 0, 0, mode, 0, 0, 0, size, 0, mtime, 0]
+    print("widened" + "".join(f" {n}={w}" for n, w in zip(V2, wide)) if answers else f"old {mode} {size} {mtime}")
+    narrow(wide)
 
 # the recorded streams, message by message, each with a few of the bytes behind it and cut in two
-REPLIES = {"LIST": 1, "STAT": 2, "RECV": 3, "SEND": 4}
-LAST = {1: ("DONE",), 2: ("STAT",), 3: ("DONE", "FAIL"), 4: ("OKAY", "FAIL")}
+REPLIES = {"LIST": 1, "STAT": 2, "RECV": 3, "SEND": 4, "LIS2": 5, "STA2": 6}
+LAST = {1: ("DONE",), 2: ("STAT",), 3: ("DONE", "FAIL"), 4: ("OKAY", "FAIL"), 5: ("DONE",), 6: ("STA2",)}
 
 
 def replay(x, data):
@@ -150,7 +205,7 @@ def replay(x, data):
     return line[len("message id="):][:4], used
 
 
-for stream in ("ls", "pull", "pull_missing", "push", "push_delayed"):
+for stream in ("ls", "pull", "pull_missing", "push", "push_delayed", "ls_v2", "pull_v2", "pull_missing_v2", "push_v2"):
     sent, got = [(pathlib.Path(__file__).parent / "sync" / f"{stream}.{end}").read_bytes() for end in ("in", "out")]
     while sent:
         name, used = replay(0, sent)

@@ -8,7 +8,7 @@ use lib.ListN.{length, getD}
 use Rattle.le.specs.Le.{numOf, bytesOf, put}
 use Rattle.le.specs.Rows.{flat, rows}
 use Rattle.exchange.specs.declared.Layout.{Layout}
-use Rattle.exchange.specs.declared.Layout.the-variants.{Text, Number, Stat, Entry, End}
+use Rattle.exchange.specs.declared.Layout.the-variants.{Text, Number, Stat, Entry, End, StatV2, EntryV2, EndV2}
 use Rattle.exchange.specs.declared.Found.{Found}
 use Rattle.exchange.specs.declared.Found.the-variants.{Known, Unknown}
 use Rattle.exchange.specs.declared.Exchange.{Exchange}
@@ -82,13 +82,16 @@ pub record ReadDoes (o : ReadOutcome) (r : ℕ) (answer : List ℕ) : Type 0 whe
 unfoldable pub statFrom : Values → StatV1
 statFrom v = record { mode = record { 0 = v .a }; size = v .b; mtime = v .c }
 
--- the fields of a layout, of the values that it has
+-- the fields of a layout, of the values that it has; four make none of the second stat layout
 unfoldable pub fieldsFrom : Layout → Values → Fields
 fieldsFrom Text v = TextFields
 fieldsFrom Number v = NumberFields (v .a)
 fieldsFrom Stat v = StatFields (statFrom v)
 fieldsFrom Entry v = EntryFields (statFrom v)
 fieldsFrom End v = EndFields (statFrom v) (v .d)
+fieldsFrom StatV2 v = TextFields
+fieldsFrom EntryV2 v = TextFields
+fieldsFrom EndV2 v = TextFields
 
 -- a message under an id that was found, or 14
 unfoldable pub writeFound : Exchange → Values → List ℕ → List ℕ → Found → Composed

@@ -1,2 +1,3 @@
 pub mod Export
 pub mod Handed
+pub mod ExportV2

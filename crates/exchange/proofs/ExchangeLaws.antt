@@ -1,20 +1,21 @@
 -- Laws of the ids' words. Assumes nothing.
 use mathlib.Core.Path.{_≡_, refl, sym, ap, _∙_}
-use mathlib.Core.Bool.{Bool, cond}
+use mathlib.Core.Bool.{Bool, true, false, cond, not}
 use mathlib.Core.List.{List, [], _∷_}
 use Prim.Native.Nat.{ℕ, _≤_, _<_, _^_}
 use native.Mathlib.Omega.{arith}
-use lib.Dec.{eqb, lit<}
-use borrow.Author.Tests.{eqb-true}
+use lib.Dec.{eqb, ltb, lit<}
+use borrow.Author.Tests.{eqb-true, ltb-true, ltb-false, not-true}
 use Rattle.le.specs.Le.{numOf}
 use Rattle.le.proofs.Parts.{by-test}
+use Rattle.le.proofs.RowLaws.{never}
 use Rattle.exchange.specs.declared.SyncId.{SyncId}
-use Rattle.exchange.specs.declared.SyncId.the-variants.{List as LIST, Recv as RECV, Send as SEND, Stat as STAT, Data as DATA, Done as DONE, Quit as QUIT, Dent as DENT, Okay as OKAY, Fail as FAIL}
+use Rattle.exchange.specs.declared.SyncId.the-variants.{List as LIST, Recv as RECV, Send as SEND, Stat as STAT, Data as DATA, Done as DONE, Quit as QUIT, Dent as DENT, Okay as OKAY, Fail as FAIL, Lis2 as LIS2, Sta2 as STA2, Dnt2 as DNT2}
 use Rattle.exchange.specs.declared.Layout.{Layout}
-use Rattle.exchange.specs.declared.Layout.the-variants.{Text, Number, Stat, Entry, End}
+use Rattle.exchange.specs.declared.Layout.the-variants.{Text, Number, Stat, Entry, End, StatV2, EntryV2, EndV2}
 use Rattle.exchange.specs.declared.Found.the-variants.{Known}
 use Rattle.exchange.specs.declared.Exchange.{Exchange}
-use Rattle.exchange.specs.Exchange.{lettersOf, wordOf, isOver, headOf, longestOf, layoutNumber, Row, rowsOf, amongOf, foundOf}
+use Rattle.exchange.specs.Exchange.{lettersOf, wordOf, isOver, headOf, longestOf, layoutNumber, Row, requests, listReplies, statReplies, recvReplies, sendReplies, listV2Replies, statV2Replies, rowsOf, amongOf, foundOf, exchangeOf, exchangeV2Of}
 
 -- words are of 32 bits
 pub word-small : (id : SyncId) → wordOf id < 2 ^ 32
@@ -29,6 +30,9 @@ word-small QUIT = lit< tt
 word-small DENT = lit< tt
 word-small OKAY = lit< tt
 word-small FAIL = lit< tt
+word-small LIS2 = lit< tt
+word-small STA2 = lit< tt
+word-small DNT2 = lit< tt
 
 -- the id that has a word
 abbrev idOf : ℕ → SyncId
@@ -41,7 +45,10 @@ idOf w =
     (cond (eqb w 0x454e_4f44) DONE
     (cond (eqb w 0x5449_5551) QUIT
     (cond (eqb w 0x544e_4544) DENT
-    (cond (eqb w 0x5941_4b4f) OKAY FAIL))))))))
+    (cond (eqb w 0x5941_4b4f) OKAY
+    (cond (eqb w 0x4c49_4146) FAIL
+    (cond (eqb w 0x3253_494c) LIS2
+    (cond (eqb w 0x3241_5453) STA2 DNT2)))))))))))
 
 id-of-word : (id : SyncId) → idOf (wordOf id) ≡ id
 unfolding wordOf lettersOf numOf
@@ -55,6 +62,9 @@ id-of-word QUIT = refl
 id-of-word DENT = refl
 id-of-word OKAY = refl
 id-of-word FAIL = refl
+id-of-word LIS2 = refl
+id-of-word STA2 = refl
+id-of-word DNT2 = refl
 
 -- two ids with one word are the same
 pub same-id : (a b : SyncId) → wordOf a ≡ wordOf b → a ≡ b
@@ -77,10 +87,52 @@ found-word x w id k e = found-among (rowsOf x) w id k e
 pub found-id : (x : Exchange) (a id : SyncId) (k : Layout) → foundOf x (wordOf a) ≡ Known id k → foundOf x (wordOf a) ≡ Known a k
 found-id x a id k e = let s = same-id a id (found-word x (wordOf a) id k e) in cc
 
--- a head is the id and a word at least, and four words at most
+-- what is found has a layout of the messages
+abbrev allRows : (Layout → Bool) → List Row → Bool
+allRows p [] = true
+allRows p (m ∷ ms) = cond (p (m .layout)) (allRows p ms) false
+
+layout-among : (p : Layout → Bool) (ms : List Row) (w : ℕ) (id : SyncId) (k : Layout) → allRows p ms ≡ true → amongOf ms w ≡ Known id k → p k ≡ true
+unfolding amongOf
+layout-among p [] w id k h e = let z : _≡_ {A = ℕ} 0 1 = cc in absurd (omega arith)
+layout-among p (m ∷ ms) w id k h e =
+    by-test (p (m .layout))
+    (λ v. by-test (eqb w (wordOf (m .id)))
+    (λ t. let f = rw t at e in let g : m .layout ≡ k = cc in sym (ap p g) ∙ v)
+    (λ t. layout-among p ms w id k (rw v at h) (rw t at e)))
+    (λ v. never (rw v at h))
+
+-- the exchanges of the first stat layout have none of the second, and the other way round
+abbrev isFirst : Layout → Bool
+isFirst k = ltb (layoutNumber k) 5
+
+first-rows : (n : ℕ) → allRows isFirst (rowsOf (exchangeOf n)) ≡ true
+unfolding exchangeOf rowsOf requests listReplies statReplies recvReplies sendReplies layoutNumber
+first-rows n =
+    by-test (eqb n 0) (λ t. rw t refl)
+    (λ t₀. by-test (eqb n 1) (λ t. rw (t₀, t) refl)
+    (λ t₁. by-test (eqb n 2) (λ t. rw (t₀, t₁, t) refl)
+    (λ t₂. by-test (eqb n 3) (λ t. rw (t₀, t₁, t₂, t) refl)
+    (λ t₃. by-test (eqb n 4) (λ t. rw (t₀, t₁, t₂, t₃, t) refl) (λ t. rw (t₀, t₁, t₂, t₃, t) refl)))))
+
+second-rows : (n : ℕ) → allRows (λ (k : Layout). not (isFirst k)) (rowsOf (exchangeV2Of n)) ≡ true
+unfolding exchangeV2Of rowsOf listV2Replies statV2Replies layoutNumber
+second-rows n =
+    by-test (eqb n 5) (λ t. rw t refl) (λ t₀. by-test (eqb n 6) (λ t. rw (t₀, t) refl) (λ t. rw (t₀, t) refl))
+
+pub first-layout : (n w : ℕ) (id : SyncId) (k : Layout) → foundOf (exchangeOf n) w ≡ Known id k → layoutNumber k < 5
+unfolding foundOf
+first-layout n w id k e = ltb-true _ _ (layout-among isFirst (rowsOf (exchangeOf n)) w id k (first-rows n) e)
+
+pub second-layout : (n w : ℕ) (id : SyncId) (k : Layout) → foundOf (exchangeV2Of n) w ≡ Known id k → 5 ≤ layoutNumber k
+unfolding foundOf
+second-layout n w id k e =
+    ltb-false _ _ (not-true _ (layout-among (λ (j : Layout). not (isFirst j)) (rowsOf (exchangeV2Of n)) w id k (second-rows n) e))
+
+-- a head is the id and a word at least, and the second stat layout and a word at most
 pub record Heads (k : Layout) : Type 0 where
   pub least : 8 ≤ headOf k
-  pub most : headOf k ≤ 20
+  pub most : headOf k ≤ 76
   pub short : longestOf k ≤ 0xffff_ffff
 
 pub heads : (k : Layout) → Heads k
@@ -90,11 +142,14 @@ heads Number = record { least = omega arith; most = omega arith; short = omega a
 heads Stat = record { least = omega arith; most = omega arith; short = omega arith }
 heads Entry = record { least = omega arith; most = omega arith; short = omega arith }
 heads End = record { least = omega arith; most = omega arith; short = omega arith }
+heads StatV2 = record { least = omega arith; most = omega arith; short = omega arith }
+heads EntryV2 = record { least = omega arith; most = omega arith; short = omega arith }
+heads EndV2 = record { least = omega arith; most = omega arith; short = omega arith }
 
 -- a layout's number is its own
 abbrev layoutAt : ℕ → Layout
 layoutAt n =
-    cond (eqb n 0) Text (cond (eqb n 1) Number (cond (eqb n 2) Stat (cond (eqb n 3) Entry End)))
+    cond (eqb n 0) Text (cond (eqb n 1) Number (cond (eqb n 2) Stat (cond (eqb n 3) Entry (cond (eqb n 4) End (cond (eqb n 5) StatV2 (cond (eqb n 6) EntryV2 EndV2))))))
 
 layout-at : (k : Layout) → layoutAt (layoutNumber k) ≡ k
 unfolding layoutNumber
@@ -103,6 +158,9 @@ layout-at Number = refl
 layout-at Stat = refl
 layout-at Entry = refl
 layout-at End = refl
+layout-at StatV2 = refl
+layout-at EntryV2 = refl
+layout-at EndV2 = refl
 
 pub same-layout-number : (a b : Layout) → layoutNumber a ≡ layoutNumber b → a ≡ b
 same-layout-number a b e = sym (layout-at a) ∙ ap layoutAt e ∙ layout-at b

@@ -1,8 +1,8 @@
 // The ids of AOSP's sync messages (SYNC.TXT), by libadb's names (sync/format.rs), what stands behind each, and which of them
 // an exchange has.
 ghost use mathlib.Core.Path.{_≡_};
-ghost use Rattle.exchange.specs.Exchange.{wordOf, isOver, headOf, longestOf, layoutNumber, exchangeOf, amongOf, requests};
-ghost use Rattle.exchange.specs.Exchange.{listReplies, statReplies, recvReplies, sendReplies, foundOf};
+ghost use Rattle.exchange.specs.Exchange.{wordOf, isOver, headOf, longestOf, layoutNumber, exchangeOf, exchangeV2Of, amongOf, requests};
+ghost use Rattle.exchange.specs.Exchange.{listReplies, statReplies, recvReplies, sendReplies, listV2Replies, statV2Replies, foundOf};
 
 const ID_LIST: u32 = 0x5453_494c;
 
@@ -24,6 +24,12 @@ const ID_OKAY: u32 = 0x5941_4b4f;
 
 const ID_FAIL: u32 = 0x4c49_4146;
 
+const ID_LIS2: u32 = 0x3253_494c;
+
+const ID_STA2: u32 = 0x3241_5453;
+
+const ID_DNT2: u32 = 0x3254_4e44;
+
 // Longest data of one DATA message.
 pub const SYNC_DATA_MAX: usize = 65_536;
 
@@ -38,6 +44,9 @@ pub enum SyncId {
     Dent,
     Okay,
     Fail,
+    Lis2,
+    Sta2,
+    Dnt2,
 }
 
 impl SyncId {
@@ -56,6 +65,9 @@ impl SyncId {
             SyncId::Dent => ID_DENT,
             SyncId::Okay => ID_OKAY,
             SyncId::Fail => ID_FAIL,
+            SyncId::Lis2 => ID_LIS2,
+            SyncId::Sta2 => ID_STA2,
+            SyncId::Dnt2 => ID_DNT2,
         }
     }
 
@@ -82,6 +94,12 @@ pub enum Layout {
     Entry,
     // Four numbers, as an entry's, with no name behind them.
     End,
+    // The second stat layout: error, device, inode, mode, links, owner, group, size and three times.
+    StatV2,
+    // The second stat layout and a length, then a name of that length.
+    EntryV2,
+    // Twelve numbers, as a second entry's, with no name behind them.
+    EndV2,
 }
 
 impl Layout {
@@ -95,6 +113,9 @@ impl Layout {
             Layout::Stat => 16,
             Layout::Entry => 20,
             Layout::End => 20,
+            Layout::StatV2 => 72,
+            Layout::EntryV2 => 76,
+            Layout::EndV2 => 76,
         }
     }
 
@@ -108,6 +129,9 @@ impl Layout {
             Layout::Stat => 0,
             Layout::Entry => 0xffff_ffff,
             Layout::End => 0,
+            Layout::StatV2 => 0,
+            Layout::EntryV2 => 0xffff_ffff,
+            Layout::EndV2 => 0,
         }
     }
 
@@ -120,6 +144,9 @@ impl Layout {
             Layout::Stat => 2,
             Layout::Entry => 3,
             Layout::End => 4,
+            Layout::StatV2 => 5,
+            Layout::EntryV2 => 6,
+            Layout::EndV2 => 7,
         }
     }
 }
@@ -142,6 +169,10 @@ pub enum Exchange {
     RecvReplies,
     // The replies to SEND.
     SendReplies,
+    // The replies to LIS2.
+    ListV2Replies,
+    // The reply to STA2.
+    StatV2Replies,
     // A number that names no exchange: one with no messages.
     Unnamed,
 }
@@ -157,6 +188,8 @@ fn request(word: u32) -> Found
         ID_DATA => Found::Known(SyncId::Data, Layout::Text),
         ID_DONE => Found::Known(SyncId::Done, Layout::Number),
         ID_QUIT => Found::Known(SyncId::Quit, Layout::Number),
+        ID_LIS2 => Found::Known(SyncId::Lis2, Layout::Text),
+        ID_STA2 => Found::Known(SyncId::Sta2, Layout::Text),
         _ => Found::Unknown,
     }
 }
@@ -201,8 +234,27 @@ fn send_reply(word: u32) -> Found
     }
 }
 
+fn list_v2_reply(word: u32) -> Found
+    ensures { λ r. ⌜ r ≡ amongOf listV2Replies word ⌝ }
+{
+    match word {
+        ID_DNT2 => Found::Known(SyncId::Dnt2, Layout::EntryV2),
+        ID_DONE => Found::Known(SyncId::Done, Layout::EndV2),
+        _ => Found::Unknown,
+    }
+}
+
+fn stat_v2_reply(word: u32) -> Found
+    ensures { λ r. ⌜ r ≡ amongOf statV2Replies word ⌝ }
+{
+    match word {
+        ID_STA2 => Found::Known(SyncId::Sta2, Layout::StatV2),
+        _ => Found::Unknown,
+    }
+}
+
 impl Exchange {
-    // The exchange that a number names, from 0 in the order above.
+    // The exchange that a number names, from 0 in the order above, but for those of the second stat layout.
     pub fn from_number(number: u32) -> Exchange
         ensures { λ r. ⌜ r ≡ exchangeOf number ⌝ }
     {
@@ -212,6 +264,17 @@ impl Exchange {
             2 => Exchange::StatReplies,
             3 => Exchange::RecvReplies,
             4 => Exchange::SendReplies,
+            _ => Exchange::Unnamed,
+        }
+    }
+
+    // Of the exchanges of the second stat layout, the one that a number names.
+    pub fn from_v2_number(number: u32) -> Exchange
+        ensures { λ r. ⌜ r ≡ exchangeV2Of number ⌝ }
+    {
+        match number {
+            5 => Exchange::ListV2Replies,
+            6 => Exchange::StatV2Replies,
             _ => Exchange::Unnamed,
         }
     }
@@ -226,6 +289,8 @@ impl Exchange {
             Exchange::StatReplies => stat_reply(word),
             Exchange::RecvReplies => recv_reply(word),
             Exchange::SendReplies => send_reply(word),
+            Exchange::ListV2Replies => list_v2_reply(word),
+            Exchange::StatV2Replies => stat_v2_reply(word),
             Exchange::Unnamed => Found::Unknown,
         }
     }

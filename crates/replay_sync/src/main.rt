@@ -1,5 +1,7 @@
 // Replays calls of the sync messages' reader and writer: a line of standard input is a call, and the line written for it is to
 // be the stored one (docs/VECTORS.md). A message that is read is written again, and its bytes are shown.
+pub mod wide;
+
 use exchange::Exchange;
 use exchange::SyncId;
 use replay::text::put;
@@ -30,6 +32,9 @@ fn put_id(out: &mut [u8], at: usize, id: SyncId) -> usize {
         SyncId::Dent => put(out, at, b"DENT"),
         SyncId::Okay => put(out, at, b"OKAY"),
         SyncId::Fail => put(out, at, b"FAIL"),
+        SyncId::Lis2 => put(out, at, b"LIS2"),
+        SyncId::Sta2 => put(out, at, b"STA2"),
+        SyncId::Dnt2 => put(out, at, b"DNT2"),
     }
 }
 
@@ -45,7 +50,10 @@ fn id_of(n: u32) -> SyncId {
         6 => SyncId::Quit,
         7 => SyncId::Dent,
         8 => SyncId::Okay,
-        _ => SyncId::Fail,
+        9 => SyncId::Fail,
+        10 => SyncId::Lis2,
+        11 => SyncId::Sta2,
+        _ => SyncId::Dnt2,
     }
 }
 
@@ -68,6 +76,9 @@ fn put_fields(out: &mut [u8], at: usize, f: Fields) -> usize {
         Fields::Stat(s) => put_stat(out, at, s),
         Fields::Entry(s) => put_stat(out, at, s),
         Fields::End(s, last) => put_end(out, at, s, last),
+        Fields::StatV2(s) => wide::put_stat(out, at, s),
+        Fields::EntryV2(s) => wide::put_stat(out, at, s),
+        Fields::EndV2(s, last) => wide::put_end(out, at, s, last),
     }
 }
 
@@ -173,9 +184,13 @@ fn write(out: &mut [u8], x: Exchange, m: Message, text: &[u8], back: &mut [u8]) 
     put(out, end, b"\n")
 }
 
-// The message that a line's words 2 to 7 name.
-fn message_of(line: &[u8]) -> Message {
+// The message that a line's words 2 to 7 name, or, of the second stat layout, 2 to 15.
+fn message_of(line: &[u8], kind: u8) -> Message {
     let id = id_of(number_at(line, 2));
+    if kind == b'v' {
+        let fields = wide::fields_at(line);
+        return Message { id, fields };
+    }
     let a = number_at(line, 4);
     let b = number_at(line, 5);
     let c = number_at(line, 6);
@@ -197,31 +212,62 @@ fn at_most(n: usize, max: usize) -> usize
 fn text_length(line: &[u8], kind: u8, first: &mut [u8]) -> usize
     ensures { λ r. ⌜ r ≤ length (now (first .exit)) ⌝ }
 {
-    if kind == b'w' {
-        return bytes_at(line, 8, first);
+    if kind == b'z' {
+        return at_most(size_at(line, 8), first.len());
     }
-    at_most(size_at(line, 8), first.len())
+    bytes_at(line, text_place(kind), first)
 }
 
-fn write_call(line: &[u8], x: Exchange, text: &[u8], back: &mut [u8], out: &mut [u8]) -> usize {
-    let k = at_most(size_at(line, 9), back.len());
-    write(out, x, message_of(line), text, &mut back[0..k])
+// Which word of a write is its text; the next is its room.
+fn text_place(kind: u8) -> usize
+    ensures { λ r. ⌜ r ≤ 16 ⌝ }
+{
+    if kind == b'v' {
+        return 16;
+    }
+    8
+}
+
+fn write_call(
+    line: &[u8],
+    kind: u8,
+    x: Exchange,
+    text: &[u8],
+    back: &mut [u8],
+    out: &mut [u8],
+) -> usize {
+    let k = at_most(size_at(line, text_place(kind) + 1), back.len());
+    write(out, x, message_of(line, kind), text, &mut back[0..k])
+}
+
+fn exchange_of(n: u32) -> Exchange {
+    if n < 5 {
+        return Exchange::from_number(n);
+    }
+    Exchange::from_v2_number(n)
 }
 
 // One call: a word, an exchange's number, then the bytes to read; or an id, fields, a text and the room for the message, with
-// the text in hexadecimal (write) or as a count of zero bytes (zeros).
+// the text in hexadecimal (write, v2 for the second stat layout) or as a count of zero bytes (zeros). Or a conversion: narrow
+// and a stat in the places that v2 has it, or old and a mode, a size and a time.
 fn call(line: &[u8], first: &mut [u8], back: &mut [u8], out: &mut [u8]) -> usize {
     if line.len() == 0 {
         return 0;
     }
     let kind = line[0];
-    let x = Exchange::from_number(number_at(line, 1));
+    if kind == b'n' {
+        return wide::narrow(line, out);
+    }
+    if kind == b'o' {
+        return wide::widen(line, out);
+    }
+    let x = exchange_of(number_at(line, 1));
     if kind == b'r' {
         let n = bytes_at(line, 2, first);
         return read(out, x, &first[..n], back);
     }
     let n = text_length(line, kind, first);
-    write_call(line, x, &first[0..n], back, out)
+    write_call(line, kind, x, &first[0..n], back, out)
 }
 
 fn answer(line: &[u8]) {

@@ -12,7 +12,7 @@ use Rattle.le.specs.Le.{numOf, part}
 use Rattle.le.proofs.Parts.{by-test, part-front}
 use Rattle.exchange.specs.declared.SyncId.{SyncId}
 use Rattle.exchange.specs.declared.Layout.{Layout}
-use Rattle.exchange.specs.declared.Layout.the-variants.{Text, Number, Stat, Entry, End}
+use Rattle.exchange.specs.declared.Layout.the-variants.{Text, Number, Stat, Entry, End, StatV2, EntryV2, EndV2}
 use Rattle.exchange.specs.declared.Found.{Found}
 use Rattle.exchange.specs.declared.Found.the-variants.{Known, Unknown}
 use Rattle.exchange.specs.declared.Exchange.{Exchange}
@@ -20,7 +20,7 @@ use Rattle.sync.specs.declared.Message.{Message}
 use Rattle.sync.specs.declared.Read.{Read}
 use Rattle.sync.specs.declared.Read.the-variants.{Waiting, InvalidId, DataTooLarge, Whole}
 use Rattle.exchange.specs.Exchange.{headOf, foundOf, isOver}
-use Rattle.sync.specs.Message.{statOf, fieldsOf, lengthOf, knownOf, namedOf, readMessage, usedOf}
+use Rattle.sync.specs.Message.{statOf, statV2Of, fieldsOf, lengthOf, knownOf, namedOf, readMessage, usedOf}
 
 -- with the id here, what it names gives the answer
 pub named-read : (x : Exchange) (s : List ℕ) (word : ℕ) (f : Found) → 4 ≤ length s → word ≡ numOf (part s 0 4) → f ≡ foundOf x word
@@ -35,6 +35,23 @@ unfolding statOf
 stat-front s t h =
     rw (part-front s t 4 4 (omega arith), part-front s t 8 4 (omega arith), part-front s t 12 4 (omega arith))
 
+wide-front : (s t : List ℕ) → 72 ≤ length s → statV2Of (s ++ t) ≡ statV2Of s
+unfolding statV2Of
+wide-front s t h =
+    rw (
+      part-front s t 4 4 (omega arith),
+      part-front s t 8 8 (omega arith),
+      part-front s t 16 8 (omega arith),
+      part-front s t 24 4 (omega arith),
+      part-front s t 28 4 (omega arith),
+      part-front s t 32 4 (omega arith),
+      part-front s t 36 4 (omega arith),
+      part-front s t 40 8 (omega arith),
+      part-front s t 48 8 (omega arith),
+      part-front s t 56 8 (omega arith),
+      part-front s t 64 8 (omega arith),
+    )
+
 pub fields-front : (k : Layout) (s t : List ℕ) → headOf k ≤ length s → fieldsOf k (s ++ t) ≡ fieldsOf k s
 unfolding fieldsOf headOf
 fields-front Text s t h = refl
@@ -42,6 +59,9 @@ fields-front Number s t h = rw (part-front s t 4 4 h)
 fields-front Stat s t h = rw (stat-front s t h)
 fields-front Entry s t h = rw (stat-front s t (omega arith))
 fields-front End s t h = rw (stat-front s t (omega arith), part-front s t 16 4 h)
+fields-front StatV2 s t h = rw (wide-front s t h)
+fields-front EntryV2 s t h = rw (wide-front s t (omega arith))
+fields-front EndV2 s t h = rw (wide-front s t (omega arith), part-front s t 72 4 h)
 
 pub length-front : (k : Layout) (s t : List ℕ) → headOf k ≤ length s → lengthOf k (s ++ t) ≡ lengthOf k s
 unfolding lengthOf headOf
@@ -50,6 +70,9 @@ length-front Number s t h = refl
 length-front Stat s t h = refl
 length-front Entry s t h = rw (part-front s t 16 4 h)
 length-front End s t h = refl
+length-front StatV2 s t h = refl
+length-front EntryV2 s t h = rw (part-front s t 72 4 h)
+length-front EndV2 s t h = refl
 
 -- ---- what an accepted message's bytes say
 

@@ -8,7 +8,7 @@ ghost use mathlib.Core.Path.{_≡_};
 ghost use Prim.Native.Nat.{_≤_};
 ghost use lib.ListN.{length};
 ghost use Rattle.exchange.specs.Exchange.{headOf};
-ghost use Rattle.sync.specs.Message.{statOf, fieldsOf, lengthOf, knownOf, readMessage, readNumber};
+ghost use Rattle.sync.specs.Message.{statOf, statV2Of, fieldsOf, lengthOf, knownOf, readMessage, readNumber};
 
 // A file's type and its permissions, as one number.
 pub struct FileMode(pub u32);
@@ -20,6 +20,21 @@ pub struct StatV1 {
     pub mtime: u32,
 }
 
+// What a STA2 reply and a DNT2 say of a file. Times are in seconds since 1970; `mtime` is of the contents, `ctime` of the status.
+pub struct StatV2 {
+    pub error: u32,
+    pub dev: u64,
+    pub ino: u64,
+    pub mode: FileMode,
+    pub nlink: u32,
+    pub uid: u32,
+    pub gid: u32,
+    pub size: u64,
+    pub atime: i64,
+    pub mtime: i64,
+    pub ctime: i64,
+}
+
 // The numbers of a message, but for the length of its text: one case for each layout.
 pub enum Fields {
     Text,
@@ -28,6 +43,9 @@ pub enum Fields {
     Entry(StatV1),
     // The last number is where an entry has the length of its name.
     End(StatV1, u32),
+    StatV2(StatV2),
+    EntryV2(StatV2),
+    EndV2(StatV2, u32),
 }
 
 pub struct Message {
@@ -84,6 +102,27 @@ fn stat_at(s: &[u8]) -> StatV1
     }
 }
 
+// The second stat layout behind the id.
+fn stat_v2_at(s: &[u8]) -> StatV2
+    requires { ⌜ 72 ≤ length (now s) ⌝ }
+    ensures { λ r. ⌜ r ≡ statV2Of (now (s .entry)) ⌝ }
+{
+    let mode = FileMode(le::get_u32(s, 24));
+    StatV2 {
+        error: le::get_u32(s, 4),
+        dev: le::get_u64(s, 8),
+        ino: le::get_u64(s, 16),
+        mode,
+        nlink: le::get_u32(s, 28),
+        uid: le::get_u32(s, 32),
+        gid: le::get_u32(s, 36),
+        size: le::get_u64(s, 40),
+        atime: le::get_i64(s, 48),
+        mtime: le::get_i64(s, 56),
+        ctime: le::get_i64(s, 64),
+    }
+}
+
 fn fields_at(layout: Layout, s: &[u8]) -> Fields
     requires { ⌜ headOf layout ≤ length (now s) ⌝ }
     ensures { λ r. ⌜ r ≡ fieldsOf layout (now (s .entry)) ⌝ }
@@ -94,6 +133,9 @@ fn fields_at(layout: Layout, s: &[u8]) -> Fields
         Layout::Stat => Fields::Stat(stat_at(s)),
         Layout::Entry => Fields::Entry(stat_at(s)),
         Layout::End => Fields::End(stat_at(s), le::get_u32(s, 16)),
+        Layout::StatV2 => Fields::StatV2(stat_v2_at(s)),
+        Layout::EntryV2 => Fields::EntryV2(stat_v2_at(s)),
+        Layout::EndV2 => Fields::EndV2(stat_v2_at(s), le::get_u32(s, 72)),
     }
 }
 
@@ -108,6 +150,9 @@ fn text_length(layout: Layout, s: &[u8]) -> usize
         Layout::Stat => 0,
         Layout::Entry => le::get_u32(s, 16) as usize,
         Layout::End => 0,
+        Layout::StatV2 => 0,
+        Layout::EntryV2 => le::get_u32(s, 72) as usize,
+        Layout::EndV2 => 0,
     }
 }
 

@@ -17,7 +17,7 @@ unfolding receives answerOf usedOf bytesFor
 reads-back x g s rest =
     let w = written-says x (g .got) (g .text) (s .buffer) (s .count) (s .was-written) in
     rw (
-      not-refused (g .got) (g .text) rest x (s .words) (w .found) (w .small) (w .long),
+      not-refused (g .got) (g .text) rest x (s .fits) (w .found) (w .small) (w .long),
       text-here (g .got) (g .text) rest,
       message-length (g .got) (g .text),
     )

@@ -15,7 +15,7 @@ use Rattle.le.specs.Le.{numOf, part, put, Bytes}
 use Rattle.le.proofs.Laws.{numOf-part}
 use Rattle.le.proofs.Parts.{by-test, length-part, part-put-same}
 use Rattle.exchange.specs.declared.Layout.{Layout}
-use Rattle.exchange.specs.declared.Layout.the-variants.{Text, Number, Stat, Entry, End}
+use Rattle.exchange.specs.declared.Layout.the-variants.{Text, Number, Stat, Entry, End, StatV2, EntryV2, EndV2}
 use Rattle.exchange.specs.declared.SyncId.{SyncId}
 use Rattle.exchange.specs.declared.Found.{Found}
 use Rattle.exchange.specs.declared.Found.the-variants.{Known, Unknown}
@@ -25,7 +25,7 @@ use Rattle.sync.specs.declared.Read.the-variants.{InvalidId, DataTooLarge, Whol
 use Rattle.sync_write.specs.declared.Written.the-variants.{Bytes as Written·Bytes}
 use Rattle.exchange.specs.Exchange.{wordOf, foundOf, headOf, longestOf, layoutNumber, isOver}
 use Rattle.sync.specs.Message.{fieldsOf, lengthOf, knownOf, namedOf, readMessage}
-use Rattle.sync_write.specs.Write.{layoutOf, isOther, headBytes, messageBytes, Words, Composed, writeKnown, writeNamed, writeMessage}
+use Rattle.sync_write.specs.Write.{layoutOf, isOther, headBytes, messageBytes, Fits, Composed, writeKnown, writeNamed, writeMessage}
 use Rattle.sync.proofs.ReadLaws.{Known-says, says}
 use Rattle.exchange.proofs.ExchangeLaws.{found-word, found-id, heads}
 use Rattle.sync_write.proofs.WriteLaws.{own-layout, length-head}
@@ -99,7 +99,7 @@ module _ (m : Message) (text rest : List ℕ) where
   length-here : length text ≤ longestOf (layoutOf (m .fields)) → lengthOf (layoutOf (m .fields)) (messageBytes m text ++ rest) ≡ length text
   length-here long = rw head-rest (read-length m (length text) (text ++ rest) long)
 
-  fields-here : Words (m .fields) → fieldsOf (layoutOf (m .fields)) (messageBytes m text ++ rest) ≡ m .fields
+  fields-here : Fits (m .fields) → fieldsOf (layoutOf (m .fields)) (messageBytes m text ++ rest) ≡ m .fields
   fields-here h = rw head-rest (read-fields m (length text) (text ++ rest) h)
 
   pub text-here : part (messageBytes m text ++ rest) (headOf (layoutOf (m .fields))) (length text) ≡ text
@@ -112,7 +112,7 @@ module _ (m : Message) (text rest : List ℕ) where
       )
 
   -- they are read as that message
-  pub not-refused : (x : Exchange) → Words (m .fields) → foundOf x (wordOf (m .id)) ≡ Known (m .id) (layoutOf (m .fields))
+  pub not-refused : (x : Exchange) → Fits (m .fields) → foundOf x (wordOf (m .id)) ≡ Known (m .id) (layoutOf (m .fields))
       → isOver (m .id) (length text) ≡ false → length text ≤ longestOf (layoutOf (m .fields))
       → readMessage x (messageBytes m text ++ rest) ≡ Whole m (headOf (layoutOf (m .fields))) (length text) (headOf (layoutOf (m .fields)) + length text)
   unfolding readMessage namedOf knownOf
@@ -152,7 +152,7 @@ module _ (m : Message) (text rest : List ℕ) where
       rw (le-ltb (length s) 4 (omega arith), word-here, found, le-ltb (length s) (headOf k) (omega arith), length-here long, over)
 
 -- what the writer made, with anything behind it, is read as the message that was written, its text with it
-pub write-read : (x : Exchange) (m : Message) (text out : List ℕ) (n : ℕ) (rest : List ℕ) → Words (m .fields) → writeMessage x m text out .result ≡ Written·Bytes n
+pub write-read : (x : Exchange) (m : Message) (text out : List ℕ) (n : ℕ) (rest : List ℕ) → Fits (m .fields) → writeMessage x m text out .result ≡ Written·Bytes n
     → Comes-back x m text n (take n (writeMessage x m text out .out) ++ rest)
 unfolding part
 write-read x m text out n rest h e =
@@ -179,6 +179,9 @@ length-fits Number s h = omega arith
 length-fits Stat s h = omega arith
 length-fits Entry s h = omega (arith, numOf-part 4 s 16 h)
 length-fits End s h = omega arith
+length-fits StatV2 s h = omega arith
+length-fits EntryV2 s h = omega (arith, numOf-part 4 s 72 h)
+length-fits EndV2 s h = omega arith
 
 not-other : (k : Layout) (s : List ℕ) → isOther k (fieldsOf k s) ≡ false
 unfolding isOther

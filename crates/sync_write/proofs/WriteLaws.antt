@@ -1,26 +1,27 @@
 -- Laws of the sync messages' fields, one layout at a time. Assumes nothing.
 use mathlib.Core.Path.{_≡_, refl, ap, _∙_}
 use mathlib.Core.Bool.{false}
-use mathlib.Core.List.{List, _++_}
+use mathlib.Core.List.{List, [], _∷_, _++_}
 use Prim.Native.Nat.{ℕ, _+_, _≤_}
 use native.Mathlib.Omega.{arith}
 use lib.ListN.{length, length-append}
 use borrow.Author.Tests.{eqb-true, not-false, le-ltb}
-use Rattle.le.specs.Le.{bytesOf, put}
+use Rattle.le.specs.Le.{bytesOf, unsigned, put}
 use Rattle.le.proofs.Laws.{length-bytesOf}
-use Rattle.le.proofs.Parts.{put-put}
+use Rattle.le.proofs.Parts.{put-put, put-seq}
 use Rattle.exchange.specs.declared.Layout.{Layout}
 use Rattle.exchange.specs.declared.Found.{Found}
 use Rattle.exchange.specs.declared.Exchange.{Exchange}
 use Rattle.sync.specs.declared.StatV1.{StatV1}
+use Rattle.sync.specs.declared.StatV2.{StatV2}
 use Rattle.sync.specs.declared.Fields.{Fields}
-use Rattle.sync.specs.declared.Fields.the-variants.{Text, Number, Stat, Entry, End}
+use Rattle.sync.specs.declared.Fields.the-variants.{Text, Number, Stat, Entry, End, StatV2 as WideStat, EntryV2 as WideEntry, EndV2 as WideEnd}
 use Rattle.sync.specs.declared.Message.{Message}
 use Rattle.sync_write.specs.declared.Written.{Written}
 use Rattle.sync_write.specs.declared.Written.the-variants.{Bytes}
 use Rattle.exchange.proofs.ExchangeLaws.{heads, same-layout-number}
 use Rattle.exchange.specs.Exchange.{wordOf, foundOf, headOf, longestOf, layoutNumber, isOver}
-use Rattle.sync_write.specs.Write.{layoutOf, isOther, statBytes, fieldBytes, headBytes, messageBytes, Room, Composed, writeKnown, writeNamed, writeMessage, Writes}
+use Rattle.sync_write.specs.Write.{layoutOf, isOther, statBytes, aboutBytes, timesBytes, statV2Bytes, fieldBytes, headBytes, messageBytes, Room, Composed, writeKnown, writeNamed, writeMessage, Writes}
 
 -- three words are a stat
 pub put-three : (d : List ℕ) (s : StatV1) → 16 ≤ length d
@@ -37,14 +38,43 @@ pub put-behind : (d : List ℕ) (s : StatV1) (n : ℕ) → 20 ≤ length d → p
 unfolding statBytes bytesOf
 put-behind d s n h = put-put d 4 (statBytes s) 16 (bytesOf 4 n) refl h
 
+-- the numbers of a stat of the second layout, put one behind the other
+pub put-seven : (d : List ℕ) (s : StatV2) → 72 ≤ length d
+    → put (put (put (put (put (put (put d 4 (bytesOf 4 (s .error))) 8 (bytesOf 8 (s .dev))) 16 (bytesOf 8 (s .ino))) 24 (bytesOf 4 (s .mode .0))) 28 (bytesOf 4 (s .nlink))) 32 (bytesOf 4 (s .uid))) 36 (bytesOf 4 (s .gid)) ≡ put d 4 (aboutBytes s)
+unfolding aboutBytes bytesOf
+put-seven d s h =
+    put-seq d 4 (bytesOf 4 (s .error))
+    (bytesOf 8 (s .dev) ∷ bytesOf 8 (s .ino) ∷ bytesOf 4 (s .mode .0) ∷ bytesOf 4 (s .nlink) ∷ bytesOf 4 (s .uid) ∷ bytesOf 4 (s .gid) ∷ [])
+    (omega arith)
+
+pub put-four-wide : (d : List ℕ) (s : StatV2) → 72 ≤ length d
+    → put (put (put (put d 40 (bytesOf 8 (s .size))) 48 (bytesOf 8 (unsigned 63 (s .atime)))) 56 (bytesOf 8 (unsigned 63 (s .mtime)))) 64 (bytesOf 8 (unsigned 63 (s .ctime))) ≡ put d 40 (timesBytes s)
+unfolding timesBytes bytesOf
+put-four-wide d s h =
+    put-seq d 40 (bytesOf 8 (s .size))
+    (bytesOf 8 (unsigned 63 (s .atime)) ∷ bytesOf 8 (unsigned 63 (s .mtime)) ∷ bytesOf 8 (unsigned 63 (s .ctime)) ∷ [])
+    (omega arith)
+
+pub put-wide : (d : List ℕ) (s : StatV2) → 72 ≤ length d → put (put d 4 (aboutBytes s)) 40 (timesBytes s) ≡ put d 4 (statV2Bytes s)
+unfolding statV2Bytes aboutBytes timesBytes bytesOf
+put-wide d s h = put-put d 4 (aboutBytes s) 40 (timesBytes s) refl h
+
+-- a word behind it
+pub put-behind-wide : (d : List ℕ) (s : StatV2) (n : ℕ) → 76 ≤ length d → put (put d 4 (statV2Bytes s)) 72 (bytesOf 4 n) ≡ put d 4 (statV2Bytes s ++ bytesOf 4 n)
+unfolding statV2Bytes aboutBytes timesBytes bytesOf
+put-behind-wide d s n h = put-put d 4 (statV2Bytes s) 72 (bytesOf 4 n) refl h
+
 -- the fields fill the head behind the id
 pub length-fields : (f : Fields) (n : ℕ) → 4 + length (fieldBytes f n) ≡ headOf (layoutOf f)
-unfolding fieldBytes statBytes bytesOf headOf layoutOf
+unfolding fieldBytes statBytes statV2Bytes aboutBytes timesBytes bytesOf headOf layoutOf
 length-fields Text n = refl
 length-fields (Number a) n = refl
 length-fields (Stat s) n = refl
 length-fields (Entry s) n = refl
 length-fields (End s a) n = refl
+length-fields (WideStat s) n = refl
+length-fields (WideEntry s) n = refl
+length-fields (WideEnd s a) n = refl
 
 pub length-head : (m : Message) (n : ℕ) → length (headBytes m n) ≡ headOf (layoutOf (m .fields))
 unfolding headBytes

@@ -5,13 +5,14 @@ use exchange::Layout;
 use sync::Fields;
 use sync::Message;
 use sync::StatV1;
+use sync::StatV2;
 ghost use mathlib.Core.Path.{_≡_};
 ghost use Prim.Native.Nat.{_≤_};
 ghost use lib.ListN.{length};
 ghost use Rattle.le.specs.Le.{put};
 ghost use Rattle.exchange.specs.Exchange.{headOf};
-ghost use Rattle.sync_write.specs.Write.{layoutOf, isOther, statBytes, fieldBytes, messageBytes, Room, writeKnown, writeMessage};
-ghost use Rattle.sync_write.specs.Write.{Writes, writtenNumber};
+ghost use Rattle.sync_write.specs.Write.{layoutOf, isOther, statBytes, aboutBytes, timesBytes, statV2Bytes, fieldBytes, messageBytes};
+ghost use Rattle.sync_write.specs.Write.{Room, writeKnown, writeMessage, Writes, writtenNumber};
 
 // What became of a message that was to be written.
 pub enum Written {
@@ -48,6 +49,9 @@ fn layout_of(fields: Fields) -> Layout
         Fields::Stat(_) => Layout::Stat,
         Fields::Entry(_) => Layout::Entry,
         Fields::End(_, _) => Layout::End,
+        Fields::StatV2(_) => Layout::StatV2,
+        Fields::EntryV2(_) => Layout::EntryV2,
+        Fields::EndV2(_, _) => Layout::EndV2,
     }
 }
 
@@ -68,6 +72,38 @@ fn put_stat(out: &mut [u8], stat: StatV1)
     le::put_u32(out, 12, stat.mtime);
 }
 
+fn put_about(out: &mut [u8], stat: StatV2)
+    requires { ⌜ 72 ≤ length (now out) ⌝ }
+    ensures { λ _. ⌜ now (out .exit) ≡ put (now (out .entry)) 4 (aboutBytes stat) ⌝ }
+{
+    let mode = stat.mode;
+    le::put_u32(out, 4, stat.error);
+    le::put_u64(out, 8, stat.dev);
+    le::put_u64(out, 16, stat.ino);
+    le::put_u32(out, 24, mode.0);
+    le::put_u32(out, 28, stat.nlink);
+    le::put_u32(out, 32, stat.uid);
+    le::put_u32(out, 36, stat.gid);
+}
+
+fn put_times(out: &mut [u8], stat: StatV2)
+    requires { ⌜ 72 ≤ length (now out) ⌝ }
+    ensures { λ _. ⌜ now (out .exit) ≡ put (now (out .entry)) 40 (timesBytes stat) ⌝ }
+{
+    le::put_u64(out, 40, stat.size);
+    le::put_i64(out, 48, stat.atime);
+    le::put_i64(out, 56, stat.mtime);
+    le::put_i64(out, 64, stat.ctime);
+}
+
+fn put_stat_v2(out: &mut [u8], stat: StatV2)
+    requires { ⌜ 72 ≤ length (now out) ⌝ }
+    ensures { λ _. ⌜ now (out .exit) ≡ put (now (out .entry)) 4 (statV2Bytes stat) ⌝ }
+{
+    put_about(out, stat);
+    put_times(out, stat);
+}
+
 // What stands between the id and the text, whose length is given.
 fn put_fields(out: &mut [u8], fields: Fields, len: u32)
     requires { ⌜ headOf (layoutOf fields) ≤ length (now out) ⌝ }
@@ -84,6 +120,15 @@ fn put_fields(out: &mut [u8], fields: Fields, len: u32)
         Fields::End(stat, last) => {
             put_stat(out, stat);
             le::put_u32(out, 16, last);
+        }
+        Fields::StatV2(stat) => put_stat_v2(out, stat),
+        Fields::EntryV2(stat) => {
+            put_stat_v2(out, stat);
+            le::put_u32(out, 72, len);
+        }
+        Fields::EndV2(stat, last) => {
+            put_stat_v2(out, stat);
+            le::put_u32(out, 72, last);
         }
     }
 }

@@ -27,6 +27,15 @@ enum-told-5 c = search needs
 stat-from-requires-3 : tie.Need-stat-from-requires-3
 stat-from-requires-3 c κs = search needs
 
+enum-told-6 : tie.Need-enum-told-6
+enum-told-6 c = search needs
+
+enum-told-7 : tie.Need-enum-told-7
+enum-told-7 c = search needs
+
+enum-told-8 : tie.Need-enum-told-8
+enum-told-8 c = search needs
+
 returns : tie.Need-returns
 unfolding fieldsFrom
 returns c = rw (c .enum-told .given .1)
@@ -47,6 +56,18 @@ returns-5 : tie.Need-returns-5
 unfolding fieldsFrom
 returns-5 c = rw (c .before .enum-told5 .given .1, c .stat-from3 .ensures)
 
+returns-6 : tie.Need-returns-6
+unfolding fieldsFrom
+returns-6 c = rw (c .enum-told6 .given .1)
+
+returns-7 : tie.Need-returns-7
+unfolding fieldsFrom
+returns-7 c = rw (c .enum-told7 .given .1)
+
+returns-8 : tie.Need-returns-8
+unfolding fieldsFrom
+returns-8 c = rw (c .enum-told8 .given .1)
+
 pub fields-from-spec : {M : Type 1} → statement M
 fields-from-spec =
     tie.close
@@ -59,8 +80,14 @@ fields-from-spec =
     stat-from-requires-2
     enum-told-5
     stat-from-requires-3
+    enum-told-6
+    enum-told-7
+    enum-told-8
     returns
     returns-2
     returns-3
     returns-4
-    returns-5)
+    returns-5
+    returns-6
+    returns-7
+    returns-8)

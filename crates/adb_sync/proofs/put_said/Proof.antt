@@ -1,5 +1,6 @@
 use native.Mathlib.Omega.{arith}
-use Rattle.adb_sync.proofs.ExportLaws.{words-put, said-put, said-back}
+use Rattle.sync_v2.proofs.AnswerLaws.{words-put}
+use Rattle.adb_sync.proofs.ExportLaws.{said-put, said-back}
 use borrow.Author.Needs.{needs}
 use Rattle.adb_sync.proofs.put_said.Statement.{statement}
 use Rattle.adb_sync.proofs.put_said.Tie as tie

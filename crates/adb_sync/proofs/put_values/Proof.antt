@@ -1,4 +1,4 @@
-use Rattle.adb_sync.proofs.ExportLaws.{words-put}
+use Rattle.sync_v2.proofs.AnswerLaws.{words-put}
 use borrow.Author.Needs.{needs}
 use Rattle.adb_sync.proofs.put_values.Statement.{statement}
 use Rattle.adb_sync.proofs.put_values.Tie as tie

@@ -34,6 +34,22 @@ cast-result-2 c = search needs
 enum-told-5 : tie.Need-enum-told-5
 enum-told-5 c = search needs
 
+enum-told-6 : tie.Need-enum-told-6
+enum-told-6 c = search needs
+
+enum-told-7 : tie.Need-enum-told-7
+enum-told-7 c = search needs
+
+get-u32-requires-3 : tie.Need-get-u32-requires-3
+unfolding headOf
+get-u32-requires-3 c κs = omega (arith, rw (c .enum-told7 .given .1) at (c .before .before .before .pre))
+
+cast-result-3 : tie.Need-cast-result-3
+cast-result-3 c = search needs
+
+enum-told-8 : tie.Need-enum-told-8
+enum-told-8 c = search needs
+
 returns : tie.Need-returns
 unfolding lengthOf
 returns c = rw (c .before .enum-told .given .1) (c .get-u32 .ensures)
@@ -54,6 +70,18 @@ returns-5 : tie.Need-returns-5
 unfolding lengthOf
 returns-5 c = rw (c .enum-told5 .given .1)
 
+returns-6 : tie.Need-returns-6
+unfolding lengthOf
+returns-6 c = rw (c .enum-told6 .given .1)
+
+returns-7 : tie.Need-returns-7
+unfolding lengthOf
+returns-7 c = rw (c .before .enum-told7 .given .1) (c .get-u323 .ensures)
+
+returns-8 : tie.Need-returns-8
+unfolding lengthOf
+returns-8 c = rw (c .enum-told8 .given .1)
+
 pub text-length-spec : {M : Type 1} → statement M
 text-length-spec =
     tie.close
@@ -67,8 +95,16 @@ text-length-spec =
     get-u32-requires-2
     cast-result-2
     enum-told-5
+    enum-told-6
+    enum-told-7
+    get-u32-requires-3
+    cast-result-3
+    enum-told-8
     returns
     returns-2
     returns-3
     returns-4
-    returns-5)
+    returns-5
+    returns-6
+    returns-7
+    returns-8)

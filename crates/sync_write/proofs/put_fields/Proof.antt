@@ -1,7 +1,7 @@
 use native.Mathlib.Omega.{arith}
 use Rattle.exchange.specs.Exchange.{headOf}
 use Rattle.sync_write.specs.Write.{layoutOf, fieldBytes}
-use Rattle.sync_write.proofs.WriteLaws.{put-behind}
+use Rattle.sync_write.proofs.WriteLaws.{put-behind, put-behind-wide}
 use borrow.Author.Needs.{needs}
 use Rattle.sync_write.proofs.put_fields.Statement.{statement}
 use Rattle.sync_write.proofs.put_fields.Tie as tie
@@ -49,6 +49,35 @@ put-u32-requires-4 : tie.Need-put-u32-requires-4
 unfolding headOf layoutOf
 put-u32-requires-4 c κs = omega (arith, rw (c .before .before .before .before .before .before .fields4 .given .1) at (c .before .before .before .before .before .before .before .before .before .pre))
 
+enum-known-fields-5 : tie.Need-enum-known-fields-5
+enum-known-fields-5 c = search needs
+
+put-stat-v2-requires : tie.Need-put-stat-v2-requires
+unfolding headOf layoutOf
+put-stat-v2-requires c κs = omega (arith, rw (c .before .before .fields5 .given .1) at (c .before .before .before .before .before .pre))
+
+enum-known-fields-6 : tie.Need-enum-known-fields-6
+enum-known-fields-6 c = search needs
+
+put-stat-v2-requires-2 : tie.Need-put-stat-v2-requires-2
+unfolding headOf layoutOf
+put-stat-v2-requires-2 c κs = omega (arith, rw (c .before .before .fields6 .given .1) at (c .before .before .before .before .before .pre))
+
+put-u32-requires-5 : tie.Need-put-u32-requires-5
+unfolding headOf layoutOf
+put-u32-requires-5 c κs = omega (arith, rw (c .before .before .before .before .before .before .fields6 .given .1) at (c .before .before .before .before .before .before .before .before .before .pre))
+
+enum-known-fields-7 : tie.Need-enum-known-fields-7
+enum-known-fields-7 c = search needs
+
+put-stat-v2-requires-3 : tie.Need-put-stat-v2-requires-3
+unfolding headOf layoutOf
+put-stat-v2-requires-3 c κs = omega (arith, rw (c .before .before .fields7 .given .1) at (c .before .before .before .before .before .pre))
+
+put-u32-requires-6 : tie.Need-put-u32-requires-6
+unfolding headOf layoutOf
+put-u32-requires-6 c κs = omega (arith, rw (c .before .before .before .before .before .before .fields7 .given .1) at (c .before .before .before .before .before .before .before .before .before .pre))
+
 same-length : tie.Need-same-length
 same-length c = search needs
 
@@ -84,6 +113,27 @@ returns-5 : tie.Need-returns-5
 unfolding fieldBytes headOf layoutOf
 returns-5 c = rw (c .before .before .before .before .before .before .before .before .before .fields4 .given .1) (cc (put-behind (c .before .before .before .before .before .before .before .before .before .before .before .before .args .out .now) _ _ (rw (c .before .before .before .before .before .before .before .before .before .fields4 .given .1) at (c .before .before .before .before .before .before .before .before .before .before .before .before .pre))))
 
+same-length-6 : tie.Need-same-length-6
+same-length-6 c = search needs
+
+returns-6 : tie.Need-returns-6
+unfolding fieldBytes
+returns-6 c = rw (c .before .before .before .before .before .fields5 .given .1) (c .before .before .put-stat-v2 .ensures)
+
+same-length-7 : tie.Need-same-length-7
+same-length-7 c = search needs
+
+returns-7 : tie.Need-returns-7
+unfolding fieldBytes headOf layoutOf
+returns-7 c = rw (c .before .before .before .before .before .before .before .before .before .fields6 .given .1) (cc (put-behind-wide (c .before .before .before .before .before .before .before .before .before .before .before .before .args .out .now) _ (c .before .before .before .before .before .before .before .before .before .before .before .before .args .len) (rw (c .before .before .before .before .before .before .before .before .before .fields6 .given .1) at (c .before .before .before .before .before .before .before .before .before .before .before .before .pre))))
+
+same-length-8 : tie.Need-same-length-8
+same-length-8 c = search needs
+
+returns-8 : tie.Need-returns-8
+unfolding fieldBytes headOf layoutOf
+returns-8 c = rw (c .before .before .before .before .before .before .before .before .before .fields7 .given .1) (cc (put-behind-wide (c .before .before .before .before .before .before .before .before .before .before .before .before .args .out .now) _ _ (rw (c .before .before .before .before .before .before .before .before .before .fields7 .given .1) at (c .before .before .before .before .before .before .before .before .before .before .before .before .pre))))
+
 pub put-fields-spec : {M : Type 1} → statement M
 put-fields-spec =
     tie.close
@@ -100,6 +150,14 @@ put-fields-spec =
     enum-known-fields-4
     put-stat-requires-3
     put-u32-requires-4
+    enum-known-fields-5
+    put-stat-v2-requires
+    enum-known-fields-6
+    put-stat-v2-requires-2
+    put-u32-requires-5
+    enum-known-fields-7
+    put-stat-v2-requires-3
+    put-u32-requires-6
     same-length
     returns
     same-length-2
@@ -109,4 +167,10 @@ put-fields-spec =
     same-length-4
     returns-4
     same-length-5
-    returns-5)
+    returns-5
+    same-length-6
+    returns-6
+    same-length-7
+    returns-7
+    same-length-8
+    returns-8)

@@ -36,6 +36,18 @@ send-reply-requires c κs = search needs
 enum-told-6 : tie.Need-enum-told-6
 enum-told-6 c = search needs
 
+list-v2-reply-requires : tie.Need-list-v2-reply-requires
+list-v2-reply-requires c κs = search needs
+
+enum-told-7 : tie.Need-enum-told-7
+enum-told-7 c = search needs
+
+stat-v2-reply-requires : tie.Need-stat-v2-reply-requires
+stat-v2-reply-requires c κs = search needs
+
+enum-told-8 : tie.Need-enum-told-8
+enum-told-8 c = search needs
+
 returns : tie.Need-returns
 unfolding foundOf rowsOf
 returns c = rw (c .before .enum-told .given .1) (c .request .ensures)
@@ -57,8 +69,16 @@ unfolding foundOf rowsOf
 returns-5 c = rw (c .before .enum-told5 .given .1) (c .send-reply .ensures)
 
 returns-6 : tie.Need-returns-6
+unfolding foundOf rowsOf
+returns-6 c = rw (c .before .enum-told6 .given .1) (c .list-v2-reply .ensures)
+
+returns-7 : tie.Need-returns-7
+unfolding foundOf rowsOf
+returns-7 c = rw (c .before .enum-told7 .given .1) (c .stat-v2-reply .ensures)
+
+returns-8 : tie.Need-returns-8
 unfolding foundOf rowsOf amongOf
-returns-6 c = rw (c .enum-told6 .given .1)
+returns-8 c = rw (c .enum-told8 .given .1)
 
 pub find-spec : {M : Type 1} → statement M
 find-spec =
@@ -75,9 +95,15 @@ find-spec =
     enum-told-5
     send-reply-requires
     enum-told-6
+    list-v2-reply-requires
+    enum-told-7
+    stat-v2-reply-requires
+    enum-told-8
     returns
     returns-2
     returns-3
     returns-4
     returns-5
-    returns-6)
+    returns-6
+    returns-7
+    returns-8)

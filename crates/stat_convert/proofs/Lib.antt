@@ -1,0 +1,2 @@
+pub mod ConvertLaws
+pub mod BothWays
