@@ -9,7 +9,6 @@ use lib.ListN.{length, take, getD, set}
 use lib.Seq.{getD-take, length-take-le}
 use borrow.Author.Tests.{lt-ltb, le-ltb}
 use Rattle.le.proofs.Parts.{by-test}
-use Rattle.config.proofs.Laws.{and-true}
 use Rattle.config.specs.Config.{storesFit}
 use Rattle.protocol.specs.declared.packet.Packet.{Packet}
 use Rattle.slot.specs.declared.ChannelSlot.{ChannelSlot}
@@ -25,7 +24,7 @@ use Rattle.table.proofs.Laws.{live-remote}
 use Rattle.table_dispatch.specs.declared.DispatchOutcome.the-variants.{SlotClosed, CancelQueuedOpen}
 use Rattle.table_dispatch.specs.Dispatch.{stored, closedAt, closeOf, Dispatched, with, routeOf, dispatchOf}
 use Rattle.table_dispatch.proofs.DispatchLaws.{remote-live}
-use Rattle.table_dispatch.proofs.KeepLaws.{place-found}
+use Rattle.table_dispatch.proofs.KeepLaws.{place-found, remote-filled}
 use Rattle.connection.specs.declared.Answer.the-variants.{Done}
 use Rattle.connection.specs.declared.Received.the-variants.{Packet as PacketIs}
 use Rattle.connection.specs.Act.{actedBy, tableOf, actOn}
@@ -68,12 +67,6 @@ closed-dead r s = and-no (s .filled && s .«has_remote» && eqb (s .remote .0) (
     and-no true = refl
     and-no false = refl
 
-live-filled : (r : RemoteId) (s : ChannelSlot) → wantedBy (Live r) s ≡ true → s .filled ≡ true
-unfolding wantedBy
-live-filled r s e =
-    let a = live-remote r s e in
-    and-true (s .filled) (s .«has_remote») (and-true (s .filled && s .«has_remote») (eqb (s .remote .0) (r .0)) a .0) .0
-
 module _ (r : RemoteId) (n : ℕ) (ss : List ChannelSlot) (some : r .0 ≡ 0 → ⊥) (k : placeOf (Live r) n ss < n) where
   abbrev place : ℕ
   place = placeOf (Live r) n ss
@@ -106,7 +99,7 @@ clse-goes-live w out received r len i y whole fits room decoded some there =
     let h = whole-holds w y whole in
     let full = h .facts .slots .full in
     let most = h .facts .limits .within .most-channels in
-    let filled = live-filled r (slotIn ss i) there in
+    let filled = remote-filled r (slotIn ss i) (live-remote r (slotIn ss i) there) in
     let below = h .facts .slots .each i .live filled .place in
     let tl : length (take n ss) ≡ n = length-take-le n ss (omega arith) in
     let le : placeOf (Live r) n ss ≤ i = first-le (wantedBy (Live r)) (take n ss) i emptySlot (omega arith) (ap (wantedBy (Live r)) (getD-take n ss i emptySlot below) ∙ there) in

@@ -30,6 +30,7 @@ use Rattle.table.specs.declared.Want.{Want}
 use Rattle.table.specs.declared.Want.the-variants.{Remote, Live}
 use Rattle.table.proofs.Laws.{live-remote}
 use Rattle.table_dispatch.specs.Dispatch.{namedPlace}
+use Rattle.table_dispatch.proofs.KeepLaws.{remote-filled}
 use Rattle.table.specs.Table.{first, wantedBy, placeOf, slotIn}
 use Rattle.table_dispatch.proofs.DispatchLaws.{first-found}
 use Rattle.connection.specs.declared.Answer.{Answer}
@@ -270,12 +271,6 @@ module _ (p : RxPolicy) (n : ℕ) (ss : List ChannelSlot) (rx : List ℕ) (ok : 
     remote-booked : (j : ℕ) → hasRemote r (getD d j noBook) ≡ true → slotIn ss j .filled ≡ true
     remote-booked j e = sym (mk .there j) ∙ and-true (getD d j noBook .there) (eqb (getD d j noBook .remote) r) e .0
 
-    remote-wanted : (j : ℕ) → wantedBy (Remote who) (slotIn ss j) ≡ true → slotIn ss j .filled ≡ true
-    unfolding wantedBy
-    remote-wanted j v =
-        let s = slotIn ss j in
-        and-true (s .filled) (s .«has_remote») (and-true (s .filled && s .«has_remote») (eqb (s .remote .0) r) v .0) .0
-
     live-agrees : (i : ℕ) → slotIn ss i .filled ≡ true → isLive r (getD d i noBook) ≡ wantedBy (Live who) (slotIn ss i)
     unfolding wantedBy
     live-agrees i there =
@@ -289,13 +284,13 @@ module _ (p : RxPolicy) (n : ℕ) (ss : List ChannelSlot) (rx : List ℕ) (ok : 
         ap (λ (x : Bool). eqb (cond x (first (isLive r) d) (first (hasRemote r) d)) i) (tells-found (Live who) (isLive r) live-agrees live-booked live-wanted)
         ∙ by-test (ltb (placeOf (Live who) n ss) n)
         (λ t. rw t (tells-place (Live who) (isLive r) live-agrees live-booked live-wanted i there))
-        (λ t. rw t (tells-place (Remote who) (hasRemote r) remote-agrees remote-booked remote-wanted i there))
+        (λ t. rw t (tells-place (Remote who) (hasRemote r) remote-agrees remote-booked (λ j. remote-filled who (slotIn ss j)) i there))
       where
         live-booked : (j : ℕ) → isLive r (getD d j noBook) ≡ true → slotIn ss j .filled ≡ true
         live-booked j e = remote-booked j (and-true (hasRemote r (getD d j noBook)) (not (getD d j noBook .closed)) e .0)
 
         live-wanted : (j : ℕ) → wantedBy (Live who) (slotIn ss j) ≡ true → slotIn ss j .filled ≡ true
-        live-wanted j v = remote-wanted j (live-remote who (slotIn ss j) v)
+        live-wanted j v = remote-filled who (slotIn ss j) (live-remote who (slotIn ss j) v)
 
 -- so the book takes for the channel's end what dispatching does
 pub closes-agree : (p : RxPolicy) (n : ℕ) (ss : List ChannelSlot) (rx : List ℕ) (ok : TableOk p n ss rx) (d : List Book) (mk : Marked d ss) (i : ℕ) (there : slotIn ss i .filled ≡ true) (b : Book) (received : List ℕ) (limit : ℕ) (k : Packet)

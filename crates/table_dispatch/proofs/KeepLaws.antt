@@ -52,7 +52,7 @@ pub local-filled : (l : LocalId) (s : ChannelSlot) → wantedBy (Local l) s ≡ 
 unfolding wantedBy
 local-filled l s e = and-true (s .filled) _ e .0
 
-remote-filled : (r : RemoteId) (s : ChannelSlot) → wantedBy (Remote r) s ≡ true → s .filled ≡ true
+pub remote-filled : (r : RemoteId) (s : ChannelSlot) → wantedBy (Remote r) s ≡ true → s .filled ≡ true
 unfolding wantedBy
 remote-filled r s e = and-true (s .filled) _ (and-true (s .filled && s .«has_remote») _ e .0) .0
 
