@@ -107,7 +107,7 @@
 
 /* ---- lengths */
 
-#define ADB_STATE_LEN 4730
+#define ADB_STATE_LEN 3962
 #define ADB_ANSWER_LEN 48
 #define ADB_HEADER_LEN 24 /* of a frame */
 #define ADB_OUT_MIN 56    /* of an outgoing buffer */
@@ -231,16 +231,16 @@ static inline size_t adb_answer_destination_len(const uint8_t *answer)
 
 /* Slot i, 0 to 63, begins at ADB_STATE_SLOT(i); its fields count from there. */
 #define ADB_STATE_SLOTS 58
-#define ADB_STATE_SLOT_LEN 49
+#define ADB_STATE_SLOT_LEN 37
 #define ADB_STATE_SLOT(i) (ADB_STATE_SLOTS + (size_t)(i) * ADB_STATE_SLOT_LEN)
 #define ADB_STATE_SLOT_LOCAL 0     /* 4 */
 #define ADB_STATE_SLOT_REMOTE 4    /* 4 */
 #define ADB_STATE_SLOT_BUDGET 8    /* 8: two's complement */
 #define ADB_STATE_SLOT_UNACKED 16  /* 8 */
-#define ADB_STATE_SLOT_SETTLED 24  /* 8: bytes set aside */
-#define ADB_STATE_SLOT_HEAD 32     /* 8: where the buffered bytes begin in the share */
-#define ADB_STATE_SLOT_BUFFERED 40 /* 8 */
-#define ADB_STATE_SLOT_TAG 48      /* 1: the flags below; bits 3, 4: state (0 opening, 1 open, 2 closed); bits 5 to 7: fault */
+#define ADB_STATE_SLOT_SETTLED 24  /* 4: bytes set aside */
+#define ADB_STATE_SLOT_HEAD 28     /* 4: where the buffered bytes begin in the share */
+#define ADB_STATE_SLOT_BUFFERED 32 /* 4 */
+#define ADB_STATE_SLOT_TAG 36      /* 1: the flags below; bits 3, 4: state (0 opening, 1 open, 2 closed); bits 5 to 7: fault */
 #define ADB_TAG_FILLED 1
 #define ADB_TAG_HAS_REMOTE 2
 #define ADB_TAG_WRTE_ACKED 4
@@ -248,7 +248,7 @@ static inline size_t adb_answer_destination_len(const uint8_t *answer)
 #define ADB_TAG_FAULT_SHIFT 5
 
 /* Queued open i of the device's, 0 to 63, begins at ADB_STATE_QUEUED_OPEN(i). */
-#define ADB_STATE_QUEUE 3194
+#define ADB_STATE_QUEUE 2426
 #define ADB_STATE_QUEUED_LEN 24
 #define ADB_STATE_QUEUED_OPEN(i) (ADB_STATE_QUEUE + (size_t)(i) * ADB_STATE_QUEUED_LEN)
 #define ADB_STATE_QUEUED_REMOTE 0 /* 4 */

@@ -75,8 +75,8 @@ static int slot_is_whole(const uint8_t *s, size_t i)
 {
     const uint8_t *p = s + ADB_STATE_SLOT(i);
     const unsigned tag = p[ADB_STATE_SLOT_TAG], in_state = tag >> ADB_TAG_STATE_SHIFT & 3;
-    const uint64_t settled = adb_le64(p + ADB_STATE_SLOT_SETTLED), head = adb_le64(p + ADB_STATE_SLOT_HEAD);
-    const uint64_t buffered = adb_le64(p + ADB_STATE_SLOT_BUFFERED), cap = cap_of(s);
+    const uint64_t settled = adb_le32(p + ADB_STATE_SLOT_SETTLED), head = adb_le32(p + ADB_STATE_SLOT_HEAD);
+    const uint64_t buffered = adb_le32(p + ADB_STATE_SLOT_BUFFERED), cap = cap_of(s);
     if (tag >> ADB_TAG_FAULT_SHIFT > 5 || in_state == 3) return 0;
     if (!(tag & ADB_TAG_FILLED)) return 1;
     return i < adb_le64(s + ADB_STATE_CHANNELS) && in_state != 0 && tag >> ADB_TAG_FAULT_SHIFT == 0 && tag & ADB_TAG_HAS_REMOTE &&
@@ -455,7 +455,7 @@ static void boundaries(void)
         { ADB_STATE_QUEUED_OPEN(2) + ADB_STATE_QUEUED_SIZE, 8, { 0, 1, 10, 62, 63, 64, 65, 66, 128, 1048577, 1u << 31, UINT64_MAX } },
     };
     static const uint64_t lengths[] = { 0, 1, MAX_RX - 1, MAX_RX, MAX_RX + 1, 2 * MAX_RX - 1, 2 * MAX_RX, 2 * MAX_RX + 1,
-                                        UINT64_MAX - 2 * MAX_RX, UINT64_MAX };
+                                        UINT32_MAX - 2 * MAX_RX, UINT32_MAX };
     static const size_t slots[] = { 0, 2, 4, CHANNELS, ADB_MAX_CHANNELS - 1 };
     const size_t n = sizeof lengths / sizeof *lengths, of = sizeof fields / sizeof *fields;
     uint8_t state[ADB_STATE_LEN];
@@ -471,9 +471,9 @@ static void boundaries(void)
             }
     for (size_t i = 0; i < n * n * n; i++) {
         memcpy(state, base_state, sizeof state);
-        poke(state, ADB_STATE_SLOT(0) + ADB_STATE_SLOT_SETTLED, 8, lengths[i % n]);
-        poke(state, ADB_STATE_SLOT(0) + ADB_STATE_SLOT_BUFFERED, 8, lengths[i / n % n]);
-        poke(state, ADB_STATE_SLOT(0) + ADB_STATE_SLOT_HEAD, 8, lengths[i / n / n]);
+        poke(state, ADB_STATE_SLOT(0) + ADB_STATE_SLOT_SETTLED, 4, lengths[i % n]);
+        poke(state, ADB_STATE_SLOT(0) + ADB_STATE_SLOT_BUFFERED, 4, lengths[i / n % n]);
+        poke(state, ADB_STATE_SLOT(0) + ADB_STATE_SLOT_HEAD, 4, lengths[i / n / n]);
         all_calls(state);
     }
     for (size_t i = 0; i < sizeof slots / sizeof *slots; i++)
@@ -514,7 +514,7 @@ static uint32_t at_lengths(const struct call *c, size_t state, size_t rx, size_t
 static void short_buffers(void)
 {
     const size_t s = ADB_STATE_LEN, r = sizeof base_rx, o = sizeof base_opens, a = ADB_ANSWER_LEN;
-    static const size_t states[] = { 0, 1, 57, 58, 3193, 3194, ADB_STATE_LEN - 1 };
+    static const size_t states[] = { 0, 1, ADB_STATE_SLOTS - 1, ADB_STATE_SLOTS, ADB_STATE_QUEUE - 1, ADB_STATE_QUEUE, ADB_STATE_LEN - 1 };
     uint8_t kept;
     testing = "short buffers";
     for (int k = 0; k < call_count; k++) {

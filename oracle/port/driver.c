@@ -120,7 +120,7 @@ static void print_slots(void)
     for (size_t i = 0; i < ADB_MAX_CHANNELS; i++) {
         const size_t at = ADB_STATE_SLOT(i);
         const unsigned tag = state.at[at + ADB_STATE_SLOT_TAG];
-        const uint64_t head = size_at(at + ADB_STATE_SLOT_HEAD), n = size_at(at + ADB_STATE_SLOT_BUFFERED);
+        const uint64_t head = word_at(at + ADB_STATE_SLOT_HEAD), n = word_at(at + ADB_STATE_SLOT_BUFFERED);
         if (!(tag & ADB_TAG_FILLED)) continue;
         if (!first) putchar(';');
         first = 0;
@@ -129,7 +129,7 @@ static void print_slots(void)
         else printf("none");
         printf(":%s%s:%" PRId64 ":%d:%" PRIu64 ":%" PRIu64 ":", names[tag >> ADB_TAG_STATE_SHIFT & 3],
                tag >> ADB_TAG_FAULT_SHIFT ? "!" : "", (int64_t)size_at(at + ADB_STATE_SLOT_BUDGET),
-               tag & ADB_TAG_WRTE_ACKED ? 1 : 0, size_at(at + ADB_STATE_SLOT_UNACKED), size_at(at + ADB_STATE_SLOT_SETTLED));
+               tag & ADB_TAG_WRTE_ACKED ? 1 : 0, size_at(at + ADB_STATE_SLOT_UNACKED), (uint64_t)word_at(at + ADB_STATE_SLOT_SETTLED));
         if (head > 2 * cap() || n > 2 * cap() - head) fault("bytes outside the share");
         else hex(rx.at + i * 2 * cap() + head, n);
     }

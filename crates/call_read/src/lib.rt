@@ -76,7 +76,7 @@ fn take_buffered(
             })
         }
         Taken::Data(t, len) => {
-            rx_store::hand_over(rx, i, policy.rx_cap, s.head, len, buf);
+            rx_store::hand_over(rx, i, policy.rx_cap, s.head as usize, len, buf);
             store_slot(state, i, t, h);
             Tried::Replied(Reply {
                 answer: Answer::Read(len),

@@ -38,7 +38,7 @@ fn take_there(
     let taken = slot_receive::take_buffered(s, buf.len(), cap);
     match taken {
         Taken::Data(rest, len) => {
-            rx_store::hand_over(rx, ch.slot, cap, s.head, len, buf);
+            rx_store::hand_over(rx, ch.slot, cap, s.head as usize, len, buf);
             store_slot(state, ch.slot, rest, h);
             Reply {
                 answer: Answer::Read(len),

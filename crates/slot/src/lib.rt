@@ -53,11 +53,11 @@ pub struct ChannelSlot {
     // Bytes that the device has had no OKAY for yet.
     pub unacked: usize,
     // Bytes at the front of the run that a read has acknowledged and not taken yet.
-    pub settled: usize,
+    pub settled: u32,
     // Where the run of buffered bytes begins in the share.
-    pub head: usize,
+    pub head: u32,
     // Bytes waiting to be read.
-    pub buffered: usize,
+    pub buffered: u32,
     pub failed: Failed,
 }
 
@@ -295,13 +295,7 @@ impl ChannelSlot {
         t
     }
 
-    pub fn with_numbers(
-        self,
-        unacked: usize,
-        settled: usize,
-        head: usize,
-        buffered: usize,
-    ) -> ChannelSlot
+    pub fn with_numbers(self, unacked: usize, settled: u32, head: u32, buffered: u32) -> ChannelSlot
         ensures { λ r. ⌜ r ≡ withNumbers self unacked settled head buffered ⌝ }
     {
         let mut t = self;

@@ -37,7 +37,7 @@ pub fn held(slot: ChannelSlot) -> usize
     requires { ⌜ slot .settled ≤ slot .buffered ⌝ }
     ensures { λ r. ⌜ r ≡ heldOf slot ⌝ }
 {
-    slot.buffered - slot.settled
+    slot.buffered as usize - slot.settled as usize
 }
 
 // Whether a WRTE that brings the held bytes to `held` is acknowledged at once.
@@ -72,17 +72,18 @@ pub fn apply_write(slot: ChannelSlot, n: usize, policy: RxPolicy) -> Wrote
             decision: AckDecision::Overflow,
         };
     }
-    let head = rx_store::appended_head(2 * policy.rx_cap, slot.head, slot.buffered, n);
-    let buffered = slot.buffered + n;
+    let buffered = slot.buffered as usize;
+    let head = rx_store::appended_head(2 * policy.rx_cap, slot.head as usize, buffered, n) as u32;
+    let more = (buffered + n) as u32;
     if acks_now(slot, policy, held + n) {
         return Wrote {
-            slot: slot.with_numbers(0, slot.settled, head, buffered),
+            slot: slot.with_numbers(0, slot.settled, head, more),
             decision: AckDecision::Now(n),
         };
     }
     let unacked = saturate::sat_sum(slot.unacked, n);
     Wrote {
-        slot: slot.with_numbers(unacked, slot.settled, head, buffered),
+        slot: slot.with_numbers(unacked, slot.settled, head, more),
         decision: AckDecision::Hold,
     }
 }
@@ -103,7 +104,7 @@ pub fn deliver(slot: ChannelSlot, taken: usize, policy: RxPolicy) -> Settled
             ack: PendingAck::Nothing,
         };
     }
-    if slot.buffered >= policy.watermark {
+    if slot.buffered as usize >= policy.watermark {
         return Settled {
             slot,
             ack: PendingAck::Nothing,
@@ -152,7 +153,7 @@ pub fn settle_take(slot: ChannelSlot, want: usize, policy: RxPolicy) -> Settled
 {
     if slot.has_remote {
         if slot.settled == 0 {
-            return settle_some(slot, saturate::least(want, slot.buffered), policy);
+            return settle_some(slot, saturate::least(want, slot.buffered as usize), policy);
         }
     }
     Settled {
@@ -165,14 +166,14 @@ fn settle_some(slot: ChannelSlot, n: usize, policy: RxPolicy) -> Settled
     requires { ⌜ n ≤ slot .buffered ⌝ }
     ensures { λ r. ⌜ r ≡ settledSome slot policy n ⌝ }
 {
-    let ack = ack_len(slot, n, slot.buffered - n, policy);
+    let ack = ack_len(slot, n, slot.buffered as usize - n, policy);
     match ack {
         PendingAck::Nothing => Settled {
             slot,
             ack: PendingAck::Nothing,
         },
         PendingAck::Len(len) => Settled {
-            slot: slot.with_numbers(slot.unacked - len, n, slot.head, slot.buffered),
+            slot: slot.with_numbers(slot.unacked - len, n as u32, slot.head, slot.buffered),
             ack: PendingAck::Len(len),
         },
     }
@@ -183,9 +184,9 @@ fn take_len(slot: ChannelSlot, room: usize) -> usize
     ensures { λ r. ⌜ r ≡ takeLen slot room ⌝ }
 {
     if slot.settled == 0 {
-        return saturate::least(room, slot.buffered);
+        return saturate::least(room, slot.buffered as usize);
     }
-    saturate::least(room, slot.settled)
+    saturate::least(room, slot.settled as usize)
 }
 
 // The slot after n of its buffered bytes were taken.
@@ -193,9 +194,11 @@ fn took(slot: ChannelSlot, n: usize, cap: usize) -> ChannelSlot
     requires { ⌜ SlotOk slot cap × (n ≤ slot .buffered) ⌝ }
     ensures { λ r. ⌜ r ≡ tookOf slot n ⌝ }
 {
-    let settled = slot.settled - saturate::least(n, slot.settled);
-    let head = rx_store::taken_head(slot.head, slot.buffered, n);
-    slot.with_numbers(slot.unacked, settled, head, slot.buffered - n)
+    let set_aside = slot.settled as usize;
+    let buffered = slot.buffered as usize;
+    let settled = (set_aside - saturate::least(n, set_aside)) as u32;
+    let head = rx_store::taken_head(slot.head as usize, buffered, n) as u32;
+    slot.with_numbers(slot.unacked, settled, head, (buffered - n) as u32)
 }
 
 // What a read into `room` bytes finds, in numbers; `rx_store` hands the bytes over. `cap` is only for the `requires`.
@@ -220,8 +223,9 @@ pub fn take_acks(slot: ChannelSlot, want: usize, policy: RxPolicy) -> bool
 {
     if has_data(slot) {
         if slot.settled == 0 {
-            let n = saturate::least(want, slot.buffered);
-            return is_ack(ack_len(slot, n, slot.buffered - n, policy));
+            let buffered = slot.buffered as usize;
+            let n = saturate::least(want, buffered);
+            return is_ack(ack_len(slot, n, buffered - n, policy));
         }
     }
     false
@@ -232,15 +236,17 @@ pub fn is_sound(slot: ChannelSlot, cap: usize) -> bool
     requires { ⌜ cap ≤ 16777216 ⌝ }
     ensures { λ r. ⌜ r ≡ slotOk slot cap ⌝ }
 {
-    if slot.settled > cap {
+    let settled = slot.settled as usize;
+    if settled > cap {
         return false;
     }
     // Held bytes: where less is buffered than settled, the difference wraps to more than any cap.
-    let held = std::num::wrapping_sub_usize(slot.buffered, slot.settled);
+    let buffered = slot.buffered as usize;
+    let held = std::num::wrapping_sub_usize(buffered, settled);
     if held > cap {
         return false;
     }
-    if slot.head > 2 * cap - slot.buffered {
+    if slot.head as usize > 2 * cap - buffered {
         return false;
     }
     true

@@ -10,23 +10,29 @@ use Rattle.le.proofs.Parts.{put-seq, length-part, lent-part, lent-back}
 use Rattle.slot.specs.declared.ChannelSlot.{ChannelSlot}
 use Rattle.state.specs.declared.Header.{Header}
 use Rattle.state.specs.declared.QueuedOpen.{QueuedOpen}
-use Rattle.state.specs.State.{headerLen, queuedLen, slotLen, flagByte, slotNumbers, tagOf, slotBytes, queuedBytes, headerSizes, headerWords, headerTags, stateHeader, putHeader}
+use Rattle.state.specs.State.{headerLen, queuedLen, tagAt, slotLen, flagByte, slotNumbers, slotCounts, tagOf, slotBytes, queuedBytes, headerSizes, headerWords, headerTags, stateHeader, putHeader}
 
 pub numbers-put : (d : List ℕ) (s : ChannelSlot) → slotLen ≤ length d
-    → put (put (put (put (put (put (put d 0 (bytesOf 4 (s .local .0))) 4 (bytesOf 4 (s .remote .0))) 8 (bytesOf 8 (unsigned 63 (s .«send_budget»)))) 16 (bytesOf 8 (s .unacked))) 24 (bytesOf 8 (s .settled))) 32 (bytesOf 8 (s .head))) 40 (bytesOf 8 (s .buffered)) ≡ put d 0 (slotNumbers s)
+    → put (put (put (put d 0 (bytesOf 4 (s .local .0))) 4 (bytesOf 4 (s .remote .0))) 8 (bytesOf 8 (unsigned 63 (s .«send_budget»)))) 16 (bytesOf 8 (s .unacked)) ≡ put d 0 (slotNumbers s)
 unfolding slotNumbers bytesOf
 numbers-put d s h =
     put-seq d 0 (bytesOf 4 (s .local .0))
-    (bytesOf 4 (s .remote .0) ∷ bytesOf 8 (unsigned 63 (s .«send_budget»)) ∷ bytesOf 8 (s .unacked) ∷ bytesOf 8 (s .settled) ∷ bytesOf 8 (s .head) ∷ bytesOf 8 (s .buffered) ∷ [])
+    (bytesOf 4 (s .remote .0) ∷ bytesOf 8 (unsigned 63 (s .«send_budget»)) ∷ bytesOf 8 (s .unacked) ∷ [])
     (omega arith)
 
+pub counts-put : (d : List ℕ) (s : ChannelSlot) → slotLen ≤ length d
+    → put (put (put d 24 (bytesOf 4 (s .settled))) 28 (bytesOf 4 (s .head))) 32 (bytesOf 4 (s .buffered)) ≡ put d 24 (slotCounts s)
+unfolding slotCounts bytesOf
+counts-put d s h = put-seq d 24 (bytesOf 4 (s .settled)) (bytesOf 4 (s .head) ∷ bytesOf 4 (s .buffered) ∷ []) (omega arith)
+
 pub length-slot : (s : ChannelSlot) → length (slotBytes s) ≡ slotLen
-unfolding slotBytes slotNumbers bytesOf
+unfolding slotBytes slotNumbers slotCounts bytesOf
 length-slot s = refl
 
-pub slot-put : (d : List ℕ) (s : ChannelSlot) → slotLen ≤ length d → put (put d 0 (slotNumbers s)) 48 (bytesOf 1 (tagOf s)) ≡ put d 0 (slotBytes s)
-unfolding slotBytes slotNumbers bytesOf
-slot-put d s h = put-seq d 0 (slotNumbers s) (bytesOf 1 (tagOf s) ∷ []) (omega arith)
+pub slot-put : (d : List ℕ) (s : ChannelSlot) → slotLen ≤ length d
+    → put (put (put d 0 (slotNumbers s)) 24 (slotCounts s)) tagAt (bytesOf 1 (tagOf s)) ≡ put d 0 (slotBytes s)
+unfolding slotBytes slotNumbers slotCounts bytesOf
+slot-put d s h = put-seq d 0 (slotNumbers s) (slotCounts s ∷ bytesOf 1 (tagOf s) ∷ []) (omega arith)
 
 pub length-open : (q : QueuedOpen) → length (queuedBytes q) ≡ queuedLen
 unfolding queuedBytes bytesOf

@@ -24,7 +24,7 @@ use Rattle.slot.specs.declared.Failed.the-variants.{No, By}
 use Rattle.state.specs.declared.Header.{Header}
 use Rattle.state.specs.declared.QueuedOpen.{QueuedOpen}
 use Rattle.le.specs.Rows.{flat, rows, allIs}
-use Rattle.state.specs.State.{headerLen, queueAt, queuedLen, slotLen, stateLen, Connection, flagOf, flagByte, stateOfTag, stateTag, failedOfTag, failedTag, slotNumbers, tagOf, slotBytes, slotOf, isTag, isSlot, queuedBytes, queuedOf, headerSizes, headerWords, headerTags, stateHeader, headerOf, layout, stateOf, isState, slotAt, queuedAt, putSlot, putQueued, putHeader, withSlot, withHeader, withQueuedAt}
+use Rattle.state.specs.State.{headerLen, queueAt, queuedLen, tagAt, slotLen, stateLen, Connection, flagOf, flagByte, stateOfTag, stateTag, failedOfTag, failedTag, slotNumbers, slotCounts, tagOf, slotBytes, slotOf, isTag, isSlot, queuedBytes, queuedOf, headerSizes, headerWords, headerTags, stateHeader, headerOf, layout, stateOf, isState, slotAt, queuedAt, putSlot, putQueued, putHeader, withSlot, withHeader, withQueuedAt}
 use Rattle.state.proofs.Fields.{length-slot, length-open, length-header}
 use Rattle.le.proofs.RowLaws.{put-at, put-row, length-flat, length-rows, row-at, flat-rows, Every, rows-flat, rows-fit, all-flat}
 
@@ -149,14 +149,14 @@ pub record SlotTests (t : ℕ) : Type 0 where
   pub small : t ≤ 191
   pub state : t / 2 / 2 / 2 % 4 ≤ 2
 
-pub slot-tests : (l : List ℕ) → isSlot l ≡ true → SlotTests (getD l 48 0)
+pub slot-tests : (l : List ℕ) → isSlot l ≡ true → SlotTests (getD l tagAt 0)
 unfolding isSlot isTag
 slot-tests l e = let e₁ = and-true _ _ e in record { small = leb-true _ _ (e₁ .0); state = leb-true _ _ (e₁ .1) }
 
-tag-back : (l : List ℕ) → isSlot l ≡ true → tagOf (slotOf l) ≡ getD l 48 0
+tag-back : (l : List ℕ) → isSlot l ≡ true → tagOf (slotOf l) ≡ getD l tagAt 0
 unfolding tagOf slotOf
 tag-back l e =
-    let t = getD l 48 0 in
+    let t = getD l tagAt 0 in
     let k = slot-tests l e in
     let h = k .small in
     rw (
@@ -172,7 +172,7 @@ byte-back : (l : List ℕ) (a v : ℕ) → Bytes l → a + 1 ≤ length l → v 
 unfolding bytesOf
 byte-back l a v y h e = let lt = y a in let m : v % 256 ≡ getD l a 0 = omega arith in rw m (sym (one l a h))
 
-numbers-back : (l : List ℕ) → Bytes l → 48 ≤ length l → slotNumbers (slotOf l) ≡ part l 0 48
+numbers-back : (l : List ℕ) → Bytes l → tagAt ≤ length l → slotNumbers (slotOf l) ≡ part l 0 24
 unfolding slotNumbers slotOf
 numbers-back l b h =
     rw (
@@ -181,21 +181,33 @@ numbers-back l b h =
       unsigned-signed 63 (numOf (part l 8 8)) (numOf-part 8 l 8 b),
       read-write-part l 8 8 b (omega arith),
       read-write-part l 16 8 b (omega arith),
-      read-write-part l 24 8 b (omega arith),
-      read-write-part l 32 8 b (omega arith),
-      read-write-part l 40 8 b (omega arith),
       part-join l 0 4 4,
       part-join l 0 8 8,
       part-join l 0 16 8,
-      part-join l 0 24 8,
-      part-join l 0 32 8,
-      part-join l 0 40 8,
+    )
+
+counts-back : (l : List ℕ) → Bytes l → tagAt ≤ length l → slotCounts (slotOf l) ≡ part l 24 12
+unfolding slotCounts slotOf
+counts-back l b h =
+    rw (
+      read-write-part l 24 4 b (omega arith),
+      read-write-part l 28 4 b (omega arith),
+      read-write-part l 32 4 b (omega arith),
+      part-join l 24 4 4,
+      part-join l 24 8 4,
     )
 
 slot-back : (l : List ℕ) → Bytes l → slotLen ≤ length l → isSlot l ≡ true → slotBytes (slotOf l) ≡ take slotLen l
 unfolding slotBytes
 slot-back l b h t =
-    rw (numbers-back l b (omega arith), byte-back l 48 (tagOf (slotOf l)) b (omega arith) (tag-back l t), part-join l 0 48 1) (part-start l slotLen)
+    rw (
+      numbers-back l b (omega arith),
+      counts-back l b (omega arith),
+      byte-back l tagAt (tagOf (slotOf l)) b (omega arith) (tag-back l t),
+      part-join l 0 24 12,
+      part-join l 0 tagAt 1,
+    )
+    (part-start l slotLen)
 
 -- what fits its bytes is read back
 pub record SlotFits (s : ChannelSlot) : Type 0 where
@@ -203,12 +215,12 @@ pub record SlotFits (s : ChannelSlot) : Type 0 where
   pub remote : s .remote .0 < 2 ^ 32
   pub budget : mag (s .«send_budget») < 2 ^ 63
   pub unacked : s .unacked < 2 ^ 64
-  pub settled : s .settled < 2 ^ 64
-  pub head : s .head < 2 ^ 64
-  pub buffered : s .buffered < 2 ^ 64
+  pub settled : s .settled < 2 ^ 32
+  pub head : s .head < 2 ^ 32
+  pub buffered : s .buffered < 2 ^ 32
 
 pub slot-forth : (s : ChannelSlot) → SlotFits s → slotOf (slotBytes s) ≡ s
-unfolding slotOf slotBytes slotNumbers bytesOf part
+unfolding slotOf slotBytes slotNumbers slotCounts bytesOf part
 slot-forth s f =
     let k = slot-tag s in
     rw (
@@ -228,13 +240,13 @@ slot-forth s f =
       write-read 8 (unsigned 63 (s .«send_budget»)) (unsigned-small 63 (s .«send_budget») (f .budget)),
       signed-unsigned 63 (s .«send_budget») (f .budget),
       write-read 8 (s .unacked) (f .unacked),
-      write-read 8 (s .settled) (f .settled),
-      write-read 8 (s .head) (f .head),
-      write-read 8 (s .buffered) (f .buffered),
+      write-read 4 (s .settled) (f .settled),
+      write-read 4 (s .head) (f .head),
+      write-read 4 (s .buffered) (f .buffered),
     )
 
 pub slot-is : (s : ChannelSlot) → isSlot (slotBytes s) ≡ true
-unfolding isSlot isTag slotBytes slotNumbers bytesOf
+unfolding isSlot isTag slotBytes slotNumbers slotCounts bytesOf
 slot-is s =
     let k = slot-tag s in
     rw (k .one-byte, k .state, le-leb (tagOf s) 191 (k .small), le-leb (stateTag (s .state)) 2 (state-le (s .state)))
@@ -449,9 +461,9 @@ slot-fits l y =
       remote = numOf-part 4 l 4 y;
       budget = signed-small 63 (numOf (part l 8 8)) (numOf-part 8 l 8 y);
       unacked = numOf-part 8 l 16 y;
-      settled = numOf-part 8 l 24 y;
-      head = numOf-part 8 l 32 y;
-      buffered = numOf-part 8 l 40 y;
+      settled = numOf-part 4 l 24 y;
+      head = numOf-part 4 l 28 y;
+      buffered = numOf-part 4 l 32 y;
     }
 
 open-fits : (l : List ℕ) → Bytes l → OpenFits (queuedOf l)

@@ -22,9 +22,13 @@ use Rattle.le.specs.Rows.{flat, rows, allIs}
 abbrev pub headerLen : ℕ
 headerLen = 58
 
+-- where a slot's byte of flags and tags lies, behind its numbers
+abbrev pub tagAt : ℕ
+tagAt = 36
+
 -- the length of a slot
 abbrev pub slotLen : ℕ
-slotLen = 49
+slotLen = tagAt + 1
 
 -- the length of a queued open
 abbrev pub queuedLen : ℕ
@@ -83,37 +87,40 @@ failedTag (By (BadCredit Negative)) = 5
 
 -- ---- a slot
 
--- its numbers: 48 bytes
+-- its numbers, budget and bytes unacknowledged: 24 bytes
 unfoldable pub slotNumbers : ChannelSlot → List ℕ
 slotNumbers s =
     bytesOf 4 (s .local .0) ++ bytesOf 4 (s .remote .0) ++ bytesOf 8 (unsigned 63 (s .«send_budget»)) ++ bytesOf 8 (s .unacked)
-    ++ bytesOf 8 (s .settled) ++ bytesOf 8 (s .head) ++ bytesOf 8 (s .buffered)
+
+-- what is set aside, where the run begins, its length: 12 bytes
+unfoldable pub slotCounts : ChannelSlot → List ℕ
+slotCounts s = bytesOf 4 (s .settled) ++ bytesOf 4 (s .head) ++ bytesOf 4 (s .buffered)
 
 -- flags and tags in one byte: filled, remote number known, last WRTE acknowledged (1 bit each), state (2 bits), fault
 unfoldable pub tagOf : ChannelSlot → ℕ
 tagOf s =
     flagByte (s .filled) + 2 * flagByte (s .«has_remote») + 4 * flagByte (s .«wrte_acked») + 8 * stateTag (s .state) + 32 * failedTag (s .failed)
 
--- its numbers, then the byte of flags and tags
+-- its numbers and counts, then the byte of flags and tags
 unfoldable pub slotBytes : ChannelSlot → List ℕ
-slotBytes s = slotNumbers s ++ bytesOf 1 (tagOf s)
+slotBytes s = slotNumbers s ++ slotCounts s ++ bytesOf 1 (tagOf s)
 
 -- the slot that bytes stand for
 unfoldable pub slotOf : List ℕ → ChannelSlot
 slotOf l =
     record {
-      filled = flagOf (getD l 48 0 % 2);
+      filled = flagOf (getD l tagAt 0 % 2);
       local = record { 0 = numOf (part l 0 4) };
       remote = record { 0 = numOf (part l 4 4) };
-      «has_remote» = flagOf (getD l 48 0 / 2 % 2);
-      state = stateOfTag (getD l 48 0 / 2 / 2 / 2 % 4);
-      «wrte_acked» = flagOf (getD l 48 0 / 2 / 2 % 2);
+      «has_remote» = flagOf (getD l tagAt 0 / 2 % 2);
+      state = stateOfTag (getD l tagAt 0 / 2 / 2 / 2 % 4);
+      «wrte_acked» = flagOf (getD l tagAt 0 / 2 / 2 % 2);
       «send_budget» = signed 63 (numOf (part l 8 8));
       unacked = numOf (part l 16 8);
-      settled = numOf (part l 24 8);
-      head = numOf (part l 32 8);
-      buffered = numOf (part l 40 8);
-      failed = failedOfTag (getD l 48 0 / 2 / 2 / 2 / 4);
+      settled = numOf (part l 24 4);
+      head = numOf (part l 28 4);
+      buffered = numOf (part l 32 4);
+      failed = failedOfTag (getD l tagAt 0 / 2 / 2 / 2 / 4);
     }
 
 -- a tag in range: one of the three states, and a fault of at most 5
@@ -122,7 +129,7 @@ isTag t = leb t 191 && leb (t / 2 / 2 / 2 % 4) 2
 
 -- bytes that are a slot's
 unfoldable pub isSlot : List ℕ → Bool
-isSlot l = isTag (getD l 48 0)
+isSlot l = isTag (getD l tagAt 0)
 
 -- ---- a queued open
 

@@ -15,13 +15,16 @@ ghost use Prim.Native.Nat.{_+_, _*_, _≤_, _<_};
 ghost use lib.ListN.{length};
 ghost use Rattle.le.specs.Le.{put};
 ghost use Rattle.state.specs.State.{headerLen, queuedLen, slotLen, stateLen, flagOf, flagByte, stateOfTag, stateTag, failedOfTag};
-ghost use Rattle.state.specs.State.{failedTag, slotNumbers, tagOf, slotBytes, slotOf, queuedBytes, queuedOf, headerSizes};
+ghost use Rattle.state.specs.State.{failedTag, slotNumbers, slotCounts, tagOf, slotBytes, slotOf, queuedBytes, queuedOf, headerSizes};
 ghost use Rattle.state.specs.State.{headerWords, headerTags, headerOf, slotAt, queuedAt, putSlot, putQueued, putHeader};
 
 // The header's length, and where the slots begin.
 pub const HEADER_LEN: usize = 58;
 
-pub const SLOT_LEN: usize = 49;
+// Where a slot's byte of flags and tags lies, behind its numbers.
+pub const TAG_AT: usize = 36;
+
+pub const SLOT_LEN: usize = TAG_AT + 1;
 // Where the queued opens begin: behind the header and 64 slots.
 pub const QUEUE_AT: usize = HEADER_LEN + 64 * SLOT_LEN;
 
@@ -145,7 +148,7 @@ pub fn slot_of(p: &[u8]) -> ChannelSlot
     requires { ⌜ slotLen ≤ length (now p) ⌝ }
     ensures { λ r. ⌜ r ≡ slotOf (now (p .entry)) ⌝ }
 {
-    let tag = p[48];
+    let tag = p[TAG_AT];
     ChannelSlot {
         filled: flag(tag % 2),
         local: LocalId(le::get_u32(p, 0)),
@@ -155,9 +158,9 @@ pub fn slot_of(p: &[u8]) -> ChannelSlot
         wrte_acked: flag(tag / 2 / 2 % 2),
         send_budget: le::get_i64(p, 8),
         unacked: le::get_usize(p, 16),
-        settled: le::get_usize(p, 24),
-        head: le::get_usize(p, 32),
-        buffered: le::get_usize(p, 40),
+        settled: le::get_u32(p, 24),
+        head: le::get_u32(p, 28),
+        buffered: le::get_u32(p, 32),
         failed: failed_of(tag / 2 / 2 / 2 / 4),
     }
 }
@@ -170,9 +173,15 @@ fn fill_numbers(p: &mut [u8], s: ChannelSlot)
     le::put_u32(p, 4, s.remote.0);
     le::put_i64(p, 8, s.send_budget);
     le::put_usize(p, 16, s.unacked);
-    le::put_usize(p, 24, s.settled);
-    le::put_usize(p, 32, s.head);
-    le::put_usize(p, 40, s.buffered);
+}
+
+fn fill_counts(p: &mut [u8], s: ChannelSlot)
+    requires { ⌜ slotLen ≤ length (now p) ⌝ }
+    ensures { λ _. ⌜ now (p .exit) ≡ put (now (p .entry)) 24 (slotCounts s) ⌝ }
+{
+    le::put_u32(p, 24, s.settled);
+    le::put_u32(p, 28, s.head);
+    le::put_u32(p, 32, s.buffered);
 }
 
 fn tag_of(s: ChannelSlot) -> u8
@@ -189,7 +198,8 @@ fn fill_slot(p: &mut [u8], s: ChannelSlot)
     ensures { λ _. ⌜ now (p .exit) ≡ put (now (p .entry)) 0 (slotBytes s) ⌝ }
 {
     fill_numbers(p, s);
-    le::put_u8(p, 48, tag_of(s));
+    fill_counts(p, s);
+    le::put_u8(p, TAG_AT, tag_of(s));
 }
 
 // The slot at place i.

@@ -1,3 +1,4 @@
+pub mod CountLaws
 pub mod LiveLaws
 pub mod ValidLaws
 pub mod WholeLaws

@@ -18,7 +18,7 @@ use Rattle.slot.proofs.Laws.{cond-true, cond-false}
 use Rattle.slot.specs.Slot.{isOpening, isFailed, slotOk}
 use Rattle.state.specs.declared.Header.{Header}
 use Rattle.le.specs.Rows.{rows, allIs}
-use Rattle.state.specs.State.{headerLen, queueAt, queuedLen, slotLen, stateLen, flagOf, stateOfTag, failedOfTag, slotOf, isTag, isSlot, queuedOf, headerOf, stateOf, isState, slotAt, queuedAt}
+use Rattle.state.specs.State.{tagAt, headerLen, queueAt, queuedLen, slotLen, stateLen, flagOf, stateOfTag, failedOfTag, slotOf, isTag, isSlot, queuedOf, headerOf, stateOf, isState, slotAt, queuedAt}
 use Rattle.state_whole.specs.Whole.{filledOk, slotFine, slotsFine, rowFine, rowsFine, queuedFine, queueFine, pendingFine, headerFine, filledAt, HeaderOk, restWhole, whole, isWhole}
 use Rattle.le.proofs.RowLaws.{walk-here, walk-over}
 use Rattle.state.proofs.StateLaws.{slot-in, open-in, state-full}
@@ -72,79 +72,79 @@ third-stops : (a b c d : Bool) → c ≡ false → (((a && b) && c) && d) ≡ fa
 third-stops a b c d e = sym (and-stops ((a && b) && c) d (sym (and-ends (a && b) c e)))
 
 module _ (l : List ℕ) (cap : ℕ) where
-  filled-unknown : flagOf (getD l 48 0 / 2 % 2) ≡ false → filledOk (slotOf l) cap ≡ false
+  filled-unknown : flagOf (getD l tagAt 0 / 2 % 2) ≡ false → filledOk (slotOf l) cap ≡ false
   unfolding filledOk slotOf
   filled-unknown e =
-      third-stops (not (isOpening (slotOf l .state))) (not (isFailed (slotOf l .failed))) (flagOf (getD l 48 0 / 2 % 2)) (slotOk (slotOf l) cap) e
+      third-stops (not (isOpening (slotOf l .state))) (not (isFailed (slotOf l .failed))) (flagOf (getD l tagAt 0 / 2 % 2)) (slotOk (slotOf l) cap) e
 
-  filled-opening : isOpening (stateOfTag (getD l 48 0 / 2 / 2 / 2 % 4)) ≡ true → filledOk (slotOf l) cap ≡ false
+  filled-opening : isOpening (stateOfTag (getD l tagAt 0 / 2 / 2 / 2 % 4)) ≡ true → filledOk (slotOf l) cap ≡ false
   unfolding filledOk slotOf
   filled-opening e = rw e
 
-  filled-failed : isFailed (failedOfTag (getD l 48 0 / 2 / 2 / 2 / 4)) ≡ true → filledOk (slotOf l) cap ≡ false
+  filled-failed : isFailed (failedOfTag (getD l tagAt 0 / 2 / 2 / 2 / 4)) ≡ true → filledOk (slotOf l) cap ≡ false
   unfolding filledOk slotOf
   filled-failed e =
       second-of-four (not (isOpening (slotOf l .state))) (not (isFailed (slotOf l .failed))) (slotOf l .«has_remote») (slotOk (slotOf l) cap) (ap not e)
 
-  filled-fine : (r : Bool) → isOpening (stateOfTag (getD l 48 0 / 2 / 2 / 2 % 4)) ≡ false → isFailed (failedOfTag (getD l 48 0 / 2 / 2 / 2 / 4)) ≡ false
-      → flagOf (getD l 48 0 / 2 % 2) ≡ true → r ≡ slotOk (slotOf l) cap → r ≡ filledOk (slotOf l) cap
+  filled-fine : (r : Bool) → isOpening (stateOfTag (getD l tagAt 0 / 2 / 2 / 2 % 4)) ≡ false → isFailed (failedOfTag (getD l tagAt 0 / 2 / 2 / 2 / 4)) ≡ false
+      → flagOf (getD l tagAt 0 / 2 % 2) ≡ true → r ≡ slotOk (slotOf l) cap → r ≡ filledOk (slotOf l) cap
   unfolding filledOk slotOf
   filled-fine r o f k e =
       and-goes _ (slotOk (slotOf l) cap) r (sym (three-go (not (isOpening (slotOf l .state))) (not (isFailed (slotOf l .failed))) (slotOf l .«has_remote») true (ap not o) (ap not f) (sym k))) e
 
 module _ (channels cap i : ℕ) (l : List ℕ) where
   -- an empty slot: the tag alone
-  pub row-empty : (r : Bool) → getD l 48 0 % 2 ≡ 0 → r ≡ isTag (getD l 48 0) → r ≡ rowFine channels cap i l
+  pub row-empty : (r : Bool) → getD l tagAt 0 % 2 ≡ 0 → r ≡ isTag (getD l tagAt 0) → r ≡ rowFine channels cap i l
   unfolding rowFine slotFine slotOf isSlot
   row-empty r e k =
-      let f : flagOf (getD l 48 0 % 2) ≡ false = ne-eqb (getD l 48 0 % 2) 1 (λ x. omega arith) in
-      k ∙ sym (ap (λ (x : Bool). isTag (getD l 48 0) && x) (cond-false (flagOf (getD l 48 0 % 2)) _ true f) ∙ and-id (isTag (getD l 48 0)))
+      let f : flagOf (getD l tagAt 0 % 2) ≡ false = ne-eqb (getD l tagAt 0 % 2) 1 (λ x. omega arith) in
+      k ∙ sym (ap (λ (x : Bool). isTag (getD l tagAt 0) && x) (cond-false (flagOf (getD l tagAt 0 % 2)) _ true f) ∙ and-id (isTag (getD l tagAt 0)))
 
-  pub row-zero : getD l 48 0 ≡ 0 → true ≡ rowFine channels cap i l
+  pub row-zero : getD l tagAt 0 ≡ 0 → true ≡ rowFine channels cap i l
   unfolding isTag
   row-zero e = row-empty true (omega arith) (rw e)
 
-  filled-row : getD l 48 0 % 2 ≡ 1 → rowFine channels cap i l ≡ (isTag (getD l 48 0) && (ltb i channels && filledOk (slotOf l) cap))
+  filled-row : getD l tagAt 0 % 2 ≡ 1 → rowFine channels cap i l ≡ (isTag (getD l tagAt 0) && (ltb i channels && filledOk (slotOf l) cap))
   unfolding rowFine slotFine slotOf isSlot
   filled-row e =
-      let f : flagOf (getD l 48 0 % 2) ≡ true = eq-eqb (getD l 48 0 % 2) 1 e in
-      ap (λ (x : Bool). isTag (getD l 48 0) && x) (cond-true (flagOf (getD l 48 0 % 2)) _ true f)
+      let f : flagOf (getD l tagAt 0 % 2) ≡ true = eq-eqb (getD l tagAt 0 % 2) 1 e in
+      ap (λ (x : Bool). isTag (getD l tagAt 0) && x) (cond-true (flagOf (getD l tagAt 0 % 2)) _ true f)
 
-  broken : getD l 48 0 % 2 ≡ 1 → filledOk (slotOf l) cap ≡ false → false ≡ rowFine channels cap i l
+  broken : getD l tagAt 0 % 2 ≡ 1 → filledOk (slotOf l) cap ≡ false → false ≡ rowFine channels cap i l
   broken e k =
-      rw (filled-row e) (and-ends (isTag (getD l 48 0)) (ltb i channels && filledOk (slotOf l) cap) (sym (and-ends (ltb i channels) (filledOk (slotOf l) cap) k)))
+      rw (filled-row e) (and-ends (isTag (getD l tagAt 0)) (ltb i channels && filledOk (slotOf l) cap) (sym (and-ends (ltb i channels) (filledOk (slotOf l) cap) k)))
 
   -- a filled slot without its remote number, one that is still opening, and one with a fault or a state that is none
-  pub row-unknown : getD l 48 0 % 2 ≡ 1 → (getD l 48 0 % 4 ≡ 3 → ⊥) → false ≡ rowFine channels cap i l
-  row-unknown e n = broken e (filled-unknown l cap (ne-eqb (getD l 48 0 / 2 % 2) 1 (λ x. n (omega arith))))
+  pub row-unknown : getD l tagAt 0 % 2 ≡ 1 → (getD l tagAt 0 % 4 ≡ 3 → ⊥) → false ≡ rowFine channels cap i l
+  row-unknown e n = broken e (filled-unknown l cap (ne-eqb (getD l tagAt 0 / 2 % 2) 1 (λ x. n (omega arith))))
 
-  pub row-opening : getD l 48 0 % 2 ≡ 1 → getD l 48 0 < 8 → false ≡ rowFine channels cap i l
+  pub row-opening : getD l tagAt 0 % 2 ≡ 1 → getD l tagAt 0 < 8 → false ≡ rowFine channels cap i l
   unfolding isOpening
-  row-opening e n = let z : getD l 48 0 / 2 / 2 / 2 % 4 ≡ 0 = omega arith in broken e (filled-opening l cap (rw z))
+  row-opening e n = let z : getD l tagAt 0 / 2 / 2 / 2 % 4 ≡ 0 = omega arith in broken e (filled-opening l cap (rw z))
 
-  pub row-failed : getD l 48 0 % 2 ≡ 1 → 23 < getD l 48 0 → false ≡ rowFine channels cap i l
+  pub row-failed : getD l tagAt 0 % 2 ≡ 1 → 23 < getD l tagAt 0 → false ≡ rowFine channels cap i l
   unfolding isTag
   row-failed e n =
-      by-test (isTag (getD l 48 0))
-      (λ t. let k = and-true (leb (getD l 48 0) 191) (leb (getD l 48 0 / 2 / 2 / 2 % 4) 2) t in
-      let b : getD l 48 0 / 2 / 2 / 2 % 4 ≤ 2 = leb-true _ _ (k .1) in
-      broken e (filled-failed l cap (failed-some (getD l 48 0 / 2 / 2 / 2 / 4) (omega arith))))
-      (λ t. rw (filled-row e) (and-stops (isTag (getD l 48 0)) _ t))
+      by-test (isTag (getD l tagAt 0))
+      (λ t. let k = and-true (leb (getD l tagAt 0) 191) (leb (getD l tagAt 0 / 2 / 2 / 2 % 4) 2) t in
+      let b : getD l tagAt 0 / 2 / 2 / 2 % 4 ≤ 2 = leb-true _ _ (k .1) in
+      broken e (filled-failed l cap (failed-some (getD l tagAt 0 / 2 / 2 / 2 / 4) (omega arith))))
+      (λ t. rw (filled-row e) (and-stops (isTag (getD l tagAt 0)) _ t))
 
   -- a filled slot that is whole but for its numbers, below channels or not
-  pub row-filled : (r : Bool) → getD l 48 0 % 4 ≡ 3 → 8 ≤ getD l 48 0 → getD l 48 0 ≤ 23 → i < channels → r ≡ slotOk (slotOf l) cap → r ≡ rowFine channels cap i l
+  pub row-filled : (r : Bool) → getD l tagAt 0 % 4 ≡ 3 → 8 ≤ getD l tagAt 0 → getD l tagAt 0 ≤ 23 → i < channels → r ≡ slotOk (slotOf l) cap → r ≡ rowFine channels cap i l
   unfolding isTag isFailed
   row-filled r e a b h k =
-      let t = getD l 48 0 in
+      let t = getD l tagAt 0 in
       let z : t / 2 / 2 / 2 / 4 ≡ 0 = omega arith in
       let o : isTag t ≡ true = rw (le-leb t 191 (omega arith), le-leb (t / 2 / 2 / 2 % 4) 2 (omega arith)) in
       let g : r ≡ filledOk (slotOf l) cap =
       filled-fine l cap r (state-some (t / 2 / 2 / 2 % 4) (omega arith)) (rw z) (eq-eqb (t / 2 % 2) 1 (omega arith)) k in
       rw (filled-row (omega arith)) (and-goes (isTag t) _ r o (and-goes (ltb i channels) (filledOk (slotOf l) cap) r (lt-ltb i channels h) g))
 
-  pub row-beyond : getD l 48 0 % 4 ≡ 3 → channels ≤ i → false ≡ rowFine channels cap i l
+  pub row-beyond : getD l tagAt 0 % 4 ≡ 3 → channels ≤ i → false ≡ rowFine channels cap i l
   row-beyond e h =
-      rw (filled-row (omega arith)) (and-ends (isTag (getD l 48 0)) _ (sym (and-stops (ltb i channels) (filledOk (slotOf l) cap) (le-ltb i channels h))))
+      rw (filled-row (omega arith)) (and-ends (isTag (getD l tagAt 0)) _ (sym (and-stops (ltb i channels) (filledOk (slotOf l) cap) (le-ltb i channels h))))
 
 -- ---- the rows, in one pass
 

@@ -3,10 +3,11 @@ use Prim.Native.Nat.{ℕ, zero, suc, _≤_}
 use mathlib.Core.Bool.{Bool, true, false, not, cond, _&&_}
 use mathlib.Core.List.{List, [], _∷_}
 use lib.Dec.{leb, ltb, eqb}
-use lib.ListN.{take, drop}
+use mathlib.Core.Path.{_≡_}
+use lib.ListN.{getD, take, drop}
 use Rattle.config.specs.Config.{withinLimits, Within, capOf}
 use Rattle.slot.specs.declared.ChannelSlot.{ChannelSlot}
-use Rattle.slot.specs.Slot.{isOpening, isFailed, slotOk}
+use Rattle.slot.specs.Slot.{emptySlot, isOpening, isFailed, slotOk}
 use Rattle.state.specs.declared.Header.{Header}
 use Rattle.state.specs.declared.QueuedOpen.{QueuedOpen}
 use Rattle.state.specs.State.{headerLen, slotLen, Connection, slotOf, isSlot, isState, stateOf}
@@ -80,3 +81,19 @@ whole c =
 -- bytes that are a whole state: all else is refused by 13
 unfoldable pub isWhole : List ℕ → Bool
 isWhole b = isState b && whole (stateOf b)
+
+-- ---- the counts of a filled slot, which have 32 bits: what 13 lets pass
+
+-- twice the largest cap
+abbrev pub mostCount : ℕ
+mostCount = 33_554_432
+
+-- none of them passes it
+pub record CountsWithin (s : ChannelSlot) : Type 0 where
+  pub buffered : s .buffered ≤ mostCount
+  pub settled : s .settled ≤ mostCount
+  pub head : s .head ≤ mostCount
+
+-- in each filled slot of bytes that are a whole state
+abbrev pub CountsBounded : List ℕ → Type 0
+CountsBounded b = isWhole b ≡ true → (i : ℕ) → getD (stateOf b .slots) i emptySlot .filled ≡ true → CountsWithin (getD (stateOf b .slots) i emptySlot)

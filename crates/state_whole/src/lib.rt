@@ -5,6 +5,7 @@ use state::Header;
 use state::QueuedOpen;
 use state::SLOT_LEN;
 use state::STATE_LEN;
+use state::TAG_AT;
 use state::header_of;
 use state::queued_at;
 use state::slot_at;
@@ -33,7 +34,7 @@ fn row_fine(p: &[u8], i: usize, channels: usize, cap: usize) -> bool
     requires { ⌜ (slotLen ≤ length (now p)) × (cap ≤ 16777216) ⌝ }
     ensures { λ r. ⌜ r ≡ rowFine channels cap i (now (p .entry)) ⌝ }
 {
-    let tag = p[48];
+    let tag = p[TAG_AT];
     if tag % 4 == 3 {
         if tag < 8 {
             return false;

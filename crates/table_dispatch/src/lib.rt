@@ -202,12 +202,26 @@ fn write_at(
         AckDecision::Overflow => fault(i, s, remote, ChannelFault::RxOverflow),
         AckDecision::Early => fault(i, s, remote, ChannelFault::UnexpectedCommand),
         AckDecision::Hold => {
-            rx_store::buffer(rx, i, policy.rx_cap, s.head, s.buffered, payload);
+            rx_store::buffer(
+                rx,
+                i,
+                policy.rx_cap,
+                s.head as usize,
+                s.buffered as usize,
+                payload,
+            );
             put_slot(state, i, t);
             DispatchOutcome::DataBuffered(i)
         }
         AckDecision::Now(len) => {
-            rx_store::buffer(rx, i, policy.rx_cap, s.head, s.buffered, payload);
+            rx_store::buffer(
+                rx,
+                i,
+                policy.rx_cap,
+                s.head as usize,
+                s.buffered as usize,
+                payload,
+            );
             put_slot(state, i, t);
             let local = s.local;
             let known = s.remote;

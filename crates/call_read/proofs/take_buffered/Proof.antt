@@ -36,10 +36,7 @@ enum-known-taken : tie.Need-enum-known-taken
 enum-known-taken c = search needs
 
 store-slot-requires : tie.Need-store-slot-requires
-store-slot-requires c κs =
-    let there = c .before .before .before .before .before .before .before .before .before .before .before .before .before .before .before .before .before in
-    let start = there in
-    (start .pre .0 .place-fits, start .pre .0 .state-fits)
+store-slot-requires c κs = search needs
 
 error-refusal-requires : tie.Need-error-refusal-requires
 error-refusal-requires c κs = search needs
@@ -50,9 +47,12 @@ unless-fault-requires c κs = search needs
 enum-known-taken-2 : tie.Need-enum-known-taken-2
 enum-known-taken-2 c = search needs
 
+cast-hand-over : tie.Need-cast-hand-over
+cast-hand-over c = search needs
+
 hand-over-requires : tie.Need-hand-over-requires
 hand-over-requires c κs =
-    let at-taken2 = c .before .before in
+    let at-taken2 = c .before .before .before in
     let at-take-buffered = at-taken2 .before .before in
     let at-settle-take = at-take-buffered .before .before .before .before .before .before in
     let at-rx-policy = at-settle-take .before in
@@ -64,8 +64,8 @@ hand-over-requires c κs =
 
 store-slot-requires-2 : tie.Need-store-slot-requires-2
 store-slot-requires-2 c κs =
+    let start = c .before .before .before .before .before .before .before .before .before .before .before .before .before .before .before .before .before .before .before .before .before .before in
     let there = c .before .before .before .before .before .before .before .before .before .before .before .before .before .before .before .before .before .before .before .before .before in
-    let start = there in
     (start .pre .0 .place-fits, start .pre .0 .state-fits)
 
 same-length : tie.Need-same-length
@@ -117,7 +117,7 @@ returns-3 : tie.Need-returns-3
 returns-3 c =
     let at-store-slot2 = c .before .before in
     let at-hand-over = at-store-slot2 .before .before .before .before in
-    let at-taken2 = at-hand-over .before .before .before in
+    let at-taken2 = at-hand-over .before .before .before .before in
     let at-take-buffered = at-taken2 .before .before in
     let at-put-ack = at-take-buffered .before .before .before in
     let at-settle-take = at-put-ack .before .before .before in
@@ -143,6 +143,7 @@ take-buffered-spec =
     error-refusal-requires
     unless-fault-requires
     enum-known-taken-2
+    cast-hand-over
     hand-over-requires
     store-slot-requires-2
     same-length

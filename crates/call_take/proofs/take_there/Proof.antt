@@ -16,9 +16,12 @@ take-buffered-requires c κs =
 enum-known-taken : tie.Need-enum-known-taken
 enum-known-taken c = search needs
 
+cast-hand-over : tie.Need-cast-hand-over
+cast-hand-over c = search needs
+
 hand-over-requires : tie.Need-hand-over-requires
 hand-over-requires c κs =
-    let at-taken = c .before .before in
+    let at-taken = c .before .before .before in
     let at-take-buffered = at-taken .before .before in
     let at-rx-cap = at-take-buffered .before in
     let start = at-rx-cap .before .before .before .before .before .before .before in
@@ -28,7 +31,7 @@ hand-over-requires c κs =
 
 store-slot-requires : tie.Need-store-slot-requires
 store-slot-requires c κs =
-    let start = c .before .before .before .before .before .before .before .before .before .before .before .before .before .before .before .before in
+    let start = c .before .before .before .before .before .before .before .before .before .before .before .before .before .before .before .before .before in
     slot-fits (start .args .state .now) (start .args .rx .now) (start .args .store .now) 56 (start .args .h) (start .pre .1) (start .pre .0)
     (start .args .ch) (start .pre .2)
 
@@ -60,7 +63,7 @@ returns : tie.Need-returns
 returns c =
     let at-store-slot = c .before .before in
     let at-hand-over = at-store-slot .before .before .before .before in
-    let at-taken = at-hand-over .before .before .before in
+    let at-taken = at-hand-over .before .before .before .before in
     let at-take-buffered = at-taken .before .before in
     let at-rx-cap = at-take-buffered .before in
     let start = at-rx-cap .before .before .before .before .before .before .before in
@@ -106,6 +109,7 @@ take-there-spec =
     rx-cap-requires
     take-buffered-requires
     enum-known-taken
+    cast-hand-over
     hand-over-requires
     store-slot-requires
     enum-told

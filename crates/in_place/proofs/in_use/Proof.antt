@@ -66,6 +66,10 @@ vals = LL.vals S.the-type S′.the-laws
 abbrev word : Ty
 word = tyInt w64
 
+-- the bytes of a slot in storage
+abbrev slot-size : ℕ
+slot-size = 48
+
 abbrev slice : Ty
 slice = sliceTy (tyRef (named 0) imm (pointee (S.the-row .written)))
 
@@ -109,7 +113,7 @@ module _ {M : Type 1} (𝓤 : URA M) (H : Heap 𝓤) (A : Atoms 𝓤) (W : Given
       nothing ! $ move ! (1 ∷ 0 ∷ []) $ join ! $ nothing ! $ move ! (2 ∷ 0 ∷ []) $ fjoin ! $ move ! (1 ∷ 0 ∷ []) $ frame ! $ frame ! $
       owned ! usize (Is usize) (uint-makes 𝓤 H A W w64) u _ (refl, g) $ done !
 
-  -- n slots of 64 bytes have room: so a count of them and the place of each is a usize
+  -- n slots have room: so a count of them and the place of each is a usize
   module _ (𝓣 : Tables 𝓤 H) (q′ : Share) (g : Room S.the-row n) (l₀ l₁ l₂ l₃ l₄ l₅ l₆ : ℕ) where
     abbrev C : Calls 𝓤 H
     C = 𝓣 .C
@@ -162,7 +166,7 @@ module _ {M : Type 1} (𝓤 : URA M) (H : Heap 𝓤) (A : Atoms 𝓤) (W : Given
         rewrite ! 4 (λ (y : Bool). ‵ (fat fullShare tyBool l₅ 0 (vbool y))) e refl $ stays ! (load ! (from ! (stop !)) (look ! 4 refl)) $
         assigns ! (bin ! (load ! (from ! (stop !)) (look ! 2 refl)) (lit ! tt) (record { fits = place-fits })) (from ! (stop !)) (store ! 3 refl (tt, record { fits = place-fits })) $
         assigns ! (bin ! (load ! (from ! (fld ! refl (stop !))) (look-in ! 6 (sub ! 0 refl (whole !)))) (load ! (from ! (stop !)) (look ! 3 refl)) tt) (from ! (stop !)) (init ! 5 refl (tt, tt)) $
-        rewrite ! 5 (λ (p : ℕ). ‵ (fat fullShare tyPtr l₆ 0 (vptr b p))) (sym (place-is 64 o (t .place))) refl $
+        rewrite ! 5 (λ (p : ℕ). ‵ (fat fullShare tyPtr l₆ 0 (vptr b p))) (sym (place-is slot-size o (t .place))) refl $
         elem-out ! S.the-row (Is S.the-row) (shows 𝓤 H A S.the-row) vals (LL.tells S.the-type S′.the-laws) q′ ys (t .place) emptySlot b o h (λ _.
         -- [slots[i]; what it owns; the others; _2; _3; _4; _5; _6; …]
         assigns ! (of-opd ! (load ! (from ! (hop ! (look ! 7 refl) (fld ! refl (stop !)))) (look-in ! 0 (sub ! 0 refl (whole !))))) (from ! (stop !)) (store ! 6 refl (tt, tt)) $
@@ -175,7 +179,7 @@ module _ {M : Type 1} (𝓤 : URA M) (H : Heap 𝓤) (A : Atoms 𝓤) (W : Given
         h : t .place < n
         h = ltb-true (t .place) n e
 
-        place-fits : t .place * 64 < 2 ^ 64
+        place-fits : t .place * slot-size < 2 ^ 64
         place-fits = let z = g .1 in omega arith
 
         used-fits : t .used + 1 < 2 ^ 64

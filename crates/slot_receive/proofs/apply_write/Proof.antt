@@ -1,8 +1,9 @@
+use Rattle.rx_store.proofs.Laws.{head-appended}
 use Rattle.slot.proofs.Laws.{wrote-now, wrote-hold}
 use native.Mathlib.Omega.{arith}
 use borrow.Author.Tests.{lt-ltb}
 use mathlib.Core.Path.{sym, _∙_}
-use Prim.Native.Nat.{_+_}
+use Prim.Native.Nat.{_+_, _*_}
 use Rattle.slot.specs.Slot.{heldOf, wroteOf}
 use borrow.Author.Needs.{needs}
 use Rattle.slot_receive.proofs.apply_write.Statement.{statement}
@@ -34,15 +35,32 @@ returns-2 c =
           (heldOf (start .args .slot) + start .args .n) (omega arith),
     )
 
+cast-buffered : tie.Need-cast-buffered
+cast-buffered c = search needs
+
 mul-appended-head : tie.Need-mul-appended-head
 mul-appended-head c = search needs
+
+cast-appended-head : tie.Need-cast-appended-head
+cast-appended-head c = search needs
 
 appended-head-requires : tie.Need-appended-head-requires
 unfolding heldOf
 appended-head-requires c κs = record { run-fits = omega arith; more-fits = omega arith }
 
-add-buffered : tie.Need-add-buffered
-add-buffered c = search needs
+cast-head : tie.Need-cast-head
+unfolding heldOf
+cast-head c =
+    let start = c .before .before .before .before .before .before .before .before .before in
+    let r = head-appended (2 * start .args .policy .«rx_cap») (start .args .slot .head) (start .args .slot .buffered) (start .args .n)
+    (record { run-fits = omega arith; more-fits = omega arith }) in
+    record { fits = omega arith }
+
+add-more : tie.Need-add-more
+add-more c = search needs
+
+cast-more : tie.Need-cast-more
+cast-more c = search needs
 
 add-acks-now : tie.Need-add-acks-now
 add-acks-now c = search needs
@@ -57,13 +75,14 @@ returns-3 : tie.Need-returns-3
 unfolding heldOf
 returns-3 c =
     let at-acks-now = c .before .before in
-    let at-appended-head = at-acks-now .before .before in
-    let at-held = at-appended-head .before .before .before .before in
+    let at-appended-head = at-acks-now .before in
+    let at-if2 = at-appended-head .before .before .before .before in
+    let at-held = at-if2 .before .before in
     let at-if1 = at-held .before in
     let at-is-opening = at-if1 .before in
     let start = at-is-opening .before in
     wrote-now (start .args .slot) (start .args .policy) (start .args .n) (c .with-numbers .result) (at-appended-head .appended-head .result)
-    (at-held .held .result) (at-acks-now .acks-now .result) (sym (at-is-opening .is-opening .ensures) ∙ at-if1 .if1 .left) (omega arith)
+    (at-held .held .result) (at-acks-now .acks-now .result) (sym (at-is-opening .is-opening .ensures) ∙ at-if1 .if1 .left) (omega (arith, at-held .held .ensures, at-if2 .if2 .left, start .pre .held-cap))
     (at-held .held .ensures) (at-acks-now .acks-now .ensures) (at-appended-head .appended-head .ensures) (c .before .if3 .taken)
     (c .with-numbers .ensures)
 
@@ -78,13 +97,14 @@ unfolding heldOf
 returns-4 c =
     let at-if3 = c .before .before in
     let at-acks-now = at-if3 .before in
-    let at-appended-head = at-acks-now .before .before in
-    let at-held = at-appended-head .before .before .before .before in
+    let at-appended-head = at-acks-now .before in
+    let at-if2 = at-appended-head .before .before .before .before in
+    let at-held = at-if2 .before .before in
     let at-if1 = at-held .before in
     let at-is-opening = at-if1 .before in
     let start = at-is-opening .before in
     wrote-hold (start .args .slot) (start .args .policy) (start .args .n) (c .with-numbers2 .result) (at-appended-head .appended-head .result)
-    (at-held .held .result) (at-acks-now .acks-now .result) (sym (at-is-opening .is-opening .ensures) ∙ at-if1 .if1 .left) (omega arith)
+    (at-held .held .result) (at-acks-now .acks-now .result) (sym (at-is-opening .is-opening .ensures) ∙ at-if1 .if1 .left) (omega (arith, at-held .held .ensures, at-if2 .if2 .left, start .pre .held-cap))
     (at-held .held .ensures) (at-acks-now .acks-now .ensures) (at-appended-head .appended-head .ensures) (c .before .sat-sum .result)
     (at-if3 .if3 .left) (c .before .sat-sum .ensures) (c .with-numbers2 .ensures)
 
@@ -97,9 +117,13 @@ apply-write-spec =
     held-requires
     sub-if2
     returns-2
+    cast-buffered
     mul-appended-head
+    cast-appended-head
     appended-head-requires
-    add-buffered
+    cast-head
+    add-more
+    cast-more
     add-acks-now
     acks-now-requires
     with-numbers-requires

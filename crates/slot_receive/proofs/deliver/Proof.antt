@@ -20,6 +20,9 @@ returns-2 : tie.Need-returns-2
 unfolding deliveredOf
 returns-2 c = rw (c .before .if1 .taken, c .if2 .left)
 
+cast-if3 : tie.Need-cast-if3
+cast-if3 c = search needs
+
 returns-3 : tie.Need-returns-3
 unfolding deliveredOf
 returns-3 c =
@@ -54,6 +57,7 @@ deliver-spec =
     some-len-requires
     returns
     returns-2
+    cast-if3
     returns-3
     with-numbers-requires
     returns-4

@@ -5,6 +5,9 @@ use borrow.Author.Needs.{needs}
 use Rattle.slot_receive.proofs.settle_some.Statement.{statement}
 use Rattle.slot_receive.proofs.settle_some.Tie as tie
 
+cast-ack-len : tie.Need-cast-ack-len
+cast-ack-len c = search needs
+
 sub-ack-len : tie.Need-sub-ack-len
 sub-ack-len c = search needs
 
@@ -24,6 +27,9 @@ sub-with-numbers c =
     let start = at-ack-len .before .before in
     ack-small (start .args .slot) (start .args .policy) (start .args .n) _ _ (sym (at-ack-len .ack-len .ensures) ∙ at-ack .ack .given .1)
 
+cast-with-numbers : tie.Need-cast-with-numbers
+cast-with-numbers c = search needs
+
 with-numbers-requires : tie.Need-with-numbers-requires
 with-numbers-requires c κs = search needs
 
@@ -42,11 +48,13 @@ pub settle-some-spec : {M : Type 1} → statement M
 settle-some-spec =
     tie.close
     (tie.spec
+    cast-ack-len
     sub-ack-len
     ack-len-requires
     enum-told
     enum-known-ack
     sub-with-numbers
+    cast-with-numbers
     with-numbers-requires
     returns
     returns-2)

@@ -6,6 +6,9 @@ use borrow.Author.Needs.{needs}
 use Rattle.slot_receive.proofs.settle_take.Statement.{statement}
 use Rattle.slot_receive.proofs.settle_take.Tie as tie
 
+cast-least : tie.Need-cast-least
+cast-least c = search needs
+
 least-requires : tie.Need-least-requires
 least-requires c κs = search needs
 
@@ -15,7 +18,7 @@ settle-some-requires c κs = search needs
 returns : tie.Need-returns
 unfolding settledOf
 returns c =
-    let at-if2 = c .before .before in
+    let at-if2 = c .before .before .before in
     let at-if1 = at-if2 .before .before in
     let start = at-if1 .before in
     c .settle-some .ensures ∙ ap (settledSome (start .args .slot) (start .args .policy)) (c .before .least .ensures) ∙ sym
@@ -23,7 +26,10 @@ returns c =
 
 returns-2 : tie.Need-returns-2
 unfolding settledOf
-returns-2 c = rw (c .before .before .if1 .taken, ne-eqb (c .before .before .before .args .slot .settled) 0 (c .if2 .left))
+returns-2 c =
+    let at-if1 = c .before .before in
+    let start = at-if1 .before in
+    rw (at-if1 .if1 .taken, ne-eqb (start .args .slot .settled) 0 (c .if2 .left))
 
 returns-3 : tie.Need-returns-3
 unfolding settledOf
@@ -31,4 +37,4 @@ returns-3 c = rw (c .if1 .left)
 
 pub settle-take-spec : {M : Type 1} → statement M
 settle-take-spec =
-    tie.close (tie.spec least-requires settle-some-requires returns returns-2 returns-3)
+    tie.close (tie.spec cast-least least-requires settle-some-requires returns returns-2 returns-3)

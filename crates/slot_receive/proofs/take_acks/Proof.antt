@@ -8,6 +8,9 @@ use Rattle.slot_receive.proofs.take_acks.Tie as tie
 has-data-requires : tie.Need-has-data-requires
 has-data-requires c κs = search needs
 
+cast-buffered : tie.Need-cast-buffered
+cast-buffered c = search needs
+
 least-requires : tie.Need-least-requires
 least-requires c κs = search needs
 
@@ -22,7 +25,12 @@ is-ack-requires c κs = search needs
 
 returns : tie.Need-returns
 unfolding takeAcks
-returns c = rw (sym (c .before .before .before .before .before .before .before .has-data .ensures) ∙ c .before .before .before .before .before .before .if1 .taken, eq-eqb (c .before .before .before .before .before .before .before .before .args .slot .settled) 0 (c .before .before .before .before .if2 .taken)) (cc)
+returns c =
+    let at-if2 = c .before .before .before .before in
+    let at-if1 = at-if2 .before .before in
+    let at-has-data = at-if1 .before in
+    let start = at-has-data .before in
+    rw (sym (at-has-data .has-data .ensures) ∙ at-if1 .if1 .taken, eq-eqb (start .args .slot .settled) 0 (at-if2 .if2 .taken)) (cc)
 
 returns-2 : tie.Need-returns-2
 unfolding takeAcks
@@ -41,6 +49,7 @@ take-acks-spec =
     tie.close
     (tie.spec
     has-data-requires
+    cast-buffered
     least-requires
     sub-ack-len
     ack-len-requires

@@ -13,11 +13,16 @@ take-len-requires : tie.Need-take-len-requires
 take-len-requires c κs = search needs
 
 took-requires : tie.Need-took-requires
-took-requires c κs = (c .before .before .before .pre, rw (c .take-len .ensures) (take-held (c .before .before .before .args .slot) (c .before .before .before .args .room) (omega arith)))
+took-requires c κs =
+    let start = c .before .before .before in
+    (start .pre, rw (c .take-len .ensures) (take-held (start .args .slot) (start .args .room) (omega arith)))
 
 returns : tie.Need-returns
 unfolding takenOf
-returns c = rw (sym (c .before .before .before .has-data .ensures) ∙ c .before .before .if1 .taken) (cc)
+returns c =
+    let at-if1 = c .before .before in
+    let at-has-data = at-if1 .before in
+    rw (sym (at-has-data .has-data .ensures) ∙ at-if1 .if1 .taken) (cc)
 
 is-closed-requires : tie.Need-is-closed-requires
 is-closed-requires c κs = search needs

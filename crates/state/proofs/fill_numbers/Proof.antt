@@ -21,20 +21,13 @@ put-i64-requires c κs = search needs
 put-usize-requires : tie.Need-put-usize-requires
 put-usize-requires c κs = search needs
 
-put-usize-requires-2 : tie.Need-put-usize-requires-2
-put-usize-requires-2 c κs = search needs
-
-put-usize-requires-3 : tie.Need-put-usize-requires-3
-put-usize-requires-3 c κs = search needs
-
-put-usize-requires-4 : tie.Need-put-usize-requires-4
-put-usize-requires-4 c κs = search needs
-
 same-length : tie.Need-same-length
 same-length c = search needs
 
 returns : tie.Need-returns
-returns c = cc (numbers-put (c .before .before .before .before .before .before .before .before .before .before .before .before .before .before .before .before .before .before .before .before .before .before .before .before .before .before .before .before .before .before .args .p .now) (c .before .before .before .before .before .before .before .before .before .before .before .before .before .before .before .before .before .before .before .before .before .before .before .before .before .before .before .before .before .before .args .s) (c .before .before .before .before .before .before .before .before .before .before .before .before .before .before .before .before .before .before .before .before .before .before .before .before .before .before .before .before .before .before .pre), toZ-ofZ (budget-fits (c .before .before .before .before .before .before .before .before .before .before .before .before .before .before .before .before .before .before .before .before .before .before .before .before .before .before .before .before .before .before)))
+returns c =
+    let start = c .before .before .before .before .before .before .before .before .before .before .before .before .before .before .before .before .before .before in
+    cc (numbers-put (start .args .p .now) (start .args .s) (start .pre), toZ-ofZ (budget-fits start))
 
 pub fill-numbers-spec : {M : Type 1} → statement M
 fill-numbers-spec =
@@ -44,8 +37,5 @@ fill-numbers-spec =
     put-u32-requires-2
     put-i64-requires
     put-usize-requires
-    put-usize-requires-2
-    put-usize-requires-3
-    put-usize-requires-4
     same-length
     returns)

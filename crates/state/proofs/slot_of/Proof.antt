@@ -32,14 +32,14 @@ get-i64-requires c κs = search needs
 get-usize-requires : tie.Need-get-usize-requires
 get-usize-requires c κs = search needs
 
-get-usize-requires-2 : tie.Need-get-usize-requires-2
-get-usize-requires-2 c κs = search needs
+get-u32-requires-3 : tie.Need-get-u32-requires-3
+get-u32-requires-3 c κs = search needs
 
-get-usize-requires-3 : tie.Need-get-usize-requires-3
-get-usize-requires-3 c κs = search needs
+get-u32-requires-4 : tie.Need-get-u32-requires-4
+get-u32-requires-4 c κs = search needs
 
-get-usize-requires-4 : tie.Need-get-usize-requires-4
-get-usize-requires-4 c κs = search needs
+get-u32-requires-5 : tie.Need-get-u32-requires-5
+get-u32-requires-5 c κs = search needs
 
 failed-of-requires : tie.Need-failed-of-requires
 failed-of-requires c κs = search needs
@@ -61,8 +61,8 @@ slot-of-spec =
     flag-requires-3
     get-i64-requires
     get-usize-requires
-    get-usize-requires-2
-    get-usize-requires-3
-    get-usize-requires-4
+    get-u32-requires-3
+    get-u32-requires-4
+    get-u32-requires-5
     failed-of-requires
     returns)

@@ -43,26 +43,41 @@ fault-requires-2 c κs = search needs
 enum-told-3 : tie.Need-enum-told-3
 enum-told-3 c = search needs
 
+cast-buffer : tie.Need-cast-buffer
+cast-buffer c = search needs
+
+cast-buffer-2 : tie.Need-cast-buffer-2
+cast-buffer-2 c = search needs
+
 buffer-requires : tie.Need-buffer-requires
 buffer-requires c κs =
-    let at-apply-write = c .before .before .before .before in
+    let at-enum-told3 = c .before .before .before in
+    let at-apply-write = at-enum-told3 .before .before .before in
     let at-slot-at = at-apply-write .before .before .before in
     let start = at-slot-at .before .before .before .before .before in (
       start .pre .share-fits,
       room-held (start .args .state .now) (start .args .i) (at-slot-at .slot-at .result) (start .args .policy) _
           (at-apply-write .apply-write .result) (at-slot-at .slot-at .ensures) (at-apply-write .apply-write .ensures) (start .pre .sound)
-          (c .before .enum-told3 .given .1),
+          (at-enum-told3 .enum-told3 .given .1),
     )
 
 put-slot-requires : tie.Need-put-slot-requires
-put-slot-requires c κs = search needs
+put-slot-requires c κs =
+    let start = c .before .before .before .before .before .before .before .before .before .before .before .before .before .before .before .before .before .before in
+    (start .pre .place-fits, start .pre .state-fits)
 
 enum-known-decision : tie.Need-enum-known-decision
 enum-known-decision c = search needs
 
+cast-buffer-3 : tie.Need-cast-buffer-3
+cast-buffer-3 c = search needs
+
+cast-buffer-4 : tie.Need-cast-buffer-4
+cast-buffer-4 c = search needs
+
 buffer-requires-2 : tie.Need-buffer-requires-2
 buffer-requires-2 c κs =
-    let at-decision = c .before .before in
+    let at-decision = c .before .before .before .before in
     let at-apply-write = at-decision .before .before .before in
     let at-slot-at = at-apply-write .before .before .before in
     let start = at-slot-at .before .before .before .before .before in (
@@ -73,7 +88,9 @@ buffer-requires-2 c κs =
     )
 
 put-slot-requires-2 : tie.Need-put-slot-requires-2
-put-slot-requires-2 c κs = search needs
+put-slot-requires-2 c κs =
+    let start = c .before .before .before .before .before .before .before .before .before .before .before .before .before .before .before .before .before .before .before in
+    (start .pre .place-fits, start .pre .state-fits)
 
 same-length-2 : tie.Need-same-length-2
 same-length-2 c = search needs
@@ -115,7 +132,7 @@ returns-4 : tie.Need-returns-4
 returns-4 c =
     let at-put-slot = c .before .before in
     let at-buffer = at-put-slot .before .before .before .before in
-    let at-enum-told3 = at-buffer .before .before in
+    let at-enum-told3 = at-buffer .before .before .before .before in
     let at-apply-write = at-enum-told3 .before .before .before in
     let at-if1 = at-apply-write .before in
     let at-is-failed = at-if1 .before in
@@ -136,7 +153,7 @@ returns-5 : tie.Need-returns-5
 returns-5 c =
     let at-put-slot2 = c .before .before .before .before in
     let at-buffer2 = at-put-slot2 .before .before .before .before in
-    let at-decision = at-buffer2 .before .before .before in
+    let at-decision = at-buffer2 .before .before .before .before .before in
     let at-apply-write = at-decision .before .before .before in
     let at-if1 = at-apply-write .before in
     let at-is-failed = at-if1 .before in
@@ -161,9 +178,13 @@ write-at-spec =
     enum-told-2
     fault-requires-2
     enum-told-3
+    cast-buffer
+    cast-buffer-2
     buffer-requires
     put-slot-requires
     enum-known-decision
+    cast-buffer-3
+    cast-buffer-4
     buffer-requires-2
     put-slot-requires-2
     same-length-2
