@@ -101,6 +101,7 @@ struct peer {
     uint64_t owed;                /* delayed: bytes to acknowledge; classic: 1 if an OKAY is owed */
     /* both */
     uint64_t total_in, total_out; /* bytes that the host is to read and to write */
+    uint64_t allowed;             /* what the host's OKAYs allowed the device, as adb_numbers tells it */
     uint64_t key_in, key_out;
 };
 
@@ -513,6 +514,16 @@ static void drain(void)
     }
 }
 
+/* What a screen shows of a channel: all that the device sent is read, so our OKAYs allowed it that much again. */
+static void host_shows(struct peer *p, uint32_t want)
+{
+    const uint32_t said = adb_numbers(state.at, state.len, rx.at, rx.len, opens.at, opens.len, p->slot, p->local, answer.at, answer.len);
+    if (said != want) die("a channel's numbers", said, want);
+    p->allowed = adb_answer_acked_total(answer.at);
+    if (p->allowed != (delayed ? p->sent : 0)) die("what the device was allowed", p->allowed, p->sent);
+    if (adb_answer_buffered(answer.at) || adb_answer_unacked(answer.at)) die("bytes left at the end", adb_answer_buffered(answer.at), adb_answer_unacked(answer.at));
+}
+
 /* Every other channel is closed by the device, which a read tells after the last byte; then the host closes all. */
 static void finish(void)
 {
@@ -535,7 +546,9 @@ static void finish(void)
             } while (said == ADB_WAITING);
             if (said != ADB_REFUSED_CHANNEL_CLOSED) die("a read after the last byte", said, 0);
         }
+        host_shows(p, i % 2 ? ADB_CLOSED : ADB_DONE);
         host_closes(p);
+        if (adb_le64(state.at + ADB_STATE_SLOT(p->slot) + ADB_STATE_SLOT_ACKED_TOTAL) != p->allowed) die("the total after closing", p->allowed, 0);
     }
     drain();
     while (host_takes_front() == ADB_DONE) {}
@@ -601,6 +614,8 @@ int main(int argc, char **argv)
         ((d.bytes_in + d.bytes_out) * 1000000000u >> 20) / (d.ns + 1));
     row("ms in all, the device's half with it", c.wall / 1000000, d.wall / 1000000);
     if (path) row("frames in the capture", c.captured, d.captured);
+    printf("bytes that our OKAYs allowed the device, each channel, delayed (0 in classic):\n");
+    for (int i = 0; i < PEERS; i++) printf("%10" PRIu64 "%s", peers[i].allowed, i % 8 == 7 || i == PEERS - 1 ? "\n" : " ");
     if (capture && fclose(capture)) die("the capture cannot be written", 0, 0);
     return 0;
 }

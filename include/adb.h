@@ -33,6 +33,7 @@
  *   adb_write           state, rx, opens, out, answer
  *   adb_close           state, out, answer
  *   adb_take_front      state, answer
+ *   adb_numbers         answer
  * Of `out` and `buf` only the bytes counted in the answer change.
  *
  * Refusals ahead of a call's steps, in this order; they change nothing but the answer:
@@ -87,6 +88,7 @@
 #define ADB_DONE 0      /* the call reached its end */
 #define ADB_WAITING 100 /* the frame is incomplete (0 used), or one packet was handled and the call's end has not come */
 #define ADB_NONE 101    /* adb_take: nothing is buffered; adb_take_front: no open is queued */
+#define ADB_CLOSED 102  /* adb_numbers: the numbers of a channel that the device closed */
 
 /* Refusals. Nothing is used, written or changed unless said. A read may have written its channel's OKAY first. */
 #define ADB_REFUSED_INVALID_COMMAND 1      /* the header's command is none of the eight; value 0 is the word */
@@ -107,7 +109,7 @@
 
 /* ---- lengths */
 
-#define ADB_STATE_LEN 3962
+#define ADB_STATE_LEN 4474
 #define ADB_ANSWER_LEN 48
 #define ADB_HEADER_LEN 24 /* of a frame */
 #define ADB_OUT_MIN 56    /* of an outgoing buffer */
@@ -193,6 +195,27 @@ static inline uint32_t adb_answer_word(const uint8_t *answer)
     return (uint32_t)adb_answer_value(answer, 0);
 }
 
+/* adb_numbers, ADB_DONE or ADB_CLOSED: what the channel's OKAYs allowed the device, which stops at UINT64_MAX and is 0 where
+ * acknowledgements are not delayed; bytes waiting to be read; bytes that the device has had no OKAY for; and bytes that may still be
+ * sent. */
+static inline uint64_t adb_answer_acked_total(const uint8_t *answer)
+{
+    return adb_answer_value(answer, 0);
+}
+static inline uint64_t adb_answer_buffered(const uint8_t *answer)
+{
+    return adb_answer_value(answer, 1);
+}
+static inline uint64_t adb_answer_unacked(const uint8_t *answer)
+{
+    return adb_answer_value(answer, 2);
+}
+static inline int64_t adb_answer_send_budget(const uint8_t *answer)
+{
+    const uint64_t v = adb_answer_value(answer, 3);
+    return v >> 63 ? -(int64_t)(UINT64_MAX - v) - 1 : (int64_t)v;
+}
+
 /* adb_take_front, ADB_DONE: the device's number and credit, where in `opens` its destination is, and how long it is. */
 static inline uint32_t adb_answer_remote(const uint8_t *answer)
 {
@@ -231,16 +254,17 @@ static inline size_t adb_answer_destination_len(const uint8_t *answer)
 
 /* Slot i, 0 to 63, begins at ADB_STATE_SLOT(i); its fields count from there. */
 #define ADB_STATE_SLOTS 58
-#define ADB_STATE_SLOT_LEN 37
+#define ADB_STATE_SLOT_LEN 45
 #define ADB_STATE_SLOT(i) (ADB_STATE_SLOTS + (size_t)(i) * ADB_STATE_SLOT_LEN)
 #define ADB_STATE_SLOT_LOCAL 0     /* 4 */
 #define ADB_STATE_SLOT_REMOTE 4    /* 4 */
 #define ADB_STATE_SLOT_BUDGET 8    /* 8: two's complement */
 #define ADB_STATE_SLOT_UNACKED 16  /* 8 */
-#define ADB_STATE_SLOT_SETTLED 24  /* 4: bytes set aside */
-#define ADB_STATE_SLOT_HEAD 28     /* 4: where the buffered bytes begin in the share */
-#define ADB_STATE_SLOT_BUFFERED 32 /* 4 */
-#define ADB_STATE_SLOT_TAG 36      /* 1: the flags below; bits 3, 4: state (0 opening, 1 open, 2 closed); bits 5 to 7: fault */
+#define ADB_STATE_SLOT_ACKED_TOTAL 24 /* 8: what our OKAYs allowed the device; stays when the channel is closed */
+#define ADB_STATE_SLOT_SETTLED 32  /* 4: bytes set aside */
+#define ADB_STATE_SLOT_HEAD 36     /* 4: where the buffered bytes begin in the share */
+#define ADB_STATE_SLOT_BUFFERED 40 /* 4 */
+#define ADB_STATE_SLOT_TAG 44      /* 1: the flags below; bits 3, 4: state (0 opening, 1 open, 2 closed); bits 5 to 7: fault */
 #define ADB_TAG_FILLED 1
 #define ADB_TAG_HAS_REMOTE 2
 #define ADB_TAG_WRTE_ACKED 4
@@ -248,7 +272,7 @@ static inline size_t adb_answer_destination_len(const uint8_t *answer)
 #define ADB_TAG_FAULT_SHIFT 5
 
 /* Queued open i of the device's, 0 to 63, begins at ADB_STATE_QUEUED_OPEN(i). */
-#define ADB_STATE_QUEUE 2426
+#define ADB_STATE_QUEUE 2938
 #define ADB_STATE_QUEUED_LEN 24
 #define ADB_STATE_QUEUED_OPEN(i) (ADB_STATE_QUEUE + (size_t)(i) * ADB_STATE_QUEUED_LEN)
 #define ADB_STATE_QUEUED_REMOTE 0 /* 4 */
@@ -317,6 +341,11 @@ uint32_t adb_close(uint8_t *state, size_t state_len, const uint8_t *rx, size_t r
  * with arg0 0 and arg1 the remote number. ADB_NONE: none is queued. */
 uint32_t adb_take_front(uint8_t *state, size_t state_len, const uint8_t *rx, size_t rx_len, const uint8_t *opens,
                         size_t opens_len, uint8_t *answer, size_t answer_len);
+
+/* A channel's numbers, for a screen: nothing changes, and a pending open stays. ADB_DONE: it is open. ADB_CLOSED: the device closed
+ * it. Both: what our OKAYs allowed the device, bytes buffered, bytes unacknowledged, the send budget. */
+uint32_t adb_numbers(const uint8_t *state, size_t state_len, const uint8_t *rx, size_t rx_len, const uint8_t *opens, size_t opens_len,
+                     size_t slot, uint32_t local, uint8_t *answer, size_t answer_len);
 
 #ifdef __cplusplus
 }

@@ -119,7 +119,7 @@ static size_t opens_need(const uint8_t *s)
 
 /* ---- the calls */
 
-enum kind { OPEN, DISPATCH, SETTLE, TAKE, READ, WRITE, CLOSE, FRONT };
+enum kind { OPEN, DISPATCH, SETTLE, TAKE, READ, WRITE, CLOSE, FRONT, NUMBERS };
 
 struct call {
     const char *name;
@@ -131,7 +131,7 @@ struct call {
     size_t received_len;
 };
 
-#define MAX_CALLS 24
+#define MAX_CALLS 32
 static struct call calls[MAX_CALLS];
 static int call_count;
 static const struct call *running;
@@ -143,9 +143,9 @@ static void fault(const char *what, uint64_t a, uint64_t b)
     exit(1);
 }
 
-static int has_out(enum kind k) { return k != TAKE && k != FRONT; }
+static int has_out(enum kind k) { return k != TAKE && k != FRONT && k != NUMBERS; }
 static int has_buf(enum kind k) { return k == TAKE || k == READ; }
-static int keeps_stores(enum kind k) { return k == SETTLE || k == TAKE || k == CLOSE || k == FRONT; }
+static int keeps_stores(enum kind k) { return k == SETTLE || k == TAKE || k == CLOSE || k == FRONT || k == NUMBERS; }
 
 #define OF(b) ptr(b), len[b]
 
@@ -162,6 +162,7 @@ static uint32_t make_call(const struct call *c)
         return adb_write(OF(STATE), OF(RX), OF(OPENS), c->slot, c->local, OF(DATA), OF(RECEIVED), OF(OUTGOING), OF(ANSWER));
     case CLOSE: return adb_close(OF(STATE), OF(RX), OF(OPENS), c->slot, c->local, OF(OUTGOING), OF(ANSWER));
     case FRONT: return adb_take_front(OF(STATE), OF(RX), OF(OPENS), OF(ANSWER));
+    case NUMBERS: return adb_numbers(OF(STATE), OF(RX), OF(OPENS), c->slot, c->local, OF(ANSWER));
     }
     return NONE;
 }
@@ -215,7 +216,7 @@ static uint32_t checked(const struct call *c, int late)
         return said;
     }
     count_on++;
-    if (said > ADB_REFUSED_BROKEN_STATE && said != ADB_WAITING && said != ADB_NONE && said != ADB_REFUSED_LONG_READY_PAYLOAD &&
+    if (said > ADB_REFUSED_BROKEN_STATE && said != ADB_WAITING && said != ADB_NONE && said != ADB_CLOSED && said != ADB_REFUSED_LONG_READY_PAYLOAD &&
         said != ADB_REFUSED_NEGATIVE_CREDIT)
         fault("no such answer", said, 0);
     if (said == ADB_REFUSED_BAD_CONFIG) fault("refused by 7", said, 0);
@@ -229,7 +230,7 @@ static uint32_t checked(const struct call *c, int late)
     if (keeps_stores(c->kind) && (!same(RX, 0) || !same(OPENS, 0))) fault("a store that the call only reads", said, 0);
     one_share(RX, rx_need(before[STATE]), 2 * cap_of(before[STATE]));
     one_share(OPENS, opens_need(before[STATE]), adb_le32(before[STATE] + ADB_STATE_MAX_PAYLOAD));
-    if (!same(STATE, ADB_STATE_LEN)) fault("bytes past the state", said, 0);
+    if (!same(STATE, c->kind == NUMBERS ? 0 : ADB_STATE_LEN)) fault("bytes of the state that the call only reads", said, 0);
     /* What adb_make settled stays. */
     if (memcmp(at(STATE), before[STATE], ADB_STATE_PENDING_SLOT) ||
         memcmp(at(STATE) + ADB_STATE_MAX_PAYLOAD, before[STATE] + ADB_STATE_MAX_PAYLOAD,
@@ -361,6 +362,8 @@ static void build(int with_delayed, int waiting)
     add("close", CLOSE, 1, 2, 0);
     add("close, no such channel", CLOSE, 5, 9, 0);
     add("take_front", FRONT, 0, 0, 0);
+    add("numbers", NUMBERS, 0, 1, 0);
+    add("numbers of a closed channel", NUMBERS, 2, 3, 0);
     if (call_count > MAX_CALLS) fault("calls", (uint64_t)call_count, 0);
 }
 

@@ -33,7 +33,7 @@ extern "C" {
     ) -> u32;
 }
 
-const STATE_LEN: usize = 3962;
+const STATE_LEN: usize = 4474;
 const DONE: u32 = 0;
 const WAITING: u32 = 100;
 const NONE: u32 = 101;

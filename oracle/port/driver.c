@@ -266,6 +266,28 @@ int main(void)
             printf("error no_connection used=0 out=- got=-");
         } else if (!strcmp(call, "in_use")) {
             printf("in_use n=%zu used=0 out=- got=-", in_use());
+        } else if (!strcmp(call, "totals")) {
+            const char *before = "totals ";
+            for (size_t i = 0; i < ADB_MAX_CHANNELS; i++)
+                if (size_at(ADB_STATE_SLOT(i) + ADB_STATE_SLOT_ACKED_TOTAL)) {
+                    printf("%s%zu:%" PRIu64, before, i, size_at(ADB_STATE_SLOT(i) + ADB_STATE_SLOT_ACKED_TOTAL));
+                    before = ";";
+                }
+            printf("%s used=0 out=- got=-", *before == ';' ? "" : "totals -");
+        } else if (!strcmp(call, "numbers")) {
+            const size_t slot = NUM;
+            const uint32_t local = (uint32_t)NUM;
+            struct lent a = lend(ADB_ANSWER_LEN, 0x77);
+            const uint64_t was = hash(&state) ^ hash(&rx) ^ hash(&opens);
+            const uint32_t code = adb_numbers(LENT, slot, local, OF(a));
+            if (code == ADB_DONE || code == ADB_CLOSED)
+                printf("numbers %s total=%" PRIu64 " buffered=%" PRIu64 " unacked=%" PRIu64 " budget=%" PRId64, code == ADB_CLOSED ? "closed" : "open",
+                       adb_answer_acked_total(a.at), adb_answer_buffered(a.at), adb_answer_unacked(a.at), adb_answer_send_budget(a.at));
+            else printf("refused %" PRIu32, code);
+            if (adb_answer_used(a.at) || adb_answer_written(a.at)) fault("a call that only looks used or wrote");
+            if ((hash(&state) ^ hash(&rx) ^ hash(&opens)) != was) fault("a call that only looks changed something");
+            printf(" used=0 out=- got=-");
+            back(&a, "answer");
         } else if (!strcmp(call, "set_next_local")) {
             const uint32_t n = (uint32_t)NUM;
             state.at[ADB_STATE_PENDING] = 0;

@@ -4,7 +4,7 @@ use Prim.Native.Nat.{ℕ}
 use Rattle.config.specs.declared.ConnectionConfig.{ConnectionConfig}
 use Rattle.table.specs.declared.ChannelId.{ChannelId}
 use Rattle.call_make.specs.Make.{makeIn, makeFrom}
-use Rattle.history.specs.Run.{openCall, dispatchCall, settleCall, takeCall, readCall, writeCall, closeCall, frontTaken}
+use Rattle.history.specs.Run.{openCall, dispatchCall, settleCall, takeCall, readCall, writeCall, closeCall, frontTaken, lookCall, numbersLook}
 use Rattle.adb.specs.Export.{worldOf, exported, Does, isYes, MakesState}
 
 -- a channel, by its slot and its local number
@@ -60,6 +60,11 @@ AdbCloseDoes state rx opens slot local out answer r state' out' answer' =
 abbrev pub AdbTakeFrontDoes : List ℕ → List ℕ → List ℕ → List ℕ → ℕ → List ℕ → List ℕ → Type 0
 AdbTakeFrontDoes state rx opens answer r state' answer' =
     Does (exported (worldOf state rx opens) frontTaken [] [] answer) r state' rx opens [] [] answer'
+
+-- what `adb_numbers` promises: it only looks
+abbrev pub AdbNumbersDoes : List ℕ → List ℕ → List ℕ → ℕ → ℕ → List ℕ → ℕ → List ℕ → Type 0
+AdbNumbersDoes state rx opens slot local answer r answer' =
+    Does (exported (worldOf state rx opens) (lookCall (numbersLook (channelOf slot local))) [] [] answer) r state rx opens [] [] answer'
 
 -- what `adb_make` promises
 abbrev pub AdbMakeDoes : List ℕ → ℕ → ℕ → ℕ → ℕ → ℕ → ℕ → ℕ → ℕ → ℕ → List ℕ → Type 0

@@ -5,6 +5,7 @@ use call_close::close;
 use call_dispatch::dispatch;
 use call_make::make;
 use call_make::make_from;
+use call_numbers::numbers;
 use call_open::open;
 use call_read::read;
 use call_settle::settle;
@@ -27,7 +28,7 @@ ghost use Rattle.connection.specs.Answer.{answerNumber, answerValues, ackLength
 ghost use Rattle.adb.specs.Export.{valuesIn, numbersOf, answerBytes, saidIn, isShort, isYes};
 ghost use Rattle.adb.specs.Promise.{AdbMakeFromCnxnDoes};
 ghost use Rattle.adb.specs.Promise.{AdbCloseDoes, AdbDispatchDoes, AdbMakeDoes, AdbOpenDoes, AdbReadDoes, AdbSettleDoes, AdbTakeDoes};
-ghost use Rattle.adb.specs.Promise.{AdbTakeFrontDoes, AdbWriteDoes};
+ghost use Rattle.adb.specs.Promise.{AdbTakeFrontDoes, AdbNumbersDoes, AdbWriteDoes};
 
 // An answer's four values.
 pub struct Values {
@@ -101,6 +102,12 @@ fn values_of(answer: Answer) -> Values
             b: credit as u64,
             c: place as u64,
             d: len as u64,
+        },
+        Answer::Numbers(_, total, buffered, unacked, budget) => Values {
+            a: total as u64,
+            b: buffered as u64,
+            c: unacked as u64,
+            d: budget,
         },
         Answer::Refused(refusal) => one(refusal_word(refusal)),
     }
@@ -329,6 +336,30 @@ pub extern "C" fn adb_take_front(
         return 8;
     }
     let reply = take_front(state, rx, opens);
+    answered(answer, reply)
+}
+
+// A channel's numbers: what our OKAYs allowed the device, bytes buffered and unacknowledged, the send budget. Nothing changes.
+#[no_mangle]
+pub extern "C" fn adb_numbers(
+    state: &[u8],
+    rx: &[u8],
+    opens: &[u8],
+    slot: usize,
+    local: u32,
+    answer: &mut [u8],
+) -> u32
+    ensures { λ r. ⌜ AdbNumbersDoes (now (state .entry)) (now (rx .entry)) (now (opens .entry)) slot local (now (answer .entry)) r
+        (now (answer .exit)) ⌝ }
+{
+    if is_short(state.len(), answer.len()) {
+        return 8;
+    }
+    let ch = ChannelId {
+        slot,
+        local: LocalId(local),
+    };
+    let reply = numbers(state, rx, opens, ch);
     answered(answer, reply)
 }
 

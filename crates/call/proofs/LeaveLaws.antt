@@ -33,7 +33,7 @@ use Rattle.call.specs.declared.act.ActedOn.{ActedOn}
 use Rattle.call.specs.declared.admit.Admitted.{Admitted}
 use Rattle.call.specs.declared.admit.Admitted.the-variants.{Yes, No}
 use Rattle.connection.specs.Act.{Acted}
-use Rattle.connection.specs.Calls.{dropped, Lent, Outcome, writtenBy, untouched, Work, begun, then, thenActed, ends, checked, checkedOut}
+use Rattle.connection.specs.Calls.{dropped, Lent, Outcome, writtenBy, looked, untouched, Work, begun, then, thenActed, ends, checked, checkedOut}
 use Rattle.connection.specs.Frames.{Frame, framesBytes}
 use Rattle.call.specs.Promise.{Begins, lentOf, agreedIn, Leaves, admitted, Admits, ActsOn}
 use Rattle.call.proofs.AdmitLaws.{whole-long}
@@ -195,11 +195,11 @@ leaves-on n w o o' at state out state₁ rx₁ store₁ out₁ end buf r state' 
 
 -- ---- the refusals ahead of every step
 
--- a refusal that changes nothing
-pub untouched-leaves : (n : Negotiated) (l : Lent) (x : Refusal) (state out buf : List ℕ) (r : Reply) → r ≡ record { answer = Refused x; used = 0; written = 0 }
-    → Leaves n (untouched l x) 0 state out buf r state (l .rx) (l .store) out buf
+-- an answer, and nothing changes
+pub looked-leaves : (n : Negotiated) (l : Lent) (a : Answer) (state out buf : List ℕ) (r : Reply) → r ≡ record { answer = a; used = 0; written = 0 }
+    → Leaves n (looked l a) 0 state out buf r state (l .rx) (l .store) out buf
 unfolding framesBytes flat writtenBy
-untouched-leaves n l x state out buf r e =
+looked-leaves n l a state out buf r e =
     record {
       answer-is = ap (λ (y : Reply). y .answer) e;
       used-is = ap (λ (y : Reply). y .used) e;
@@ -212,6 +212,10 @@ untouched-leaves n l x state out buf r e =
       buf-is = sym (put-none buf 0);
       buf-fits = omega arith;
     }
+
+pub untouched-leaves : (n : Negotiated) (l : Lent) (x : Refusal) (state out buf : List ℕ) (r : Reply) → r ≡ record { answer = Refused x; used = 0; written = 0 }
+    → Leaves n (untouched l x) 0 state out buf r state (l .rx) (l .store) out buf
+untouched-leaves n l x state out buf r e = looked-leaves n l (Refused x) state out buf r e
 
 abbrev isYes : Admitted → Bool
 isYes (Yes h) = true

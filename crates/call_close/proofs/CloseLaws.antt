@@ -8,7 +8,7 @@ use lib.ListN.{length}
 use Rattle.protocol.specs.Packet.{Puts}
 use Rattle.slot.specs.declared.ChannelSlot.{ChannelSlot}
 use Rattle.slot.specs.declared.ids.ChannelIds.{ChannelIds}
-use Rattle.slot.specs.Slot.{emptySlot}
+use Rattle.slot.specs.Slot.{emptiedSlot}
 use Rattle.slot.proofs.Laws.{cond-true, cond-false}
 use Rattle.state.specs.declared.Header.{Header}
 use Rattle.state.specs.Change.{slotTo}
@@ -53,7 +53,7 @@ module _ (state rx store out : List ℕ) (h : Header) (i : h ≡ dropped (stateO
 
     -- a CLSE is written, the slot is emptied
     pub close-leaves : (empty : ChannelSlot) (ids : ChannelIds) (r : Reply) (end : ℕ) (out' state₂ : List ℕ) → ids ≡ idsIn s
-        → Puts out 0 (frameBytes (h .negotiated) (closeFrame ids)) end out' → empty ≡ emptySlot → state₂ ≡ putHeader (putSlot state (ch .slot) empty) h
+        → Puts out 0 (frameBytes (h .negotiated) (closeFrame ids)) end out' → empty ≡ emptiedSlot s → state₂ ≡ putHeader (putSlot state (ch .slot) empty) h
         → r ≡ record { answer = Done; used = 0; written = end } → Leaves (agreedIn state) (closeStep lent ch) 0 state out [] r state₂ rx store out' []
     unfolding closeStep
     close-leaves empty ids r end out' state₂ d p m k q =
@@ -69,6 +69,7 @@ module _ (state rx store out : List ℕ) (h : Header) (i : h ≡ dropped (stateO
         let v = ap (λ (x : List ℕ). length x) (one-frame n fr) in
         let u = g .room in
         let w = did-begun n 0 state out hd lent (omega arith) in
-        let w₁ = did-then n 0 state out _ _ _ _ _ _ w (slotTo (ch .slot) emptySlot ∷ []) (fr ∷ []) (putSlot state (ch .slot) empty) out' end (ap (putSlot state (ch .slot)) m) p₁ (omega arith) in
+        let w₁ = did-then n 0 state out _ _ _ _ _ _ w (slotTo (ch .slot) (emptiedSlot (slotFor lent ch)) ∷ []) (fr ∷ []) (putSlot state (ch .slot) empty) out' end
+        (ap (putSlot state (ch .slot)) (m ∙ ap emptiedSlot (found-slot state rx store h i ch found e s f))) p₁ (omega arith) in
         subst (λ (x : Outcome). Leaves n x 0 state out [] r state₂ rx store out' []) (sym (cond-true (isThere lent ch && slotFor lent ch .«has_remote») _ _ joined))
         (did-stops n 0 state out _ _ _ _ _ _ w₁ [] state₂ h Done 0 r i k q)

@@ -37,7 +37,7 @@ fn close_step(
     match found {
         Found::Slot(s) => {
             let end = put_close(out, 0, n, ids_in(s));
-            let gone = ChannelSlot::empty();
+            let gone = s.emptied();
             store_slot(state, ch.slot, gone, h);
             Reply {
                 answer: Answer::Done,

@@ -64,6 +64,7 @@ fn still_pending(answer: Answer, h: Header) -> Header
         Answer::Read(_) => drop_pending(h),
         Answer::Written(_) => drop_pending(h),
         Answer::Front(_, _, _, _) => drop_pending(h),
+        Answer::Numbers(_, _, _, _, _) => drop_pending(h),
         Answer::Refused(_) => drop_pending(h),
     }
 }

@@ -35,7 +35,7 @@ use Rattle.slot.specs.declared.Settled.{Settled as SettledSlot}
 use Rattle.slot.specs.declared.Taken.{Taken}
 use Rattle.slot.specs.declared.Taken.the-variants.{Data, Nothing as NothingTaken, Closed as ClosedTaken}
 use Rattle.slot.specs.declared.Wrote.{Wrote}
-use Rattle.slot.specs.Slot.{withNumbers, acked, isAck, isOpening, isFailed, isClosed, openedBy, openedOf, readyBy, readyOf, heldOf, acksNow, bufferedWith, wroteOf, someLen, deliveredOf, ackLenOf, settledBy, settledSome, settledOf, hasData, takenOf, closedSlot, SlotOk}
+use Rattle.slot.specs.Slot.{withTotal, totalWith, withNumbers, acked, isAck, isOpening, isFailed, isClosed, openedBy, openedOf, readyBy, readyOf, heldOf, acksNow, bufferedWith, wroteOf, someLen, deliveredOf, ackLenOf, settledBy, settledSome, settledOf, hasData, takenOf, closedSlot, SlotOk}
 use Rattle.credit.specs.Credit.{creditOf as creditIn}
 use Rattle.slot.proofs.Kept.{pick, Readied-sound, opened-sound, ready-sound, buffered-sound, closed-sound}
 use Rattle.slot.proofs.Laws.{cond-true, take-room}
@@ -386,10 +386,10 @@ acts Q h ss queue rx store k payload i fit inside ok g0 g1 =
 data Settling (s : ChannelSlot) (p : RxPolicy) (want : ℕ) (r : SettledSlot) : Type 0 where
   none : r ≡ acked s NoAck → Settling s p want r
   some-len : (k : ℕ) → ackLenOf s p (min want (s .buffered)) (s .buffered - min want (s .buffered)) ≡ Len k
-      → r ≡ acked (withNumbers s (s .unacked - k) (min want (s .buffered)) (s .head) (s .buffered)) (Len k) → Settling s p want r
+      → r ≡ acked (withTotal (withNumbers s (s .unacked - k) (min want (s .buffered)) (s .head) (s .buffered)) (totalWith p (s .«acked_total») k)) (Len k) → Settling s p want r
 
 settling-by : (s : ChannelSlot) (p : RxPolicy) (want : ℕ) (a : PendingAck) → ackLenOf s p (min want (s .buffered)) (s .buffered - min want (s .buffered)) ≡ a
-    → Settling s p want (settledBy s (min want (s .buffered)) a)
+    → Settling s p want (settledBy s p (min want (s .buffered)) a)
 unfolding settledBy
 settling-by s p want (Len k) e = some-len k e refl
 settling-by s p want NoAck e = none refl
@@ -437,10 +437,10 @@ settled-small s p want cap ok d = small-by s p want cap ok d (settledOf s p want
 
 -- ---- a second settling
 
-acked-is : (s : ChannelSlot) (n : ℕ) (a : PendingAck) → settledBy s n a .ack ≡ a
+acked-is : (s : ChannelSlot) (p : RxPolicy) (n : ℕ) (a : PendingAck) → settledBy s p n a .ack ≡ a
 unfolding settledBy
-acked-is s n (Len k) = refl
-acked-is s n NoAck = refl
+acked-is s p n (Len k) = refl
+acked-is s p n NoAck = refl
 
 -- with nothing unacknowledged nothing is acknowledged
 pub silent-clear : (s : ChannelSlot) (p : RxPolicy) (want : ℕ) → s .unacked ≡ 0 → settledOf s p want .ack ≡ NoAck
@@ -448,7 +448,7 @@ unfolding settledOf settledSome ackLenOf
 silent-clear s p want e =
     let G : SettledSlot → Type 0 = λ r. r .ack ≡ NoAck in
     pick G (s .«has_remote»)
-    (λ r. pick G (eqb (s .settled) 0) (λ z. acked-is s _ _ ∙ cond-true (eqb (s .unacked) 0) _ _ (eq-eqb (s .unacked) 0 e)) (λ z. refl))
+    (λ r. pick G (eqb (s .settled) 0) (λ z. acked-is s p _ _ ∙ cond-true (eqb (s .unacked) 0) _ _ (eq-eqb (s .unacked) 0 e)) (λ z. refl))
     (λ r. refl)
 
 no-len : {P : Type 0} (k : ℕ) → NoAck ≡ Len k → P
@@ -503,7 +503,7 @@ pub delivered-ids : (s : ChannelSlot) (p : RxPolicy) (n : ℕ) → IdsFit (idsIn
 unfolding deliveredOf
 delivered-ids s p n h =
     let G : SettledSlot → Type 0 = λ r. IdsFit (idsIn (r .slot)) in
-    pick G (p .delayed) (λ d. h)
+    pick G (p .delayed) (λ d. pick G (s .«has_remote») (λ r. record { local = h .local; remote = h .remote }) (λ r. h))
     (λ d. pick G (leb (p .watermark) (s .buffered)) (λ w. h)
     (λ w. pick G (s .«has_remote») (λ r. record { local = h .local; remote = h .remote }) (λ r. h)))
 
@@ -513,5 +513,5 @@ delivered-small s p n h d =
     let G : SettledSlot → Type 0 = λ r. ackLength (r .ack) < 2 ^ 31 in
     let m = some-small n in
     pick G (p .delayed)
-    (λ t. pick (λ (a : PendingAck). ackLength a < 2 ^ 31) (s .«has_remote») (λ r. omega arith) (λ r. omega arith))
+    (λ t. pick G (s .«has_remote») (λ r. omega arith) (λ r. omega arith))
     (λ t. absurd (true≢false (sym d ∙ t)))

@@ -7,7 +7,7 @@ use native.Mathlib.Omega.{arith}
 use lib.Dec.{ltb, eqb}
 use lib.ListN.{length, set}
 use borrow.Author.Tests.{ltb-true}
-use Rattle.le.specs.Le.{Bytes}
+use Rattle.le.specs.Le.{unsigned, Bytes}
 use Rattle.config.specs.Negotiated.{policyOf}
 use Rattle.config.proofs.Laws.{and-true, sound}
 use Rattle.incoming.specs.declared.Front.{Front}
@@ -30,7 +30,7 @@ use Rattle.slot.specs.declared.Taken.{Taken}
 use Rattle.slot.specs.declared.Taken.the-variants.{Data, Nothing as NothingTaken, Closed as ClosedTaken}
 use Rattle.slot.specs.declared.ids.RemoteId.{RemoteId}
 use Rattle.slot.specs.Ids.{closedBy}
-use Rattle.slot.specs.Slot.{emptySlot, isClosed, readyOf, takenOf, budgetOf, closedSlot}
+use Rattle.slot.specs.Slot.{emptiedSlot, isClosed, readyOf, takenOf, budgetOf, closedSlot}
 use Rattle.slot.proofs.Kept.{pick}
 use Rattle.state.specs.declared.Header.{Header}
 use Rattle.state.specs.Change.{Change, slotTo, changedAll}
@@ -42,21 +42,21 @@ use Rattle.table.specs.declared.ChannelId.{ChannelId}
 use Rattle.table.specs.declared.Want.the-variants.{Empty}
 use Rattle.table.specs.Table.{wantedBy, placeOf, nextLocal, numbered, allocated, slotIn}
 use Rattle.connection.specs.declared.Answer.{Answer}
-use Rattle.connection.specs.declared.Answer.the-variants.{Done, Waiting, Nothing, Opened, Settled, Read, Written, Front as FrontIs, Refused}
+use Rattle.connection.specs.declared.Answer.the-variants.{Done, Waiting, Nothing, Opened, Settled, Read, Written, Front as FrontIs, Numbers, Refused}
 use Rattle.connection.specs.declared.Received.{Received}
 use Rattle.connection.specs.declared.Received.the-variants.{Packet as PacketIs, Stop}
 use Rattle.connection.specs.declared.Refusal.the-variants.{PayloadTooLarge, BadCredit, UnexpectedCommand, OutShort, ChannelClosed, NoFreeChannels}
 use Rattle.connection.specs.Answer.{refusalNumber, answerNumber}
 use Rattle.connection.specs.Act.{Acted, actOn, PacketFits}
-use Rattle.connection.specs.Calls.{Lent, Work, begun, then, thenActed, ends, dropped, pendingFor, policy, idsIn, isThere, slotFor, ackFrames, faultRefusal, errorRefusal, unlessFault, receivedOf, bodyOf, frameLen, dispatchBy, dispatchStep, settledAs, settleStep, takenBy, takeStep, reread, readSettled, readActed, isDirect, readDirect, readBy, readTaken, readFirst, readStep, sendLen, sendSome, sendBy, sendAgain, writeReadied, writeActed, writeAct, writeBy, writeFirst, writeOn, writeStep, closeStep, takeFrontBy, takeFrontStep, openOn, stillPending, openReadied, openActed, openBy, openStep}
+use Rattle.connection.specs.Calls.{looked, numbersIn, numbersFor, Lent, Work, begun, then, thenActed, ends, dropped, pendingFor, policy, idsIn, isThere, slotFor, ackFrames, faultRefusal, errorRefusal, unlessFault, receivedOf, bodyOf, frameLen, dispatchBy, dispatchStep, settledAs, settleStep, takenBy, takeStep, reread, readSettled, readActed, isDirect, readDirect, readBy, readTaken, readFirst, readStep, sendLen, sendSome, sendBy, sendAgain, writeReadied, writeActed, writeAct, writeBy, writeFirst, writeOn, writeStep, closeStep, takeFrontBy, takeFrontStep, openOn, stillPending, openReadied, openActed, openBy, openStep}
 use Rattle.connection.specs.Frames.{Frame, framesBytes}
-use Rattle.state_whole.proofs.WholeLaws.{Live, Whole, live-whole, empty-whole}
+use Rattle.state_whole.proofs.WholeLaws.{Live, Whole, live-whole, emptied-whole}
 use Rattle.state_whole.proofs.LiveLaws.{ReadiedLive, ready-live, opened-live, TakenLive, taken-live, settled-live, delivered-live, spent-live, closed-live}
 use Rattle.table_dispatch.proofs.KeepLaws.{place-found}
 use Rattle.incoming.proofs.QueueLaws.{QueueKeeps, FrontAs, pop-keeps}
 use Rattle.connection.proofs.WholeAct.{ActedKeeps, acted-keeps}
 use Rattle.connection.proofs.Decoding.{Admitted, fault-fine, error-fine, unless-fine, ReceivedFits, received-fits}
-use Rattle.connection.proofs.WholeWork.{negotiated, Kept, WorkWhole, At, drop-whole, begun-whole, frames-whole, slot-whole, act-whole, ends-kept, at-frames, at-slot, at-act, at-ends, untouched-kept, dropped-whole, there-live, there-at, Long, long}
+use Rattle.connection.proofs.WholeWork.{looked-kept, negotiated, Kept, WorkWhole, At, drop-whole, begun-whole, frames-whole, slot-whole, act-whole, ends-kept, at-frames, at-slot, at-act, at-ends, untouched-kept, dropped-whole, there-live, there-at, Long, long}
 
 -- ---- answers that are neither refusal 13 nor 8
 
@@ -91,6 +91,11 @@ written-fine k = (λ e. omega arith, λ e. omega arith)
 front-fine : (r : RemoteId) (credit place len : ℕ) → Admitted (FrontIs r credit place len)
 unfolding answerNumber
 front-fine r credit place len = (λ e. omega arith, λ e. omega arith)
+
+numbers-fine : (t : Bool) (total buffered unacked budget : ℕ) → Admitted (Numbers t total buffered unacked budget)
+unfolding answerNumber
+numbers-fine t total buffered unacked budget =
+    pick (λ (n : ℕ). (n ≡ 13 → ⊥) × (n ≡ 8 → ⊥)) t (λ a. (λ e. omega arith, λ e. omega arith)) (λ a. (λ e. omega arith, λ e. omega arith))
 
 closed-fine : Admitted (Refused ChannelClosed)
 unfolding answerNumber refusalNumber
@@ -159,7 +164,7 @@ module _ (l : Lent) (g : Whole (negotiated l) (l .state .header) (l .state .slot
       (λ t. let v = there-live l g ch (and-true _ _ t .0) in
       let p = v .place in
       let most = g .limits .within .most-channels in
-      ends-kept l _ (slot-whole l _ (dropped-whole l g) (ch .slot) emptySlot _ (omega arith) (λ e. never e) (empty-whole (negotiated l) (ch .slot))) Done 0 [] done-fine)
+      ends-kept l _ (slot-whole l _ (dropped-whole l g) (ch .slot) (emptiedSlot (slotFor l ch)) _ (omega arith) (λ e. never e) (emptied-whole (negotiated l) (ch .slot) (slotFor l ch) (v .fits))) Done 0 [] done-fine)
       (λ t. gone-kept)
 
   -- ---- take_front
@@ -181,6 +186,16 @@ module _ (l : Lent) (g : Whole (negotiated l) (l .state .header) (l .state .slot
   pub front-kept : Kept l (takeFrontStep l)
   unfolding takeFrontStep
   front-kept = front-by _ _ (pop-keeps (dropped (l .state .header)) (l .state .slots) (l .state .queue) gd)
+
+  -- ---- numbers
+
+  pub numbers-kept : (ch : ChannelId) → Kept l (looked l (numbersFor l ch))
+  unfolding numbersFor numbersIn
+  numbers-kept ch =
+      let s = slotFor l ch in
+      pick (λ (a : Answer). Kept l (looked l a)) (isThere l ch)
+      (λ t. looked-kept l g (numbersIn s) (numbers-fine (isClosed (s .state)) (s .«acked_total») (s .buffered) (s .unacked) (unsigned 63 (s .«send_budget»))))
+      (λ t. looked-kept l g (Refused ChannelClosed) closed-fine)
 
   -- ---- calls that look at a packet
 
@@ -337,6 +352,7 @@ module _ (l : Lent) (g : Whole (negotiated l) (l .state .header) (l .state .slot
     still-whole c h (Read n) k = drop-whole (negotiated l) h c k
     still-whole c h (Written n) k = drop-whole (negotiated l) h c k
     still-whole c h (FrontIs r credit place len) k = drop-whole (negotiated l) h c k
+    still-whole c h (Numbers t total buffered unacked budget) k = drop-whole (negotiated l) h c k
     still-whole c h (Refused r) k = drop-whole (negotiated l) h c k
 
     open-acted : (used : ℕ) (a : Acted) → ActedKeeps (negotiated l) (l .state) (length (l .rx)) (length (l .store)) a → Kept l (openActed l used a)

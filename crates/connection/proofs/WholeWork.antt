@@ -28,7 +28,7 @@ use Rattle.connection.specs.declared.Refusal.{Refusal}
 use Rattle.connection.specs.declared.Refusal.the-variants.{StoreShort, OutShort}
 use Rattle.connection.specs.Answer.{refusalNumber, answerNumber}
 use Rattle.connection.specs.Act.{Acted}
-use Rattle.connection.specs.Calls.{Lent, Outcome, untouched, Work, begun, then, thenActed, ends, checked, checkedOut, dropped, isThere, slotFor}
+use Rattle.connection.specs.Calls.{Lent, Outcome, looked, untouched, Work, begun, then, thenActed, ends, checked, checkedOut, dropped, isThere, slotFor}
 use Rattle.connection.specs.Frames.{Frame}
 use Rattle.state_whole.proofs.WholeLaws.{Live, SlotWhole, Whole, whole-live, whole-put}
 use Rattle.connection.proofs.WholeAct.{ActedKeeps}
@@ -178,9 +178,12 @@ module _ (l : Lent) (i : ℕ) (w : Work) (k : At l i w) where
 -- ---- a call's start
 
 module _ (l : Lent) (g : Whole (negotiated l) (l .state .header) (l .state .slots) (l .state .queue)) where
-  -- a refusal that changes nothing
+  -- an answer, and nothing changes
+  pub looked-kept : (a : Answer) → Admitted a → Kept l (looked l a)
+  looked-kept a f = record { within = tt; facts = g; rx-length = refl; store-length = refl; answer = f .0; eight = λ e. absurd (f .1 e) }
+
   pub untouched-kept : (r : Refusal) → Admitted (Refused r) → Kept l (untouched l r)
-  untouched-kept r f = record { within = tt; facts = g; rx-length = refl; store-length = refl; answer = f .0; eight = λ e. absurd (f .1 e) }
+  untouched-kept r f = looked-kept (Refused r) f
 
   short-kept : Kept l (untouched l StoreShort)
   unfolding answerNumber refusalNumber

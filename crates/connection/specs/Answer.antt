@@ -1,10 +1,11 @@
 -- The numbers and values of answers (docs/SCOPE.md, 6; docs/LAYOUT.md, "The answer"). Assumes nothing.
 use Prim.Native.Nat.{ℕ}
+use mathlib.Core.Bool.{cond}
 use mathlib.Core.List.{List, [], _∷_}
 use Rattle.slot.specs.declared.PendingAck.{PendingAck}
 use Rattle.slot.specs.declared.PendingAck.the-variants.{Len, Nothing as NoAck}
 use Rattle.connection.specs.declared.Answer.{Answer}
-use Rattle.connection.specs.declared.Answer.the-variants.{Done, Waiting, Nothing, Opened, Settled, Read, Written, Front, Refused}
+use Rattle.connection.specs.declared.Answer.the-variants.{Done, Waiting, Nothing, Opened, Settled, Read, Written, Front, Numbers, Refused}
 use Rattle.credit.specs.Credit.{creditFaultNumber}
 use Rattle.connection.specs.declared.Refusal.{Refusal}
 use Rattle.connection.specs.declared.Refusal.the-variants.{InvalidCommand, InvalidMagic, PayloadTooLarge, InvalidChecksum, BadCredit, UnexpectedCommand, BadConfig, StoreShort, OutShort, ChannelClosed, ChannelRxOverflow, NoFreeChannels, BrokenState}
@@ -25,7 +26,7 @@ refusalNumber ChannelRxOverflow = 11
 refusalNumber NoFreeChannels = 12
 refusalNumber BrokenState = 13
 
--- 0 for a call that is done, a refusal's own, 100 for waiting, 101 for nothing there
+-- 0 for a call that is done, a refusal's own, 100 for waiting, 101 for nothing there, 102 for the numbers of a closed channel
 unfoldable pub answerNumber : Answer → ℕ
 answerNumber Done = 0
 answerNumber Waiting = 100
@@ -35,6 +36,7 @@ answerNumber (Settled ack) = 0
 answerNumber (Read n) = 0
 answerNumber (Written n) = 0
 answerNumber (Front remote credit place len) = 0
+answerNumber (Numbers closed total buffered unacked budget) = cond closed 102 0
 answerNumber (Refused refusal) = refusalNumber refusal
 
 -- the length acknowledged, 0 for none
@@ -68,4 +70,5 @@ answerValues (Settled ack) = ackLength ack ∷ 0 ∷ 0 ∷ 0 ∷ []
 answerValues (Read n) = n ∷ 0 ∷ 0 ∷ 0 ∷ []
 answerValues (Written n) = n ∷ 0 ∷ 0 ∷ 0 ∷ []
 answerValues (Front remote credit place len) = remote .0 ∷ credit ∷ place ∷ len ∷ []
+answerValues (Numbers closed total buffered unacked budget) = total ∷ buffered ∷ unacked ∷ budget ∷ []
 answerValues (Refused refusal) = refusalWord refusal ∷ 0 ∷ 0 ∷ 0 ∷ []

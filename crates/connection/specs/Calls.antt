@@ -5,7 +5,7 @@ use mathlib.Core.Bool.{Bool, true, false, cond, _&&_}
 use mathlib.Core.List.{List, [], _∷_, _++_}
 use lib.Dec.{eqb, ltb, leb}
 use lib.ListN.{length, take, set, replicate}
-use Rattle.le.specs.Le.{put}
+use Rattle.le.specs.Le.{unsigned, put}
 use Rattle.config.specs.declared.ConnectionConfig.{ConnectionConfig}
 use Rattle.config.specs.declared.negotiated.Negotiated.{Negotiated}
 use Rattle.config.specs.declared.negotiated.RxPolicy.{RxPolicy}
@@ -37,7 +37,7 @@ use Rattle.slot.specs.declared.Taken.{Taken}
 use Rattle.slot.specs.declared.Taken.the-variants.{Data, Nothing as NothingTaken, Closed as ClosedTaken}
 use Rattle.slot.specs.declared.ids.ChannelIds.{ChannelIds}
 use Rattle.slot.specs.Ids.{closedBy}
-use Rattle.slot.specs.Slot.{emptySlot, openingSlot, isClosed, openedOf, readyOf, deliveredOf, settledOf, takenOf, budgetOf, spentOf, closedSlot}
+use Rattle.slot.specs.Slot.{emptySlot, emptiedSlot, openingSlot, isClosed, openedOf, readyOf, deliveredOf, settledOf, takenOf, budgetOf, spentOf, closedSlot}
 use Rattle.state.specs.declared.Header.{Header}
 use Rattle.state.specs.declared.PendingOpen.{PendingOpen}
 use Rattle.state.specs.Change.{Change, slotTo, headerTo, changedAll}
@@ -48,7 +48,7 @@ use Rattle.table.specs.declared.ChannelId.{ChannelId}
 use Rattle.table.specs.Table.{thereIn, numbered, allocated, slotIn}
 use Rattle.rx_store.specs.RxStore.{frontOf}
 use Rattle.connection.specs.declared.Answer.{Answer}
-use Rattle.connection.specs.declared.Answer.the-variants.{Done, Waiting, Nothing, Opened, Settled, Read, Written, Front as FrontIs, Refused}
+use Rattle.connection.specs.declared.Answer.the-variants.{Done, Waiting, Nothing, Opened, Settled, Read, Written, Front as FrontIs, Numbers, Refused}
 use Rattle.connection.specs.declared.Received.{Received}
 use Rattle.connection.specs.declared.Received.the-variants.{Packet as PacketIs, Stop}
 use Rattle.connection.specs.declared.Refusal.{Refusal}
@@ -80,9 +80,13 @@ pub record Outcome : Type 0 where
 unfoldable pub writtenBy : Negotiated → Outcome → ℕ
 writtenBy n o = length (framesBytes n (o .frames))
 
+-- an answer, and nothing changes
+abbrev pub looked : Lent → Answer → Outcome
+looked l a = record { answer = a; used = 0; frames = []; handed = []; changes = []; rx = l .rx; store = l .store }
+
 -- a refusal that changes nothing
 abbrev pub untouched : Lent → Refusal → Outcome
-untouched l r = record { answer = Refused r; used = 0; frames = []; handed = []; changes = []; rx = l .rx; store = l .store }
+untouched l r = looked l (Refused r)
 
 -- what a call has done so far; the header is stored last
 pub record Work : Type 0 where
@@ -388,11 +392,11 @@ writeStep l ch out bytes received =
 
 -- ---- close (`close_channel`)
 
--- a CLSE is written and the slot is emptied; 10 where the channel is not in the table
+-- a CLSE is written and the slot is emptied, but for the total; 10 where the channel is not in the table
 unfoldable pub closeStep : Lent → ChannelId → Outcome
 closeStep l ch =
     cond (isThere l ch && slotFor l ch .«has_remote»)
-    (ends (then (begun (dropped (l .state .header)) l) (slotTo (ch .slot) emptySlot ∷ []) (closeFrame (idsIn (slotFor l ch)) ∷ [])) Done 0 [])
+    (ends (then (begun (dropped (l .state .header)) l) (slotTo (ch .slot) (emptiedSlot (slotFor l ch)) ∷ []) (closeFrame (idsIn (slotFor l ch)) ∷ [])) Done 0 [])
     (notThere l)
 
 -- ---- take_front (`try_accept_incoming`, without a verdict)
@@ -408,6 +412,16 @@ unfoldable pub takeFrontStep : Lent → Outcome
 takeFrontStep l =
     let h = dropped (l .state .header) in
     takeFrontBy l h (popped h (l .state .queue) .changes) (popped h (l .state .queue) .result)
+
+-- ---- numbers: a call that only looks, so that a pending open stays
+
+-- what a slot's channel has been allowed by our OKAYs, its bytes buffered and unacknowledged, its budget in two's complement
+unfoldable pub numbersIn : ChannelSlot → Answer
+numbersIn s = Numbers (isClosed (s .state)) (s .«acked_total») (s .buffered) (s .unacked) (unsigned 63 (s .«send_budget»))
+
+-- 10 where the channel is not in the table
+unfoldable pub numbersFor : Lent → ChannelId → Answer
+numbersFor l ch = cond (isThere l ch) (numbersIn (slotFor l ch)) (Refused ChannelClosed)
 
 -- ---- open (`open_channel`, `await_open_ack`)
 
@@ -430,6 +444,7 @@ stillPending (Settled a) h = dropped h
 stillPending (Read n) h = dropped h
 stillPending (Written n) h = dropped h
 stillPending (FrontIs r c p n) h = dropped h
+stillPending (Numbers t total buffered unacked budget) h = dropped h
 stillPending (Refused r) h = dropped h
 
 -- its OKAY
@@ -496,3 +511,7 @@ closeOutcome whole l out ch = checkedOut whole l out (closeStep l ch)
 -- take_front: it is lent no outgoing buffer
 unfoldable pub takeFrontOutcome : Bool → Lent → Outcome
 takeFrontOutcome whole l = checked whole l (takeFrontStep l)
+
+-- numbers: it is lent no outgoing buffer
+unfoldable pub numbersOutcome : Bool → Lent → ChannelId → Outcome
+numbersOutcome whole l ch = checked whole l (looked l (numbersFor l ch))

@@ -6,6 +6,7 @@ use slot::PendingAck;
 use slot::ids::RemoteId;
 use table::ChannelId;
 ghost use mathlib.Core.Path.{_≡_};
+ghost use mathlib.Core.Bool.{cond};
 ghost use Rattle.connection.specs.Answer.{refusalNumber, answerNumber};
 
 // The refusals (docs/SCOPE.md, 6).
@@ -42,6 +43,9 @@ pub enum Answer {
     Written(usize),
     // A queued open's number, credit, and its destination's place and length in the open store.
     Front(RemoteId, u32, usize, usize),
+    // A channel's numbers: whether it is closed, what our OKAYs allowed the device, bytes buffered and unacknowledged, and the send
+    // budget in two's complement.
+    Numbers(bool, usize, u32, usize, u64),
     Refused(Refusal),
 }
 
@@ -74,8 +78,18 @@ impl Refusal {
     }
 }
 
+// The number of an answer with a channel's numbers.
+fn open_number(closed: bool) -> u32
+    ensures { λ r. ⌜ r ≡ cond closed 102 0 ⌝ }
+{
+    if closed {
+        return 102;
+    }
+    0
+}
+
 impl Answer {
-    // 0, a refusal's number, 100 for waiting, 101 for nothing there.
+    // 0, a refusal's number, 100 for waiting, 101 for nothing there, 102 for the numbers of a closed channel.
     pub fn number(self) -> u32
         ensures { λ r. ⌜ r ≡ answerNumber self ⌝ }
     {
@@ -88,6 +102,7 @@ impl Answer {
             Answer::Read(_) => 0,
             Answer::Written(_) => 0,
             Answer::Front(_, _, _, _) => 0,
+            Answer::Numbers(closed, _, _, _, _) => open_number(closed),
             Answer::Refused(refusal) => refusal.number(),
         }
     }

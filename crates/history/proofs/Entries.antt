@@ -31,7 +31,7 @@ use Rattle.slot.specs.declared.Taken.{Taken}
 use Rattle.slot.specs.declared.Taken.the-variants.{Data, Nothing as NothingTaken, Closed as ClosedTaken}
 use Rattle.slot.specs.declared.ids.LocalId.{LocalId}
 use Rattle.slot.specs.Ids.{closedBy}
-use Rattle.slot.specs.Slot.{budgetOf, spentOf, readyOf, closedSlot, deliveredOf, emptySlot, settledOf, tookOf, takenOf, takeLen, hasData, isClosed, errorOf, heldOf, SlotOk}
+use Rattle.slot.specs.Slot.{budgetOf, spentOf, readyOf, closedSlot, deliveredOf, emptiedSlot, settledOf, tookOf, takenOf, takeLen, hasData, isClosed, errorOf, heldOf, SlotOk}
 use Rattle.slot.proofs.Stays.{Stays, settled-state, settled-stays}
 use Rattle.slot.proofs.Kept.{pick, settled-sound}
 use Rattle.slot.proofs.Laws.{cond-true, cond-false, take-held}
@@ -52,7 +52,7 @@ use Rattle.connection.specs.Act.{Acted, actOn}
 use Rattle.connection.specs.Answer.{refusalNumber, answerNumber}
 use Rattle.table.specs.declared.ChannelId.{ChannelId}
 use Rattle.table_dispatch.specs.Dispatch.{namedPlace}
-use Rattle.connection.specs.Calls.{untouched, sendLen, sendSome, sendBy, sendAgain, writeReadied, writeActed, writeAct, writeBy, writeFirst, writeOn, writeStep, faultRefusal, readDirect, readActed, readSettled, reread, isDirect, readBy, readTaken, readFirst, readStep, idsIn, closeStep, takeFrontBy, takeFrontStep, errorRefusal, takenBy, takeStep, ackFrames, settledAs, settleStep, isThere, slotFor, Lent, Outcome, Work, begun, then, thenActed, ends, dropped, policy, bodyOf, frameLen, receivedOf, unlessFault, dispatchBy, dispatchStep}
+use Rattle.connection.specs.Calls.{looked, untouched, sendLen, sendSome, sendBy, sendAgain, writeReadied, writeActed, writeAct, writeBy, writeFirst, writeOn, writeStep, faultRefusal, readDirect, readActed, readSettled, reread, isDirect, readBy, readTaken, readFirst, readStep, idsIn, closeStep, takeFrontBy, takeFrontStep, errorRefusal, takenBy, takeStep, ackFrames, settledAs, settleStep, isThere, slotFor, Lent, Outcome, Work, begun, then, thenActed, ends, dropped, policy, bodyOf, frameLen, receivedOf, unlessFault, dispatchBy, dispatchStep}
 use Rattle.history.specs.Book.{writeB, isClse, namedIn, endsOther, ownEnd, acceptedB, sentB, closedB, damagedB, isWrte, payloadAt, readB, readUsedB, isRefused, handedB, isEarly, settleB, isOn, Book, ackedB, acksOf, packetB, frameB, headerAt, never}
 use Rattle.history.specs.Demand3.{runOf}
 use Rattle.history.proofs.Acts.{frame-none, at-keeps, at-stays, at-named, at-sound, at-fits, at-live, acted-length, acks-own, acks-other, acksIn, acks-append, mineOf, endsOf, acted-acks, acted-at, Tells, good-by}
@@ -310,19 +310,19 @@ module _ (l : Lent) (credit : Terms) (ok : TableOk (policy l) (l .state .header 
   -- ---- close
 
   abbrev closing : ChannelId → Work
-  closing ch = then (begun (dropped (l .state .header)) l) (slotTo (ch .slot) emptySlot ∷ []) (closeFrame (idsIn (slotFor l ch)) ∷ [])
+  closing ch = then (begun (dropped (l .state .header)) l) (slotTo (ch .slot) (emptiedSlot (slotFor l ch)) ∷ []) (closeFrame (idsIn (slotFor l ch)) ∷ [])
 
-  -- on this channel: its slot is empty, and it has no book any more
-  pub close-this : (ch : ChannelId) → On ch → isOn i b ch ≡ true → (slotIn (slotsBy ss (closeStep l ch .changes)) i .filled ≡ false) × (isRefused (answerNumber (closeStep l ch .answer)) ≡ false)
-  unfolding closeStep slotFor ends emptySlot answerNumber
+  -- on this channel: its slot is empty but for the total, and the book has the channel no more
+  pub close-this : (ch : ChannelId) → On ch → isOn i b ch ≡ true → (slotIn (slotsBy ss (closeStep l ch .changes)) i ≡ emptiedSlot (slotIn ss i)) × (isRefused (answerNumber (closeStep l ch .answer)) ≡ false)
+  unfolding closeStep slotFor ends answerNumber
   close-this ch (this d t o) _ =
-      let C : Outcome → Type 0 = λ x. (slotIn (slotsBy ss (x .changes)) i .filled ≡ false) × (isRefused (answerNumber (x .answer)) ≡ false) in
+      let C : Outcome → Type 0 = λ x. (slotIn (slotsBy ss (x .changes)) i ≡ emptiedSlot (slotIn ss i)) × (isRefused (answerNumber (x .answer)) ≡ false) in
       let z = ok .size in
       let y = ok .most in
       let h = ok .below i there in
       subst C
       (sym (cond-true (isThere l ch && slotIn ss (ch .slot) .«has_remote») _ _ (ap (λ (x : Bool). x && slotIn ss (ch .slot) .«has_remote») t ∙ ap (λ (x : ℕ). slotIn ss x .«has_remote») d ∙ g .known)))
-      (ap (λ (x : ℕ). slotIn (set ss x emptySlot) i .filled) d ∙ ap (λ (x : ChannelSlot). x .filled) (slot-set-same ss i emptySlot (omega arith)), refl)
+      (ap (λ (x : ℕ). slotIn (set ss x (emptiedSlot (slotIn ss x))) i) d ∙ slot-set-same ss i (emptiedSlot (slotIn ss i)) (omega arith), refl)
   close-this ch (another d t f ne o) e = absurd (true≢false (sym e ∙ o))
   close-this ch (none t o) e = absurd (true≢false (sym e ∙ o))
 
@@ -332,7 +332,7 @@ module _ (l : Lent) (credit : Terms) (ok : TableOk (policy l) (l .state .header 
   close-else ch (this d t o) e = absurd (true≢false (sym o ∙ e))
   close-else ch (another d t f ne o) e =
       pick (λ (x : Outcome). Fine p credit ss i x b) (isThere l ch && slotFor l ch .«has_remote»)
-      (λ u. ends-fine p credit ss i (closing ch) Done 0 [] b (good-other (ch .slot) emptySlot (l .rx) b d g))
+      (λ u. ends-fine p credit ss i (closing ch) Done 0 [] b (good-other (ch .slot) (emptiedSlot (slotFor l ch)) (l .rx) b d g))
       (λ u. none-fine (Refused ChannelClosed) b g)
   close-else ch (none t o) e =
       subst (λ (x : Outcome). Fine p credit ss i x b) (sym (cond-false (isThere l ch && slotFor l ch .«has_remote») _ _ (ap (λ (x : Bool). x && slotFor l ch .«has_remote») t)))

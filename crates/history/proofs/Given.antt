@@ -17,7 +17,7 @@ use Rattle.protocol.specs.declared.command.Command.the-variants.{Open}
 use Rattle.protocol.specs.Packet.{maxPayload}
 use Rattle.protocol.specs.Command.{lettersOf, wordOf, isThe, isOpen}
 use Rattle.slot.specs.declared.ChannelSlot.{ChannelSlot}
-use Rattle.slot.specs.Slot.{emptySlot}
+use Rattle.slot.specs.Slot.{emptySlot, emptiedSlot}
 use Rattle.slot.proofs.Kept.{pick}
 use Rattle.slot.proofs.Laws.{cond-true, cond-false}
 use Rattle.state.specs.declared.Header.{Header}
@@ -32,11 +32,11 @@ use Rattle.table.specs.Table.{placeOf, nextLocal, allocated, slotIn}
 use Rattle.connection.specs.declared.Answer.the-variants.{Refused}
 use Rattle.connection.specs.declared.Refusal.the-variants.{StoreShort, OutShort, PayloadTooLarge, BrokenState}
 use Rattle.connection.specs.Answer.{refusalNumber, answerNumber}
-use Rattle.connection.specs.Calls.{Lent, Outcome, ends, checked, checkedOut, untouched, bodyOf, isThere, slotFor, dispatchStep, settleStep, takeStep, readStep, writeStep, closeStep, takeFrontStep, fresh, openOutcome, dispatchOutcome, settleOutcome, takeOutcome, readOutcome, writeOutcome, closeOutcome, takeFrontOutcome}
+use Rattle.connection.specs.Calls.{numbersOutcome, Lent, Outcome, ends, checked, checkedOut, untouched, bodyOf, isThere, slotFor, dispatchStep, settleStep, takeStep, readStep, writeStep, closeStep, takeFrontStep, fresh, openOutcome, dispatchOutcome, settleOutcome, takeOutcome, readOutcome, writeOutcome, closeOutcome, takeFrontOutcome}
 use Rattle.connection.specs.Frames.{Frame, Sent}
 use Rattle.connection.proofs.Slots.{slotsBy, slots-by, slot-set-same, slot-set-other}
 use Rattle.connection.proofs.Sending.{sentOf}
-use Rattle.history.specs.Run.{bytesIn, Call, openCall, dispatchCall, settleCall, takeCall, readCall, writeCall, closeCall, frontTaken, World, lent, outcome, after, begins, agreedIn}
+use Rattle.history.specs.Run.{lookOutcome, bytesIn, Call, openCall, dispatchCall, settleCall, takeCall, readCall, writeCall, closeCall, frontTaken, lookCall, numbersLook, World, lent, outcome, after, begins, agreedIn}
 use Rattle.history.specs.Seen.{heldOf, Seen, Event, seenOf, eventsOf}
 use Rattle.history.specs.Demand3.{Distinct, Apart}
 use Rattle.history.specs.Numbers.{opensIn, givenBy, givenIn, NumbersApart, Demand3Free}
@@ -149,15 +149,15 @@ tame-shrinks : (ss : List ChannelSlot) (xs : List Change) → Tame ss xs → Shr
 unfolding Shrinks
 tame-shrinks ss xs t i f = let m = tame-at ss xs t i in (sym (ap (λ (y : Mark). y .filled) m) ∙ f, ap (λ (y : Mark). y .local) m)
 
-empty-shrinks : (ss : List ChannelSlot) (j : ℕ) → Shrinks ss (set ss j emptySlot)
-unfolding Shrinks emptySlot
-empty-shrinks ss j i f =
+empty-shrinks : (ss : List ChannelSlot) (j : ℕ) (t : ChannelSlot) → t .filled ≡ false → Shrinks ss (set ss j t)
+unfolding Shrinks
+empty-shrinks ss j t n i f =
     by-test (eqb i j)
     (λ u. let e = eqb-true i j u in
     by-test (ltb j (length ss))
-    (λ v. absurd (true≢false (sym f ∙ ap (λ (x : ℕ). slotIn (set ss j emptySlot) x .filled) e ∙ ap (λ (s : ChannelSlot). s .filled) (slot-set-same ss j emptySlot (ltb-true j (length ss) v)))))
-    (λ v. let z = set-out ss j emptySlot (ltb-false j (length ss) v) in (sym (ap (λ (x : List ChannelSlot). slotIn x i .filled) z) ∙ f, ap (λ (x : List ChannelSlot). slotIn x i .local .0) z)))
-    (λ u. let z = slot-set-other ss j i emptySlot (eqb-false i j u) in (sym (ap (λ (s : ChannelSlot). s .filled) z) ∙ f, ap (λ (s : ChannelSlot). s .local .0) z))
+    (λ v. absurd (true≢false (sym f ∙ ap (λ (x : ℕ). slotIn (set ss j t) x .filled) e ∙ ap (λ (s : ChannelSlot). s .filled) (slot-set-same ss j t (ltb-true j (length ss) v)) ∙ n)))
+    (λ v. let z = set-out ss j t (ltb-false j (length ss) v) in (sym (ap (λ (x : List ChannelSlot). slotIn x i .filled) z) ∙ f, ap (λ (x : List ChannelSlot). slotIn x i .local .0) z)))
+    (λ u. let z = slot-set-other ss j i t (eqb-false i j u) in (sym (ap (λ (s : ChannelSlot). s .filled) z) ∙ f, ap (λ (s : ChannelSlot). s .local .0) z))
 
 module _ (w : World) (r : List ℕ) (rx store : ℕ) where
   abbrev m : Negotiated
@@ -188,8 +188,8 @@ module _ (w : World) (r : List ℕ) (rx store : ℕ) where
     shrinks-out t out o s = shrinks-checked t _ (pick S (ltb out 56) (λ b. none-shrinks) (λ b. s))
 
     close-shrinks : (ch : ChannelId) → S (closeStep l ch)
-    unfolding closeStep ends
-    close-shrinks ch = pick S (isThere l ch && slotFor l ch .«has_remote») (λ t. empty-shrinks (c .slots) (ch .slot)) (λ t. none-shrinks)
+    unfolding closeStep ends emptiedSlot emptySlot
+    close-shrinks ch = pick S (isThere l ch && slotFor l ch .«has_remote») (λ t. empty-shrinks (c .slots) (ch .slot) (emptiedSlot (slotFor l ch)) refl) (λ t. none-shrinks)
 
     opens-out : (received : List ℕ) (t : Bool) (out : ℕ) (o : Outcome) → Opens l received o → Opens l received (checkedOut t l out o)
     unfolding checkedOut checked answerNumber
@@ -276,7 +276,7 @@ module _ (w : World) (r : List ℕ) (rx store : ℕ) where
 
     -- each call
     call-given : (x : Call) → g + givenBy x (seenOf (event x)) < 2 ^ 32 → Given (g + givenBy x (seenOf (event x))) (to (outcome w x))
-    unfolding outcome openOutcome dispatchOutcome settleOutcome takeOutcome readOutcome writeOutcome closeOutcome takeFrontOutcome
+    unfolding outcome openOutcome dispatchOutcome settleOutcome takeOutcome readOutcome writeOutcome closeOutcome takeFrontOutcome lookOutcome numbersOutcome
     call-given (openCall out destination received) small =
         open-given out destination received small _ refl (moves w (openCall out destination received)) (opens-out (bytesIn received) (isWhole (w .state)) (length out) _ (opens l ok (bytesIn received) (length out) (bytesIn destination)))
     call-given (dispatchCall out received) small =
@@ -293,6 +293,7 @@ module _ (w : World) (r : List ℕ) (rx store : ℕ) where
         heads-given _ _ (moves w (closeCall out ch)) (shrinks-out (isWhole (w .state)) (length out) _ (close-shrinks ch))
     call-given frontTaken small =
         heads-given _ _ (moves w frontTaken) (shrinks-checked (isWhole (w .state)) _ (tame-shrinks (c .slots) (takeFrontStep l .changes) (front-tame l ok)))
+    call-given (lookCall (numbersLook ch)) small = heads-given _ _ (moves w (lookCall (numbersLook ch))) (shrinks-checked (isWhole (w .state)) _ none-shrinks)
 
     after-given : (x : Call) → g + givenBy x (seenOf (event x)) < 2 ^ 32 → Given (g + givenBy x (seenOf (event x))) (stateOf (after w x .state))
     after-given x small = subst (Given (g + givenBy x (seenOf (event x)))) (sym (state-after m r rx store w h x)) (call-given x small)

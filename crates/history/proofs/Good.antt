@@ -23,7 +23,7 @@ use Rattle.slot.specs.declared.ChannelSlot.{ChannelSlot}
 use Rattle.slot.specs.declared.PendingAck.{PendingAck}
 use Rattle.slot.specs.declared.PendingAck.the-variants.{Len, Nothing}
 use Rattle.slot.specs.declared.Settled.{Settled}
-use Rattle.slot.specs.Slot.{takeLen, openingSlot, openedBy, openedOf, readyBy, readyOf, spentOf, isOpening, acksNow, wroteOf, withNumbers, withSending, acked, isClosed, heldOf, bufferedWith, someLen, deliveredOf, ackLenOf, settledBy, settledSome, settledOf, tookOf, closedSlot}
+use Rattle.slot.specs.Slot.{withTotal, totalWith, takeLen, openingSlot, openedBy, openedOf, readyBy, readyOf, spentOf, isOpening, acksNow, wroteOf, withNumbers, withSending, acked, isClosed, heldOf, bufferedWith, someLen, deliveredOf, ackLenOf, settledBy, settledSome, settledOf, tookOf, closedSlot}
 use Rattle.credit.specs.Credit.{creditOf}
 use Rattle.slot.specs.declared.Wrote.{Wrote}
 use Rattle.slot.proofs.Kept.{pick}
@@ -52,6 +52,11 @@ pub record Terms : Type 0 where
   pub credit : ℕ
   pub reads : Bool
 
+-- the slot's total beside the book's sum of credit
+pub record Tally (p : RxPolicy) (total acked : ℕ) : Type 0 where
+  pub delayed : p .delayed ≡ true → total ≡ min acked (2 ^ 64 - 1)
+  pub plain : p .delayed ≡ false → total ≡ 0
+
 -- q: the bytes that the slot has buffered
 pub record Good (p : RxPolicy) (credit : Terms) (s : ChannelSlot) (q : List ℕ) (b : Book) : Type 0 where
   pub filled : s .filled ≡ true
@@ -66,6 +71,7 @@ pub record Good (p : RxPolicy) (credit : Terms) (s : ChannelSlot) (q : List ℕ)
   pub ends : b .closed ≡ isClosed (s .state)
   pub owed : p .delayed ≡ true → b .closed ≡ false → Owed (s .buffered) (s .settled) (s .unacked) (length (b .accepted)) (b .acked) (b .aside)
   pub kept : p .delayed ≡ true → b .kept ≡ true → b .over ≡ false
+  pub tally : Tally p (s .«acked_total») (b .acked)
   -- what reads hand over was acknowledged
   pub even : credit .reads ≡ true → p .delayed ≡ true → b .closed ≡ false → length (b .handed) + s .settled ≤ b .acked
 
@@ -91,6 +97,22 @@ pub carried-plain : (p : RxPolicy) (a : PendingAck) → p .delayed ≡ false →
 unfolding carried
 carried-plain p a d = cond-false (p .delayed) _ 0 d
 
+-- credit of 0 adds none
+tally-none : (p : RxPolicy) (t a k : ℕ) → k ≡ 0 → Tally p t a → Tally p t (a + k)
+tally-none p t a k z y = record { delayed = λ d. let e = y .delayed d in omega arith; plain = y .plain }
+
+tally-drop : (p : RxPolicy) (t a k : ℕ) → k ≡ 0 → Tally p t (a + k) → Tally p t a
+tally-drop p t a k z y = record { delayed = λ d. let e = y .delayed d in omega arith; plain = y .plain }
+
+-- an OKAY that carries k in delayed mode
+tally-more : (p : RxPolicy) (t a k c : ℕ) → (p .delayed ≡ true → c ≡ k) → Tally p t a → Tally p (totalWith p t k) (a + c)
+unfolding totalWith satSum
+tally-more p t a k c f y =
+    record {
+      delayed = λ d. cond-true (p .delayed) _ t d ∙ (let e = y .delayed d in let g = f d in let r : min (t + k) (2 ^ 64 - 1) ≡ min (a + c) (2 ^ 64 - 1) = omega arith in r);
+      plain = λ d. cond-false (p .delayed) _ t d ∙ y .plain d;
+    }
+
 -- what the device's rule says
 rule-says : (before : ℕ) (b : Book) → withinRule before b ≡ true → b .sent < b .opening + before
 rule-says before b e = ltb-true (b .sent) (b .opening + before) e
@@ -112,9 +134,9 @@ ack-delayed s p n rest d =
 pub data Settles (s : ChannelSlot) (p : RxPolicy) (n : ℕ) (r : Settled) : Type 0 where
   already : eqb (s .settled) 0 ≡ false → r ≡ acked s Nothing → Settles s p n r
   not-due : s .settled ≡ 0 → (p .delayed ≡ true → 0 ≡ min n (s .unacked)) → r ≡ acked s Nothing → Settles s p n r
-  due : (k : ℕ) → s .settled ≡ 0 → (p .delayed ≡ true → k ≡ min n (s .unacked)) → r ≡ acked (withNumbers s (s .unacked - k) n (s .head) (s .buffered)) (Len k) → Settles s p n r
+  due : (k : ℕ) → s .settled ≡ 0 → (p .delayed ≡ true → k ≡ min n (s .unacked)) → r ≡ acked (withTotal (withNumbers s (s .unacked - k) n (s .head) (s .buffered)) (totalWith p (s .«acked_total») k)) (Len k) → Settles s p n r
 
-settles-by : (s : ChannelSlot) (p : RxPolicy) (n : ℕ) (a : PendingAck) → s .settled ≡ 0 → (p .delayed ≡ true → ackLength a ≡ min n (s .unacked)) → Settles s p n (settledBy s n a)
+settles-by : (s : ChannelSlot) (p : RxPolicy) (n : ℕ) (a : PendingAck) → s .settled ≡ 0 → (p .delayed ≡ true → ackLength a ≡ min n (s .unacked)) → Settles s p n (settledBy s p n a)
 unfolding settledBy ackLength
 settles-by s p n (Len k) z h = due k z h refl
 settles-by s p n Nothing z h = not-due z h refl
@@ -182,11 +204,12 @@ module _ (p : RxPolicy) (credit : Terms) (s : ChannelSlot) (q : List ℕ) (b : B
         kept = g .kept;
         nums = let m = g .nums in record { all = m .all; inside = m .inside; room = m .room; within = m .within; counted = m .counted; acks = omega arith };
         owed = λ d c. let o = g .owed d c in let z = h d c in record { same = omega arith; held = o .held; low = omega arith; high = omega arith };
+        tally = tally-none p _ _ _ k (g .tally);
         even = λ t d c. let v = g .even t d c in omega arith;
       }
 
   settle-some : (k : ℕ) → s .settled ≡ 0 → (p .delayed ≡ true → k ≡ min (min want (s .buffered)) (s .unacked))
-      → Good p credit (withNumbers s (s .unacked - k) (min want (s .buffered)) (s .head) (s .buffered)) q (ackedB (carried p (Len k)) (settleB p want b))
+      → Good p credit (withTotal (withNumbers s (s .unacked - k) (min want (s .buffered)) (s .head) (s .buffered)) (totalWith p (s .«acked_total») k)) q (ackedB (carried p (Len k)) (settleB p want b))
   unfolding ackLength
   settle-some k z f =
       let m = g .nums in
@@ -219,6 +242,7 @@ module _ (p : RxPolicy) (credit : Terms) (s : ChannelSlot) (q : List ℕ) (b : B
             let x = book-aside d c in
             let w : cond (eqb (s .settled) 0) (min want (s .buffered)) (s .settled) ≡ min want (s .buffered) = cond-true (eqb (s .settled) 0) _ _ (eq-eqb (s .settled) 0 z) in
             record { same = omega arith; held = omega arith; low = omega arith; high = omega arith };
+        tally = tally-more p _ _ k _ (λ d. carried-delayed p (Len k) d) (g .tally);
         even = λ t d c. let o = g .owed d c in let e = f d in let y : carried p (Len k) ≡ k = carried-delayed p (Len k) d in let v = g .even t d c in omega arith;
       }
 
@@ -292,6 +316,7 @@ acked-drop p credit s q b k z g =
       kept = g .kept;
       nums = record { all = m .all; inside = m .inside; room = m .room; within = m .within; counted = m .counted; acks = omega arith };
       owed = λ d c. let o = g .owed d c in record { same = o .same; held = o .held; low = omega arith; high = omega arith };
+      tally = tally-drop p _ _ k z (g .tally);
       even = λ t d c. let v = g .even t d c in omega arith;
     }
 
@@ -320,6 +345,7 @@ module _ (p : RxPolicy) (credit : Terms) (s : ChannelSlot) (q : List ℕ) (b : B
         stream = append-assoc (b .handed) (take n q) (drop n q) ∙ ap (λ (x : List ℕ). b .handed ++ x) (take-append-drop n q) ∙ g .stream;
         nums = record { all = omega arith; inside = omega arith; room = omega arith; within = omega arith; counted = m .counted; acks = omega arith };
         owed = λ d c. let o = g .owed d c in record { same = omega arith; held = omega arith; low = o .low; high = o .high };
+        tally = g .tally;
         even = λ t d c. let v = g .even t d c in let u = fits t d c in omega arith;
       }
 
@@ -342,6 +368,7 @@ module _ (p : RxPolicy) (credit : Terms) (s : ChannelSlot) (q : List ℕ) (b : B
         stream = ap (λ (x : List ℕ). x ++ q) e ∙ g .stream;
         nums = record { all = omega arith; inside = m .inside; room = m .room; within = m .within; counted = m .counted; acks = omega arith };
         owed = λ d c. let o = g .owed d c in record { same = omega arith; held = o .held; low = o .low; high = o .high };
+        tally = g .tally;
         even = λ t d c. let v = g .even t d c in omega arith;
       }
 
@@ -362,6 +389,7 @@ module _ (p : RxPolicy) (credit : Terms) (s : ChannelSlot) (q : List ℕ) (b : B
         kept = g .kept;
         nums = record { all = m .all; inside = m .inside; room = m .room; within = m .within; counted = m .counted; acks = omega arith };
         owed = λ d c. let o = g .owed d c in record { same = o .same; held = o .held; low = omega arith; high = omega arith };
+        tally = tally-none p _ _ k z (g .tally);
         even = λ t d c. let v = g .even t d c in omega arith;
       }
 
@@ -382,6 +410,7 @@ module _ (p : RxPolicy) (credit : Terms) (s : ChannelSlot) (q : List ℕ) (b : B
         owed = g .owed;
         nums = record { all = m .all; inside = m .inside; room = m .room; within = m .within; counted = omega arith; acks = m .acks };
         kept = λ d k. g .kept d (and-true (b .kept) (withinRule before b) k .0);
+        tally = g .tally;
         even = g .even;
       }
 
@@ -401,6 +430,7 @@ module _ (p : RxPolicy) (credit : Terms) (s : ChannelSlot) (q : List ℕ) (b : B
         owed = g .owed;
         nums = g .nums;
         kept = λ d k. ap (λ (x : Bool). x || false) (g .kept d k);
+        tally = g .tally;
         even = g .even;
       }
 
@@ -426,6 +456,7 @@ module _ (p : RxPolicy) (credit : Terms) (s : ChannelSlot) (q : List ℕ) (b : B
             let o = g .opened d in
             let f = lim .fits in
             absurd (omega arith);
+        tally = g .tally;
         even = g .even;
       }
 
@@ -446,13 +477,14 @@ module _ (p : RxPolicy) (credit : Terms) (s : ChannelSlot) (q : List ℕ) (b : B
         kept = g .kept;
         ends = refl;
         owed = λ d c. let z : true ≡ false = c in absurd (true≢false z);
+        tally = g .tally;
         even = λ t d c. let z : true ≡ false = c in absurd (true≢false z);
       }
 
   -- the budget does not count
   pub sending-good : (a : Bool) (z : ℤ) → Good p credit (withSending s a z) q b
   sending-good a z =
-      record { filled = g .filled; known = g .known; there = g .there; loc = g .loc; rem = g .rem; opened = g .opened; run = g .run; stream = g .stream; nums = g .nums; ends = g .ends; owed = g .owed; kept = g .kept; even = g .even }
+      record { filled = g .filled; known = g .known; there = g .there; loc = g .loc; rem = g .rem; opened = g .opened; run = g .run; stream = g .stream; nums = g .nums; ends = g .ends; owed = g .owed; kept = g .kept; tally = g .tally; even = g .even }
 
   -- a WRTE put behind the run
   module _ (before : ℕ) (body : List ℕ) (small : p .«rx_cap» ≤ 16777216) (h : heldOf s + length body ≤ p .«rx_cap») where
@@ -479,6 +511,7 @@ module _ (p : RxPolicy) (credit : Terms) (s : ChannelSlot) (q : List ℕ) (b : B
               let o = g .owed d c in
               let e : u ≡ min (s .unacked + length body) (2 ^ 64 - 1) = f d in
               record { same = o .same; held = omega arith; low = omega arith; high = omega arith };
+          tally = g .tally;
           even = g .even;
         }
 
@@ -495,9 +528,9 @@ module _ (p : RxPolicy) (credit : Terms) (s : ChannelSlot) (q : List ℕ) (b : B
 
   -- a WRTE that goes straight to the reader
   module _ (before : ℕ) (body : List ℕ) (nil : q ≡ []) where
-    direct-good : (u k : ℕ) → (p .delayed ≡ true → (u ≡ s .unacked) × (k ≡ length body)) → k ≤ length body
-        → Good p credit (withNumbers s u (s .settled) (s .head) (s .buffered)) q (ackedB k (handedB body (acceptedB body (sentB before (length body) b))))
-    direct-good u k f le =
+    direct-good : (u k t : ℕ) → (p .delayed ≡ true → (u ≡ s .unacked) × (k ≡ length body)) → k ≤ length body → Tally p t (b .acked + k)
+        → Good p credit (withTotal (withNumbers s u (s .settled) (s .head) (s .buffered)) t) q (ackedB k (handedB body (acceptedB body (sentB before (length body) b))))
+    direct-good u k t f le y0 =
         let m = g .nums in
         let r = g .run in
         let l0 : length q ≡ 0 = ap length nil in
@@ -516,7 +549,8 @@ module _ (p : RxPolicy) (credit : Terms) (s : ChannelSlot) (q : List ℕ) (b : B
           stream = ap (λ (x : List ℕ). b .handed ++ body ++ x) nil ∙ append-nil (b .handed ++ body) ∙ ap (λ (x : List ℕ). x ++ body) e;
           nums = record { all = omega arith; inside = m .inside; room = m .room; within = m .within; counted = omega arith; acks = omega arith };
           kept = λ d x. g .kept d (and-true (b .kept) (withinRule before b) x .0);
-          owed = λ d c. let o = g .owed d c in let y = f d in let y0 = y .0 in let y1 = y .1 in record { same = omega arith; held = omega arith; low = omega arith; high = omega arith };
+          owed = λ d c. let o = g .owed d c in let y = f d in let y2 = y .0 in let y1 = y .1 in record { same = omega arith; held = omega arith; low = omega arith; high = omega arith };
+          tally = y0;
           even = λ t d c. let v = g .even t d c in let w = f d in let w1 = w .1 in omega arith;
         }
 
@@ -529,29 +563,30 @@ module _ (p : RxPolicy) (credit : Terms) (s : ChannelSlot) (q : List ℕ) (b : B
         by-test (eqb n 0) (λ z. ap ackLength (cond-true (eqb n 0) Nothing _ z) ∙ sym (eqb-true n 0 z)) (λ z. ap ackLength (cond-false (eqb n 0) Nothing _ z))
 
     -- what its OKAY carries is its length, in delayed mode
-    direct-delayed : (a : PendingAck) → p .delayed ≡ true → ackLength a ≡ length body → after-direct (acked s a)
+    direct-delayed : (a : PendingAck) → p .delayed ≡ true → ackLength a ≡ length body → after-direct (acked (withTotal s (totalWith p (s .«acked_total») (length body))) a)
     direct-delayed a d e =
         let c = carried-delayed p a d in
-        direct-good (s .unacked) (carried p a) (λ x. (refl, c ∙ e)) (omega arith)
+        direct-good (s .unacked) (carried p a) (totalWith p (s .«acked_total») (length body)) (λ x. (refl, c ∙ e)) (omega arith)
+        (tally-more p (s .«acked_total») (b .acked) (length body) (carried p a) (λ x. c ∙ e) (g .tally))
 
     direct-plain : (u : ℕ) (a : PendingAck) → p .delayed ≡ false → after-direct (acked (withNumbers s u (s .settled) (s .head) (s .buffered)) a)
     direct-plain u a d =
         let c = carried-plain p a d in
-        direct-good u (carried p a) (λ x. absurd (true≢false (sym x ∙ d))) (omega arith)
+        direct-good u (carried p a) (s .«acked_total») (λ x. absurd (true≢false (sym x ∙ d))) (omega arith) (tally-none p _ _ _ c (g .tally))
 
     pub deliver-good : after-direct (deliveredOf s p (length body))
     unfolding deliveredOf
     deliver-good =
         pick after-direct (p .delayed)
-        (λ d. direct-delayed (cond (s .«has_remote») (someLen (length body)) Nothing) d (ap ackLength (cond-true (s .«has_remote») _ _ (g .known)) ∙ some-length (length body)))
+        (λ d. subst after-direct (sym (cond-true (s .«has_remote») _ _ (g .known))) (direct-delayed (someLen (length body)) d (some-length (length body))))
         (λ d. pick after-direct (leb (p .watermark) (s .buffered)) (λ t. direct-plain (s .unacked) Nothing d)
         (λ t. pick after-direct (s .«has_remote») (λ k. direct-plain 0 (Len (s .unacked)) d) (λ k. direct-plain (s .unacked) Nothing d)))
 
 -- ---- a new channel
 
 new-numbers : (p : RxPolicy) (credit : Terms) (asked : ℕ) (s : ChannelSlot) (l r : ℕ) → (p .delayed ≡ true → asked ≡ credit .credit) → s .filled ≡ true → s .«has_remote» ≡ true
-    → l ≡ s .local .0 → r ≡ s .remote .0 → 0 ≡ s .buffered → 0 ≡ s .settled → 0 ≡ s .unacked → false ≡ isClosed (s .state) → Good p credit s [] (newBook l r asked)
-new-numbers p credit asked s l r h f k e1 e2 e3 e4 e5 e6 =
+    → l ≡ s .local .0 → r ≡ s .remote .0 → 0 ≡ s .buffered → 0 ≡ s .settled → 0 ≡ s .unacked → false ≡ isClosed (s .state) → 0 ≡ s .«acked_total» → Good p credit s [] (newBook l r asked)
+new-numbers p credit asked s l r h f k e1 e2 e3 e4 e5 e6 e7 =
     record {
       filled = f;
       known = k;
@@ -565,6 +600,7 @@ new-numbers p credit asked s l r h f k e1 e2 e3 e4 e5 e6 =
       nums = record { all = omega arith; inside = omega arith; room = omega arith; within = omega arith; counted = omega arith; acks = omega arith };
       owed = λ d c. record { same = e4; held = omega arith; low = omega arith; high = omega arith };
       kept = λ d x. refl;
+      tally = record { delayed = λ d. omega arith; plain = λ d. sym e7 };
       even = λ t d c. omega arith;
     }
 
@@ -579,7 +615,7 @@ module _ (p : RxPolicy) (credit : Terms) (asked : ℕ) (l : LocalId) (r : Remote
 
   new-by : (c : Credit) → Leaves fresh-good (openedBy (openingSlot l) r c)
   unfolding openedBy openingSlot isClosed
-  new-by (Of z) = new-numbers p credit asked _ (l .0) (r .0) h refl refl refl refl refl refl refl refl
+  new-by (Of z) = new-numbers p credit asked _ (l .0) (r .0) h refl refl refl refl refl refl refl refl refl
   new-by (CreditBad b) = tt
 
   -- the OKAY that answers our OPEN
@@ -587,7 +623,7 @@ module _ (p : RxPolicy) (credit : Terms) (asked : ℕ) (l : LocalId) (r : Remote
   unfolding openedOf openingSlot isClosed
   new-good payload =
       pick (Leaves fresh-good) (p .delayed) (λ d. new-by (creditOf payload))
-      (λ d. new-numbers p credit asked _ (l .0) (r .0) h refl refl refl refl refl refl refl refl)
+      (λ d. new-numbers p credit asked _ (l .0) (r .0) h refl refl refl refl refl refl refl refl refl)
 
 -- a later OKAY
 module _ (p : RxPolicy) (credit : Terms) (s : ChannelSlot) (q : List ℕ) (b : Book) (g : Good p credit s q b) where

@@ -42,15 +42,15 @@ use Rattle.table_dispatch.specs.declared.DispatchOutcome.the-variants.{AckWrite
 use Rattle.table.specs.Table.{allocated, numbered}
 use Rattle.table_dispatch.specs.Dispatch.{Dispatched}
 use Rattle.connection.specs.declared.Answer.{Answer}
-use Rattle.connection.specs.declared.Answer.the-variants.{Done, Waiting, Nothing, Opened, Settled as SettledIs, Read, Written, Front as FrontIs, Refused}
+use Rattle.connection.specs.declared.Answer.the-variants.{Numbers as NumbersAre, Done, Waiting, Nothing, Opened, Settled as SettledIs, Read, Written, Front as FrontIs, Refused}
 use Rattle.connection.specs.declared.Received.{Received}
 use Rattle.connection.specs.declared.Received.the-variants.{Packet as PacketIs, Stop}
 use Rattle.connection.specs.declared.Refusal.{Refusal}
 use Rattle.connection.specs.declared.Refusal.the-variants.{StoreShort, OutShort, NoFreeChannels, PayloadTooLarge, BrokenState}
 use Rattle.connection.specs.Act.{Acted, pushedBy, actedBy, tableOf, actOn}
-use Rattle.connection.specs.Calls.{Lent, Outcome, Work, begun, then, thenActed, storing, ends, untouched, checked, checkedOut, openOutcome, dispatchOutcome, settleOutcome, takeOutcome, readOutcome, writeOutcome, closeOutcome, takeFrontOutcome, dropped, pendingFor, policy, bodyOf, frameLen, idsIn, isThere, slotFor, receivedOf, unlessFault, stillPending, dispatchBy, dispatchStep, settledAs, settleStep, takenBy, takeStep, reread, readSettled, readActed, isDirect, readDirect, readBy, readTaken, readFirst, readStep, sendSome, sendBy, sendAgain, writeReadied, writeActed, writeAct, writeBy, writeFirst, writeOn, writeStep, closeStep, takeFrontBy, takeFrontStep, openOn, openReadied, openActed, openBy, openStep}
+use Rattle.connection.specs.Calls.{looked, numbersFor, numbersOutcome, Lent, Outcome, Work, begun, then, thenActed, storing, ends, untouched, checked, checkedOut, openOutcome, dispatchOutcome, settleOutcome, takeOutcome, readOutcome, writeOutcome, closeOutcome, takeFrontOutcome, dropped, pendingFor, policy, bodyOf, frameLen, idsIn, isThere, slotFor, receivedOf, unlessFault, stillPending, dispatchBy, dispatchStep, settledAs, settleStep, takenBy, takeStep, reread, readSettled, readActed, isDirect, readDirect, readBy, readTaken, readFirst, readStep, sendSome, sendBy, sendAgain, writeReadied, writeActed, writeAct, writeBy, writeFirst, writeOn, writeStep, closeStep, takeFrontBy, takeFrontStep, openOn, openReadied, openActed, openBy, openStep}
 use Rattle.connection.specs.Frames.{Frame, openFrame, writeFrame, framesBytes}
-use Rattle.history.specs.Run.{bytesIn, Call, openCall, dispatchCall, settleCall, takeCall, readCall, writeCall, closeCall, frontTaken, World, lent, outcome}
+use Rattle.history.specs.Run.{lookOutcome, bytesIn, Call, openCall, dispatchCall, settleCall, takeCall, readCall, writeCall, closeCall, frontTaken, lookCall, numbersLook, World, lent, outcome}
 use Rattle.history.proofs.Heard.{openIn}
 use Rattle.history.proofs.Steps.{ends-header}
 
@@ -141,8 +141,11 @@ module _ (l : Lent) where
         quiet-opens = λ t. o;
       }
 
+  pub looked-heads : (a : Answer) → Heads (looked l a)
+  looked-heads a = record { next = refl; pending-is = λ t. refl; quiet-opens = λ t n. refl }
+
   pub untouched-heads : (r : Refusal) → Heads (untouched l r)
-  untouched-heads r = record { next = refl; pending-is = λ t. refl; quiet-opens = λ t a. refl }
+  untouched-heads r = looked-heads (Refused r)
 
   act-off : (ss : List ChannelSlot) (k : Packet) (payload : List ℕ) → Off (actOn h0 ss (l .state .queue) (l .rx) (l .store) k payload .header)
   act-off ss k payload = let c = calm h0 ss (l .state .queue) (l .rx) (l .store) k payload in (ap (λ x. x .on) (c .pending-is), c .next)
@@ -302,6 +305,7 @@ module _ (l : Lent) where
   still-on (Read n) h t = absurd (true≢false (sym t))
   still-on (Written n) h t = absurd (true≢false (sym t))
   still-on (FrontIs r c p n) h t = absurd (true≢false (sym t))
+  still-on (NumbersAre c1 c2 c3 c4 c5) h t = absurd (true≢false (sym t))
   still-on (Refused r) h t = absurd (true≢false (sym t))
 
   still-next : (n : Answer) (h : Header) → stillPending n h .«next_local» ≡ h .«next_local»
@@ -314,6 +318,7 @@ module _ (l : Lent) where
   still-next (Read n) h = refl
   still-next (Written n) h = refl
   still-next (FrontIs r c p n) h = refl
+  still-next (NumbersAre c1 c2 c3 c4 c5) h = refl
   still-next (Refused r) h = refl
 
   open-acted-heads : (used : ℕ) (k : Packet) (payload : List ℕ) → Heads (openActed l used (actOn (l .state .header) (l .state .slots) (l .state .queue) (l .rx) (l .store) k payload))
@@ -371,9 +376,10 @@ Moves w (readCall out ch buf received) = Heads (lent w) (outcome w (readCall out
 Moves w (writeCall out ch bytes received) = Heads (lent w) (outcome w (writeCall out ch bytes received))
 Moves w (closeCall out ch) = Heads (lent w) (outcome w (closeCall out ch))
 Moves w frontTaken = Heads (lent w) (outcome w frontTaken)
+Moves w (lookCall x) = Heads (lent w) (outcome w (lookCall x))
 
 pub moves : (w : World) (c : Call) → Moves w c
-unfolding outcome openOutcome dispatchOutcome settleOutcome takeOutcome readOutcome writeOutcome closeOutcome takeFrontOutcome
+unfolding outcome openOutcome dispatchOutcome settleOutcome takeOutcome readOutcome writeOutcome closeOutcome takeFrontOutcome lookOutcome numbersOutcome
 moves w (openCall out destination received) = numbers-out (lent w) (bytesIn destination) (isWhole (w .state)) (length out) _ (open-numbers (lent w) (length out) (bytesIn destination) (bytesIn received))
 moves w (dispatchCall out received) = heads-out (lent w) (isWhole (w .state)) (length out) _ (dispatch-heads (lent w) (bytesIn received))
 moves w (settleCall out ch want) = heads-out (lent w) (isWhole (w .state)) (length out) _ (settle-heads (lent w) ch want)
@@ -382,6 +388,7 @@ moves w (readCall out ch buf received) = heads-out (lent w) (isWhole (w .state))
 moves w (writeCall out ch bytes received) = heads-out (lent w) (isWhole (w .state)) (length out) _ (write-heads (lent w) ch (length out) (bytesIn bytes) (bytesIn received))
 moves w (closeCall out ch) = heads-out (lent w) (isWhole (w .state)) (length out) _ (close-heads (lent w) ch)
 moves w frontTaken = heads-checked (lent w) (isWhole (w .state)) _ (front-heads (lent w))
+moves w (lookCall (numbersLook ch)) = heads-checked (lent w) (isWhole (w .state)) _ (looked-heads (lent w) (numbersFor (lent w) ch))
 
 -- the credit in the last OPEN written, where an open is pending: that of the one that was before, or ours
 module _ (w : World) (a credit : ℕ) (is : credit ≡ offeredCredit (lent w .state .header .negotiated)) (ask : lent w .state .header .pending .on ≡ true → a ≡ credit) where
@@ -405,6 +412,7 @@ module _ (w : World) (a credit : ℕ) (is : credit ≡ offeredCredit (lent w .st
   moves-asked (writeCall out ch bytes received) m = heads-asked _ m
   moves-asked (closeCall out ch) m = heads-asked _ m
   moves-asked frontTaken m = heads-asked _ m
+  moves-asked (lookCall x) m = heads-asked _ m
 
   pub call-asked : (c : Call) → Asked (outcome w c)
   call-asked c = moves-asked c (moves w c)

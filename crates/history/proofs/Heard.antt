@@ -33,7 +33,7 @@ use Rattle.connection.specs.Calls.{Lent, Outcome, writtenBy, untouched}
 use Rattle.connection.specs.Frames.{Frame, okayFrame, closeFrame, openFrame, writeFrame, frameBytes, framesBytes, Sent}
 use Rattle.connection.proofs.Sending.{sentOf, SentFits, FrameFits}
 use Rattle.history.specs.Book.{creditIn, acksOf, lastOpen}
-use Rattle.history.specs.Run.{Call, openCall, dispatchCall, settleCall, takeCall, readCall, writeCall, closeCall, frontTaken, outOf, bufOf}
+use Rattle.history.specs.Run.{Call, openCall, dispatchCall, settleCall, takeCall, readCall, writeCall, closeCall, frontTaken, lookCall, outOf, bufOf}
 use Rattle.history.specs.Seen.{heldBy, saidBy, countOf, Seen, Event, seenOf, sentBy, sentIn, seenIn}
 use Rattle.history.proofs.Acts.{acksIn}
 use Rattle.history.proofs.Steps.{sawOf}
@@ -171,6 +171,7 @@ count-eight (readCall out ch buf received) = refl
 count-eight (writeCall out ch bytes received) = refl
 count-eight (closeCall out ch) = refl
 count-eight frontTaken = refl
+count-eight (lookCall x) = refl
 
 -- what is seen of one: nothing
 abbrev pub nothing8 : Seen

@@ -3,7 +3,7 @@
 use mathlib.Core.Path.{_≡_, refl, sym, ap, ap₂, subst, _∙_}
 use mathlib.Core.Bool.{Bool, true, false, not, cond, _&&_, true≢false}
 use mathlib.Core.List.{List, []}
-use Prim.Native.Nat.{ℕ, _≤_, _<_}
+use Prim.Native.Nat.{ℕ, _-_, _^_, _≤_, _<_, min}
 use native.Mathlib.Omega.{arith}
 use lib.Dec.{eqb, ltb}
 use lib.ListN.{length, getD, set, take, drop}
@@ -19,7 +19,7 @@ use Rattle.incoming.specs.Incoming.{popped}
 use Rattle.slot.specs.declared.ChannelSlot.{ChannelSlot}
 use Rattle.slot.specs.declared.Taken.{Taken}
 use Rattle.slot.specs.declared.Taken.the-variants.{Data, Nothing as NothingTaken, Closed as ClosedTaken}
-use Rattle.slot.specs.Slot.{emptySlot, takenOf}
+use Rattle.slot.specs.Slot.{emptySlot, emptiedSlot, takenOf}
 use Rattle.slot.proofs.Kept.{pick}
 use Rattle.slot.proofs.Laws.{cond-true, cond-false}
 use Rattle.state.specs.declared.Header.{Header}
@@ -31,17 +31,17 @@ use Rattle.connection.specs.declared.Answer.{Answer}
 use Rattle.connection.specs.declared.Answer.the-variants.{Opened, Refused}
 use Rattle.connection.specs.declared.Refusal.{Refusal}
 use Rattle.connection.specs.Answer.{refusalNumber, answerNumber, answerValues}
-use Rattle.connection.specs.Calls.{Lent, Outcome, begun, dropped, ends, untouched, policy, bodyOf, isThere, slotFor, dispatchStep, settleStep, takenBy, takeStep, readStep, writeStep, closeStep, takeFrontBy, takeFrontStep, openStep}
+use Rattle.connection.specs.Calls.{looked, Lent, Outcome, begun, dropped, ends, untouched, policy, bodyOf, isThere, slotFor, dispatchStep, settleStep, takenBy, takeStep, readStep, writeStep, closeStep, takeFrontBy, takeFrontStep, openStep}
 use Rattle.connection.specs.Frames.{Sent}
-use Rattle.history.specs.Run.{Call, openCall, dispatchCall, settleCall, takeCall, readCall, writeCall, closeCall, frontTaken, bytesIn}
+use Rattle.history.specs.Run.{Call, openCall, dispatchCall, settleCall, takeCall, readCall, writeCall, closeCall, frontTaken, lookCall, Look, bytesIn}
 use Rattle.history.specs.Seen.{Seen}
-use Rattle.history.specs.Book.{headerAt, newBook, Book, noBook, isOn, isEarly, isRefused, settleB, ackedB, readB, writeB, packetB, acksOf, acksB, entryOn, openedB, bookAfter}
+use Rattle.history.specs.Book.{headerAt, newBook, Book, noBook, goneBook, isOn, isEarly, isRefused, settleB, ackedB, readB, writeB, packetB, acksOf, acksB, entryOn, openedB, bookAfter}
 use Rattle.history.specs.Demand3.{runOf}
 use Rattle.history.specs.NoLeak.{NoTake}
 use Rattle.history.proofs.Acts.{acksIn, good-by}
 use Rattle.history.proofs.Entries.{on, dispatch-good, settle-call, take-call, read-call, write-call, close-this, close-else, front-call}
-use Rattle.history.proofs.Marks.{Mark, Tame, tame-at, dispatch-tame, settle-tame, take-tame, read-tame, write-tame, front-tame}
-use Rattle.history.proofs.Good.{Terms, Good, Limits, Leaves, new-good, acked-none, handed-none}
+use Rattle.history.proofs.Marks.{there-filled, Mark, Tame, tame-at, dispatch-tame, settle-tame, take-tame, read-tame, write-tame, front-tame}
+use Rattle.history.proofs.Good.{Terms, Tally, Good, Limits, Leaves, new-good, acked-none, handed-none}
 use Rattle.history.proofs.Packets.{Marked, reads-arg0}
 use Rattle.connection.proofs.Slots.{slotsBy, slot-set-same, slot-set-other}
 use Rattle.history.proofs.Places.{TableOk}
@@ -52,10 +52,38 @@ run-none : (rx : List ℕ) (cap i : ℕ) (s : ChannelSlot) → s .buffered ≡ 0
 unfolding runOf part
 run-none rx cap i s e = ap (λ (n : ℕ). take n (drop (s .head) (shareOf rx cap i))) e
 
+-- a place with no channel, whose total is that of the last one
+pub record Vacant (p : RxPolicy) (s : ChannelSlot) (b : Book) : Type 0 where
+  pub gone : b .there ≡ false
+  pub known : s .«has_remote» ≡ false
+  pub tally : Tally p (s .«acked_total») (b .acked)
+
+-- the same of a slot and a book that are the same in these
+vacant-by : (p : RxPolicy) (s t : ChannelSlot) (b c : Book) → Vacant p s b → t .«has_remote» ≡ s .«has_remote» → cond (t .«has_remote») 0 (t .«acked_total») ≡ cond (s .«has_remote») 0 (s .«acked_total») → c ≡ b → Vacant p t c
+vacant-by p s t b c v e f g =
+    let k = e ∙ v .known in
+    let total : t .«acked_total» ≡ s .«acked_total» = sym (cond-false (t .«has_remote») 0 _ k) ∙ f ∙ cond-false (s .«has_remote») 0 _ (v .known) in
+    record {
+      gone = ap (λ (x : Book). x .there) g ∙ v .gone;
+      known = k;
+      tally =
+          record {
+            delayed = λ d. total ∙ v .tally .delayed d ∙ ap (λ (x : Book). min (x .acked) (2 ^ 64 - 1)) (sym g);
+            plain = λ d. total ∙ v .tally .plain d;
+          };
+    }
+
+-- where there never was one
+pub vacant-fresh : (p : RxPolicy) (s : ChannelSlot) (b : Book) → s ≡ emptySlot → b ≡ noBook → Vacant p s b
+unfolding emptySlot
+vacant-fresh p s b e g =
+    subst (λ (x : ChannelSlot). Vacant p x b) (sym e)
+    (subst (Vacant p emptySlot) (sym g) (record { gone = refl; known = refl; tally = record { delayed = λ d. omega arith; plain = λ d. refl } }))
+
 -- what is kept of one place, between calls
 pub record KeptAt (p : RxPolicy) (credit : Terms) (i : ℕ) (ss : List ChannelSlot) (rx : List ℕ) (b : Book) : Type 0 where
   pub full : slotIn ss i .filled ≡ true → Good p credit (slotIn ss i) (runOf rx (p .«rx_cap») i (slotIn ss i)) b
-  pub none : slotIn ss i .filled ≡ false → b .there ≡ false
+  pub none : slotIn ss i .filled ≡ false → Vacant p (slotIn ss i) b
 
 -- the same after an outcome
 abbrev pub KeptBy : RxPolicy → Terms → ℕ → List ChannelSlot → Outcome → Book → Type 0
@@ -75,11 +103,11 @@ module _ (p : RxPolicy) (credit : Terms) (i : ℕ) (ss : List ChannelSlot) (rx :
   here c = Good p credit (slotIn ss i) (runOf rx (p .«rx_cap») i (slotIn ss i)) c
 
   -- the book of a place with no channel, where none is filled
-  gone : (call : Call) (o : Seen) → b .there ≡ false → openedB i asked call o b ≡ b → bookAfter p books asked call o i b .there ≡ false
+  gone : (call : Call) (o : Seen) → b .there ≡ false → openedB i asked call o b ≡ b → bookAfter p books asked call o i b ≡ b
   unfolding bookAfter
   gone call o n e =
       let z : openedB i asked call o (cond (b .there) (entryOn p books i call o b) b) ≡ b = ap (openedB i asked call o) (cond-false (b .there) _ _ n) ∙ e in
-      ap (λ (c : Book). acksB o c .there) z ∙ ap (λ (c : Book). c .there) (acks-gone o b n) ∙ n
+      ap (acksB o) z ∙ acks-gone o b n
 
   -- that of a channel that stays
   stays : (call : Call) (x : Outcome) (fs : List Sent) → Good p credit (slotIn ss i) (runOf rx (p .«rx_cap») i (slotIn ss i)) b → slotIn (slotsBy ss (x .changes)) i .local .0 ≡ slotIn ss i .local .0
@@ -101,7 +129,9 @@ module _ (p : RxPolicy) (credit : Terms) (i : ℕ) (ss : List ChannelSlot) (rx :
       let fi = ap (λ (y : Mark). y .filled) m in
       record {
         full = λ f. let f0 = sym fi ∙ f in let g = k .full f0 in stays call x fs g (ap (λ (y : Mark). y .local) m) eo (ef g f0);
-        none = λ f. gone call (sawOf x fs) (k .none (sym fi ∙ f)) (eo b);
+        none = λ f.
+            let v = k .none (sym fi ∙ f) in
+            vacant-by p _ _ b _ v (ap (λ (y : Mark). y .known) m) (ap (λ (y : Mark). y .left) m) (gone call (sawOf x fs) (v .gone) (eo b));
       }
 
   -- a refusal by 8, 9 or 13
@@ -116,8 +146,9 @@ module _ (p : RxPolicy) (credit : Terms) (i : ℕ) (ss : List ChannelSlot) (rx :
       pick here (isOn i b ch) (λ t. good-by p credit _ _ _ _ b _ refl refl (cond-true (isEarly (refusalNumber r)) _ _ e) g) (λ t. g)
   early-good (writeCall out ch bytes received) r fs e g = pick here (isOn i b ch) (λ t. g) (λ t. g)
   early-good (closeCall out ch) r fs e g =
-      good-by p credit _ _ _ _ b _ refl refl (ap (λ (t : Bool). cond (isOn i b ch && not t) noBook b) (refused-is r) ∙ ap (λ (t : Bool). cond t noBook b) (and-false (isOn i b ch))) g
+      good-by p credit _ _ _ _ b _ refl refl (ap (λ (t : Bool). cond (isOn i b ch && not t) (goneBook b) b) (refused-is r) ∙ ap (λ (t : Bool). cond t (goneBook b) b) (and-false (isOn i b ch))) g
   early-good frontTaken r fs e g = g
+  early-good (lookCall y) r fs e g = g
 
   refused-opened : (call : Call) (r : Refusal) (fs : List Sent) (c : Book) → openedB i asked call (saw (Refused r) 0 fs []) c ≡ c
   unfolding openedB answerNumber
@@ -130,6 +161,7 @@ module _ (p : RxPolicy) (credit : Terms) (i : ℕ) (ss : List ChannelSlot) (rx :
   refused-opened (writeCall out ch bytes received) r fs c = refl
   refused-opened (closeCall out ch) r fs c = refl
   refused-opened frontTaken r fs c = refl
+  refused-opened (lookCall y) r fs c = refl
 
   pub early-kept : (call : Call) (l : Lent) (r : Refusal) (fs : List Sent) → l .rx ≡ rx → isEarly (answerNumber (Refused r)) ≡ true → ((n : ℕ) → acksOf n fs ≡ 0)
       → KeptBy p credit i ss (untouched l r) (bookAfter p books asked call (sawOf (untouched l r) fs) i b)
@@ -218,6 +250,13 @@ module _ (credit : Terms) (l : Lent) (ok : TableOk (policy l) (l .state .header 
       (λ g f. acked-none p credit _ _ _ (front-call l credit ok lim i f b g books mk) (acksOf (b .local) fs)
       (hs (b .local) ∙ front-silent (b .local) (dropped (l .state .header)) (popped (dropped (l .state .header)) (l .state .queue) .changes) (popped (dropped (l .state .header)) (l .state .queue) .result)))
 
+  -- a call that only looks
+  pub look-follows : (x : Look) (a : Answer) → Follows (lookCall x) (looked l a)
+  unfolding openedB entryOn
+  look-follows x a fs hs =
+      plain-kept p credit i ws (l .rx) books asked b k (lookCall x) (looked l a) fs tt (λ c. refl)
+      (λ g f. acked-none p credit _ _ _ g (acksOf (b .local) fs) (hs (b .local)))
+
   -- ---- close
 
   -- a CLSE carries no credit
@@ -225,18 +264,14 @@ module _ (credit : Terms) (l : Lent) (ok : TableOk (policy l) (l .state .header 
   unfolding closeStep ends
   close-silent n ch = pick (λ (x : Outcome). acksIn p n (x .frames) ≡ 0) (isThere l ch && slotFor l ch .«has_remote») (λ t. refl) (λ t. refl)
 
-  -- an empty place stays so
-  close-empty : (ch : ChannelId) → slotIn ws i .filled ≡ false → slotIn (slotsBy ws (closeStep l ch .changes)) i .filled ≡ false
-  unfolding closeStep ends emptySlot
+  -- an empty place stays as it is: the channel that is closed stands elsewhere
+  close-empty : (ch : ChannelId) → slotIn ws i .filled ≡ false → slotIn (slotsBy ws (closeStep l ch .changes)) i ≡ slotIn ws i
+  unfolding closeStep ends
   close-empty ch f =
-      pick (λ (x : Outcome). slotIn (slotsBy ws (x .changes)) i .filled ≡ false) (isThere l ch && slotFor l ch .«has_remote»)
-      (λ t. by-test (eqb i (ch .slot))
-      (λ u. let e = eqb-true i (ch .slot) u in
-      by-test (ltb i (length ws))
-      (λ v. ap (λ (z : ℕ). slotIn (set ws z emptySlot) i .filled) (sym e) ∙ ap (λ (s : ChannelSlot). s .filled) (slot-set-same ws i emptySlot (ltb-true i (length ws) v)))
-      (λ v. ap (λ (z : List ChannelSlot). slotIn z i .filled) (set-out ws (ch .slot) emptySlot (subst (λ (z : ℕ). length ws ≤ z) e (ltb-false i (length ws) v))) ∙ f))
-      (λ u. ap (λ (s : ChannelSlot). s .filled) (slot-set-other ws (ch .slot) i emptySlot (eqb-false i (ch .slot) u)) ∙ f))
-      (λ t. f)
+      pick (λ (x : Outcome). slotIn (slotsBy ws (x .changes)) i ≡ slotIn ws i) (isThere l ch && slotFor l ch .«has_remote»)
+      (λ t. slot-set-other ws (ch .slot) i (emptiedSlot (slotFor l ch))
+      (λ e. true≢false (sym (there-filled l ok ch (and-true (isThere l ch) _ t .0)) ∙ ap (λ (z : ℕ). slotIn ws z .filled) (sym e) ∙ f)))
+      (λ t. refl)
 
   module _ (out : List ℕ) (ch : ChannelId) (fs : List Sent) (hs : Hears (closeStep l ch) fs) where
     abbrev closing : Outcome
@@ -245,16 +280,25 @@ module _ (credit : Terms) (l : Lent) (ok : TableOk (policy l) (l .state .header 
     abbrev closeO : Seen
     closeO = sawOf closing fs
 
-    -- the channel that is closed has no book any more
-    book-this : here p credit i ws (l .rx) books asked b k b → (isOn i b ch && not (isRefused (answerNumber (closing .answer)))) ≡ true → bookAfter p books asked (closeCall out ch) closeO i b ≡ noBook
+    -- the channel that is closed is in the book no more
+    book-this : here p credit i ws (l .rx) books asked b k b → (isOn i b ch && not (isRefused (answerNumber (closing .answer)))) ≡ true → bookAfter p books asked (closeCall out ch) closeO i b ≡ goneBook b
     unfolding bookAfter openedB entryOn acksB
-    book-this g e = ap (acksB closeO) (cond-true (b .there) _ _ (g .there) ∙ cond-true (isOn i b ch && not (isRefused (answerNumber (closing .answer)))) noBook b e)
+    book-this g e = ap (acksB closeO) (cond-true (b .there) _ _ (g .there) ∙ cond-true (isOn i b ch && not (isRefused (answerNumber (closing .answer)))) (goneBook b) b e)
 
     book-else : here p credit i ws (l .rx) books asked b k b → (isOn i b ch && not (isRefused (answerNumber (closing .answer)))) ≡ false → bookAfter p books asked (closeCall out ch) closeO i b ≡ ackedB (acksOf (b .local) fs) b
     unfolding bookAfter openedB entryOn
     book-else g e =
-        ap (acksB closeO) (cond-true (b .there) _ _ (g .there) ∙ cond-false (isOn i b ch && not (isRefused (answerNumber (closing .answer)))) noBook b e)
+        ap (acksB closeO) (cond-true (b .there) _ _ (g .there) ∙ cond-false (isOn i b ch && not (isRefused (answerNumber (closing .answer)))) (goneBook b) b e)
         ∙ acks-there closeO b (b .local) (g .there) refl
+
+    -- what closing leaves of a slot
+    emptied-none : (s : ChannelSlot) → emptiedSlot s .filled ≡ false
+    unfolding emptiedSlot emptySlot
+    emptied-none s = refl
+
+    emptied-vacant : (s t : ChannelSlot) (c : Book) → Tally p (s .«acked_total») (b .acked) → t ≡ emptiedSlot s → c ≡ goneBook b → Vacant p t c
+    unfolding emptiedSlot emptySlot
+    emptied-vacant s t c y e g = subst (λ (x : ChannelSlot). Vacant p x c) (sym e) (subst (Vacant p (emptiedSlot s)) (sym g) (record { gone = refl; known = refl; tally = y }))
 
     unopened : openedB i asked (closeCall out ch) closeO b ≡ b
     unfolding openedB
@@ -268,19 +312,22 @@ module _ (credit : Terms) (l : Lent) (ok : TableOk (policy l) (l .state .header 
               (λ f0. let g = k .full f0 in
               let w = on l credit ok lim i f0 b g books mk ch in
               by-test (isOn i b ch)
-              (λ o. absurd (true≢false (sym f ∙ close-this l credit ok lim i f0 b g books mk ch w o .0)))
+              (λ o. absurd (true≢false (sym f ∙ ap (λ (z : ChannelSlot). z .filled) (close-this l credit ok lim i f0 b g books mk ch w o .0) ∙ emptied-none (slotIn ws i))))
               (λ o. good-by p credit _ _ _ _ _ _ refl refl (book-else g (ap (λ (t : Bool). t && not (isRefused (answerNumber (closing .answer)))) o))
               (acked-none p credit _ _ _ (close-else l credit ok lim i f0 b g books mk ch w o) (acksOf (b .local) fs) (hs (b .local) ∙ close-silent (b .local) ch))))
-              (λ f0. absurd (true≢false (sym f ∙ close-empty ch f0)));
+              (λ f0. absurd (true≢false (sym f ∙ ap (λ (z : ChannelSlot). z .filled) (close-empty ch f0) ∙ f0)));
           none = λ f.
               by-test (slotIn ws i .filled)
               (λ f0. let g = k .full f0 in
               let w = on l credit ok lim i f0 b g books mk ch in
               by-test (isOn i b ch)
-              (λ o. let c = close-this l credit ok lim i f0 b g books mk ch w o .1 in
-              ap (λ (z : Book). z .there) (book-this g (ap₂ (λ (t u : Bool). t && not u) o c)))
+              (λ o. let c = close-this l credit ok lim i f0 b g books mk ch w o in
+              emptied-vacant (slotIn ws i) _ _ (g .tally) (c .0) (book-this g (ap₂ (λ (t u : Bool). t && not u) o (c .1))))
               (λ o. absurd (true≢false (sym (close-else l credit ok lim i f0 b g books mk ch w o .filled) ∙ f))))
-              (λ f0. gone p credit i ws (l .rx) books asked b k (closeCall out ch) closeO (k .none f0) unopened);
+              (λ f0. let v = k .none f0 in
+              let e = close-empty ch f0 in
+              vacant-by p (slotIn ws i) _ b _ v (ap (λ (z : ChannelSlot). z .«has_remote») e) (ap (λ (z : ChannelSlot). cond (z .«has_remote») 0 (z .«acked_total»)) e)
+              (gone p credit i ws (l .rx) books asked b k (closeCall out ch) closeO (v .gone) unopened));
         }
 
   -- ---- open
@@ -356,8 +403,10 @@ module _ (credit : Terms) (l : Lent) (ok : TableOk (policy l) (l .state .header 
               let sl : slotIn (slotsBy ws (x .changes)) i ≡ t = ap (λ (z : List ChannelSlot). slotIn z i) e2 ∙ own-slot on wslot t refl e in
               absurd (true≢false (sym (ng .filled) ∙ sym (ap (λ (s : ChannelSlot). s .filled) sl) ∙ f)))
               (λ u. let so = slot-set-other ws wslot i t (λ z. eqb-false wslot i u (sym z)) in
-              let f0 : slotIn ws i .filled ≡ false = sym (ap (λ (z : List ChannelSlot). slotIn z i .filled) e2 ∙ ap (λ (s : ChannelSlot). s .filled) so) ∙ f in
-              gone p credit i ws (l .rx) books asked b k openE o (k .none f0) (filled-book x b e1 ∙ cond-false (eqb wslot i) nb b u));
+              let se : slotIn (slotsBy ws (x .changes)) i ≡ slotIn ws i = ap (λ (z : List ChannelSlot). slotIn z i) e2 ∙ so in
+              let v = k .none (sym (ap (λ (s : ChannelSlot). s .filled) se) ∙ f) in
+              vacant-by p (slotIn ws i) _ b _ v (ap (λ (z : ChannelSlot). z .«has_remote») se) (ap (λ (z : ChannelSlot). cond (z .«has_remote») 0 (z .«acked_total»)) se)
+              (gone p credit i ws (l .rx) books asked b k openE o (v .gone) (filled-book x b e1 ∙ cond-false (eqb wslot i) nb b u)));
         }
 
   pub open-follows : (out destination received : List ℕ) → Follows (openCall out destination received) (openStep l (length out) (bytesIn destination) (bytesIn received))

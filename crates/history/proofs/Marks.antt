@@ -1,7 +1,7 @@
 -- Which places hold a channel, with what local number, changes only where an open fills a slot or a close empties it.
 -- Assumes nothing.
 use mathlib.Core.Path.{_≡_, refl, sym, ap, ap₂, subst, _∙_}
-use mathlib.Core.Bool.{Bool, true, _&&_}
+use mathlib.Core.Bool.{Bool, true, cond, _&&_}
 use mathlib.Core.List.{List, [], _∷_, _++_, map, append-nil}
 use Prim.Native.Nat.{ℕ, _+_}
 use lib.Dec.{eqb, ltb}
@@ -60,13 +60,15 @@ use Rattle.connection.proofs.Slots.{slotsBy, slots-by}
 use Rattle.history.proofs.Places.{TableOk, found-filled}
 use Rattle.history.proofs.Steps.{table-set}
 
--- whether a slot is filled, and its local number
+-- whether a slot is filled, its local number, and of a place with no channel the total
 pub record Mark : Type 0 where
   pub filled : Bool
   pub local : ℕ
+  pub known : Bool
+  pub left : ℕ
 
 abbrev pub markOf : ChannelSlot → Mark
-markOf s = record { filled = s .filled; local = s .local .0 }
+markOf s = record { filled = s .filled; local = s .local .0; known = s .«has_remote»; left = cond (s .«has_remote») 0 (s .«acked_total») }
 
 -- changes of slots that keep their marks
 abbrev pub Tame : List ChannelSlot → List Change → Type 0
@@ -109,7 +111,9 @@ tame-then ss w i t fs x e = tame-append ss (w .changes) (slotTo i t ∷ []) x (e
 
 -- what a slot function leaves has its mark
 stays-mark : (s t : ChannelSlot) → Stays s t → markOf t ≡ markOf s
-stays-mark s t k = ap₂ (λ (x : Bool) (y : ℕ). record { filled = x; local = y }) (k .filled) (ap (λ z. z .0) (k .local))
+stays-mark s t k =
+    ap₂ (λ (x : Bool) (y : ℕ). record { filled = x; local = y; known = t .«has_remote»; left = cond (t .«has_remote») 0 (t .«acked_total») }) (k .filled) (ap (λ z. z .0) (k .local))
+    ∙ ap₂ (λ (x : Bool) (y : ℕ). record { filled = s .filled; local = s .local .0; known = x; left = y }) (k .known) (k .left)
 
 -- ---- dispatching
 

@@ -22,20 +22,20 @@ use Rattle.state.proofs.StateLaws.{OpenFits, state-split, state-forth, state-fi
 use Rattle.state.proofs.ChangeLaws.{changes-layout}
 use Rattle.connection.specs.declared.Refusal.the-variants.{StoreShort}
 use Rattle.connection.specs.Answer.{refusalNumber, answerNumber}
-use Rattle.connection.specs.Calls.{Outcome, untouched, checked, checkedOut, openOutcome, dispatchOutcome, settleOutcome, takeOutcome, readOutcome, writeOutcome, closeOutcome, takeFrontOutcome, openStep, dispatchStep, settleStep, takeStep, readStep, writeStep, closeStep, takeFrontStep, fresh, Made, makeOf}
-use Rattle.history.specs.Run.{bytesIn, Call, openCall, dispatchCall, settleCall, takeCall, readCall, writeCall, closeCall, frontTaken, World, lent, outcome, after, afterAll, made, Start, begins, agreedIn}
+use Rattle.connection.specs.Calls.{looked, numbersFor, numbersOutcome, Outcome, untouched, checked, checkedOut, openOutcome, dispatchOutcome, settleOutcome, takeOutcome, readOutcome, writeOutcome, closeOutcome, takeFrontOutcome, openStep, dispatchStep, settleStep, takeStep, readStep, writeStep, closeStep, takeFrontStep, fresh, Made, makeOf}
+use Rattle.history.specs.Run.{lookOutcome, bytesIn, Call, openCall, dispatchCall, settleCall, takeCall, readCall, writeCall, closeCall, frontTaken, lookCall, numbersLook, World, lent, outcome, after, afterAll, made, Start, begins, agreedIn}
 use Rattle.history.specs.Never13.{Unbroken, Never13, StaysWhole, Always8}
 use Rattle.state_whole.proofs.WholeLaws.{length-layout, Bounds, SlotWhole, Whole, whole-own, whole-true, whole-full, whole-fits, empty-whole, whole-facts}
 use Rattle.history.proofs.Bytes.{bytes-in}
 use Rattle.connection.proofs.WholeWork.{negotiated, Kept, checked-kept, checked-out-kept, long}
-use Rattle.connection.proofs.WholeCalls.{settle-kept, take-kept, close-kept, front-kept, dispatch-kept, read-kept, write-kept, open-kept}
+use Rattle.connection.proofs.WholeCalls.{settle-kept, take-kept, close-kept, front-kept, numbers-kept, dispatch-kept, read-kept, write-kept, open-kept}
 
 -- ---- one call
 
 module _ (w : World) (is : isWhole (w .state) ≡ true)
     (g : Whole (negotiated (lent w)) (lent w .state .header) (lent w .state .slots) (lent w .state .queue)) where
   pub call-kept : (x : Call) → Kept (lent w) (outcome w x)
-  unfolding outcome openOutcome dispatchOutcome settleOutcome takeOutcome readOutcome writeOutcome closeOutcome takeFrontOutcome
+  unfolding outcome openOutcome dispatchOutcome settleOutcome takeOutcome readOutcome writeOutcome closeOutcome takeFrontOutcome lookOutcome numbersOutcome
   call-kept (openCall out destination received) =
       subst (λ (t : Bool). Kept (lent w) (checkedOut t (lent w) (length out) (openStep (lent w) (length out) (bytesIn destination) (bytesIn received)))) (sym is)
       (checked-out-kept (lent w) g (length out) _
@@ -61,6 +61,8 @@ module _ (w : World) (is : isWhole (w .state) ≡ true)
       (checked-out-kept (lent w) g (length out) _ (λ t. close-kept (lent w) g ch))
   call-kept frontTaken =
       subst (λ (t : Bool). Kept (lent w) (checked t (lent w) (takeFrontStep (lent w)))) (sym is) (checked-kept (lent w) g _ (λ t. front-kept (lent w) g))
+  call-kept (lookCall (numbersLook ch)) =
+      subst (λ (t : Bool). Kept (lent w) (checked t (lent w) (looked (lent w) (numbersFor (lent w) ch)))) (sym is) (checked-kept (lent w) g _ (λ t. numbers-kept (lent w) g ch))
 
 -- ---- a list of calls
 
@@ -241,7 +243,7 @@ module _ (w : World) (is : isWhole (w .state) ≡ true)
   checked-8 t o e = cond-true t _ _ e ∙ cond-false (storesFit (negotiated (lent w) .config) (length (w .rx)) (length (w .store))) o _ short
 
   call-8 : (x : Call) → outcome w x ≡ untouched (lent w) StoreShort
-  unfolding outcome openOutcome dispatchOutcome settleOutcome takeOutcome readOutcome writeOutcome closeOutcome takeFrontOutcome checkedOut
+  unfolding outcome openOutcome dispatchOutcome settleOutcome takeOutcome readOutcome writeOutcome closeOutcome takeFrontOutcome lookOutcome numbersOutcome checkedOut
   call-8 (openCall out destination received) = checked-8 (isWhole (w .state)) _ is
   call-8 (dispatchCall out received) = checked-8 (isWhole (w .state)) _ is
   call-8 (settleCall out ch want) = checked-8 (isWhole (w .state)) _ is
@@ -250,6 +252,7 @@ module _ (w : World) (is : isWhole (w .state) ≡ true)
   call-8 (writeCall out ch bytes received) = checked-8 (isWhole (w .state)) _ is
   call-8 (closeCall out ch) = checked-8 (isWhole (w .state)) _ is
   call-8 frontTaken = checked-8 (isWhole (w .state)) _ is
+  call-8 (lookCall (numbersLook ch)) = checked-8 (isWhole (w .state)) _ is
 
   after-8 : (x : Call) → after w x ≡ w
   unfolding after

@@ -54,7 +54,7 @@ use Rattle.connection.specs.declared.Received.the-variants.{Packet as PacketIs}
 use Rattle.connection.specs.declared.Refusal.the-variants.{ChannelClosed, NoFreeChannels, PayloadTooLarge, BadCredit as CreditRefused, UnexpectedCommand}
 use Rattle.connection.specs.Act.{Acted, tableOf, actOn}
 use Rattle.connection.specs.Answer.{refusalNumber, answerNumber}
-use Rattle.connection.specs.Calls.{Lent, Outcome, Work, begun, then, thenActed, ends, dropped, pendingFor, policy, idsIn, isThere, slotFor, faultRefusal, errorRefusal, unlessFault, receivedOf, bodyOf, frameLen, isDirect, dispatchBy, dispatchStep, settledAs, settleStep, takenBy, takeStep, reread, readSettled, readActed, readDirect, readBy, readTaken, readFirst, readStep, sendSome, sendBy, sendAgain, writeReadied, writeActed, writeAct, writeBy, writeFirst, writeOn, writeStep, closeStep, takeFrontBy, takeFrontStep, openOn, stillPending, openReadied, openActed, openBy, openStep}
+use Rattle.connection.specs.Calls.{looked, numbersFor, numbersIn, Lent, Outcome, Work, begun, then, thenActed, ends, dropped, pendingFor, policy, idsIn, isThere, slotFor, faultRefusal, errorRefusal, unlessFault, receivedOf, bodyOf, frameLen, isDirect, dispatchBy, dispatchStep, settledAs, settleStep, takenBy, takeStep, reread, readSettled, readActed, readDirect, readBy, readTaken, readFirst, readStep, sendSome, sendBy, sendAgain, writeReadied, writeActed, writeAct, writeBy, writeFirst, writeOn, writeStep, closeStep, takeFrontBy, takeFrontStep, openOn, stillPending, openReadied, openActed, openBy, openStep}
 use Rattle.connection.specs.Frames.{openFrame, writeFrame, framesBytes}
 use Rattle.connection.proofs.Slots.{slotsBy, slots-by, slot-set-same}
 use Rattle.history.proofs.Acts.{acted-fault, acted-at, at-named}
@@ -197,6 +197,13 @@ module _ (l : Lent) (ok : TableOk (policy l) (l .state .header .negotiated .conf
   pub front-never : Never (takeFrontStep l)
   unfolding takeFrontStep
   front-never = front-by h0 (popped h0 (l .state .queue) .changes) (popped h0 (l .state .queue) .result)
+
+  pub numbers-never : (ch : ChannelId) → Never (looked l (numbersFor l ch))
+  unfolding numbersFor numbersIn answerNumber refusalNumber
+  numbers-never ch =
+      let N : ℕ → Type 0 = λ n. n ≡ 11 → ⊥ in
+      pick (λ (a : Answer). N (answerNumber a)) (isThere l ch)
+      (λ t. pick N (isClosed (slotFor l ch .state)) (λ c e. omega arith) (λ c e. omega arith)) (λ t e. omega arith)
 
   -- ---- calls that are handed received bytes
 

@@ -62,16 +62,16 @@ use Rattle.table_dispatch.specs.Dispatch.{namedPlace, remotePlace, closedAt, cl
 use Rattle.table_dispatch.proofs.DispatchLaws.{named-found}
 use Rattle.table_dispatch.proofs.KeepLaws.{dispatch-keeps}
 use Rattle.connection.specs.declared.Answer.{Answer}
-use Rattle.connection.specs.declared.Answer.the-variants.{Done, Waiting, Nothing, Opened, Settled, Read, Written, Front as FrontIs, Refused}
+use Rattle.connection.specs.declared.Answer.the-variants.{Numbers as NumbersAre, Done, Waiting, Nothing, Opened, Settled, Read, Written, Front as FrontIs, Refused}
 use Rattle.connection.specs.declared.Received.{Received}
 use Rattle.connection.specs.declared.Received.the-variants.{Packet as PacketIs, Stop}
 use Rattle.connection.specs.declared.Refusal.{Refusal}
 use Rattle.connection.specs.Frames.{Frame, framesBytes}
 use Rattle.connection.specs.declared.Refusal.the-variants.{StoreShort, OutShort, ChannelClosed, BrokenState}
-use Rattle.connection.specs.Calls.{Lent, Outcome, Work, begun, then, thenActed, ends, dropped, untouched, checked, checkedOut, policy, idsIn, isThere, slotFor, ackFrames, unlessFault, receivedOf, bodyOf, frameLen, dispatchBy, dispatchStep, settledAs, settleStep, takenBy, takeStep, reread, readSettled, readActed, isDirect, readDirect, readBy, readTaken, readFirst, readStep, sendLen, sendSome, sendBy, sendAgain, writeReadied, writeActed, writeAct, writeBy, writeFirst, writeOn, writeStep, closeStep, takeFrontBy, takeFrontStep, openOn, stillPending, openReadied, openActed, openBy, openStep, fresh, openOutcome, dispatchOutcome, settleOutcome, takeOutcome, readOutcome, writeOutcome, closeOutcome, takeFrontOutcome}
+use Rattle.connection.specs.Calls.{looked, numbersFor, numbersOutcome, Lent, Outcome, Work, begun, then, thenActed, ends, dropped, untouched, checked, checkedOut, policy, idsIn, isThere, slotFor, ackFrames, unlessFault, receivedOf, bodyOf, frameLen, dispatchBy, dispatchStep, settledAs, settleStep, takenBy, takeStep, reread, readSettled, readActed, isDirect, readDirect, readBy, readTaken, readFirst, readStep, sendLen, sendSome, sendBy, sendAgain, writeReadied, writeActed, writeAct, writeBy, writeFirst, writeOn, writeStep, closeStep, takeFrontBy, takeFrontStep, openOn, stillPending, openReadied, openActed, openBy, openStep, fresh, openOutcome, dispatchOutcome, settleOutcome, takeOutcome, readOutcome, writeOutcome, closeOutcome, takeFrontOutcome}
 use Rattle.connection.specs.Act.{Acted, pushedBy, actedBy, tableOf, actOn, PacketFits}
 use Rattle.history.specs.Queue.{QueueMove, stays, pushes, withdraws, pops, moved, commandMove, usedMove, queueOf, packetMove, Hands, takesNone, openTakes, readTakes, writeTakes, moveOf, queueIn, Queues, QueueIsRusts}
-use Rattle.history.specs.Run.{bytesIn, Call, openCall, dispatchCall, settleCall, takeCall, readCall, writeCall, closeCall, frontTaken, World, lent, outcome, after, afterAll, Start, begins, agreedIn}
+use Rattle.history.specs.Run.{lookOutcome, bytesIn, Call, openCall, dispatchCall, settleCall, takeCall, readCall, writeCall, closeCall, frontTaken, lookCall, numbersLook, World, lent, outcome, after, afterAll, Start, begins, agreedIn}
 use Rattle.connection.proofs.WholeWork.{negotiated, At, at-frames, at-slot, there-live, there-at, Long, long, drop-whole}
 use Rattle.history.proofs.Bytes.{bytes-in}
 use Rattle.connection.proofs.Decoding.{ReceivedFits, received-fits}
@@ -341,9 +341,12 @@ module _ (l : Lent) where
   unfolding queueOf
   begun-still h e = ap (λ (x : ℕ). queuedOpens cap (l .store) (take x (l .state .queue))) e
 
-  untouched-still : (m : QueueMove) (r : Refusal) → Moves m (untouched l r)
+  looked-still : (m : QueueMove) (a : Answer) → Moves m (looked l a)
   unfolding usedMove moved queueOf
-  untouched-still m r = refl
+  looked-still m a = refl
+
+  untouched-still : (m : QueueMove) (r : Refusal) → Moves m (untouched l r)
+  untouched-still m r = looked-still m (Refused r)
 
 or-left : (a b : Bool) → a ≡ true → (a || b) ≡ true
 or-left a b e = rw e
@@ -586,6 +589,7 @@ module _ (l : Lent) (g : Whole (negotiated l) (l .state .header) (l .state .slot
     still-queued (Read n) h = refl
     still-queued (Written n) h = refl
     still-queued (FrontIs r credit place len) h = refl
+    still-queued (NumbersAre c1 c2 c3 c4 c5) h = refl
     still-queued (Refused r) h = refl
 
     abbrev open-move : Received → QueueMove
@@ -751,7 +755,7 @@ module _ (w : World) (is : isWhole (w .state) ≡ true) (fit : storesFit (negoti
   leaves o k = k ∙ ap (λ (m : QueueMove). moved (negotiated (lent w) .config .channels) m (queueIn w)) (used-stays (lent w) (o .used))
 
   front-is : outcome w frontTaken ≡ takeFrontStep (lent w)
-  unfolding outcome takeFrontOutcome checked
+  unfolding outcome takeFrontOutcome lookOutcome numbersOutcome checked
   front-is = cond-true (isWhole (w .state)) _ _ is ∙ cond-true (storesFit (negotiated (lent w) .config) (length (w .rx)) (length (w .store))) _ _ fit
 
   front-taken : queueO (lent w) (takeFrontStep (lent w)) ≡ moved (negotiated (lent w) .config .channels) pops (queueIn w)
@@ -759,7 +763,7 @@ module _ (w : World) (is : isWhole (w .state) ≡ true) (fit : storesFit (negoti
   front-taken = front-moves (lent w) g
 
   call-moves : (x : Call) → queueO (lent w) (outcome w x) ≡ moved (negotiated (lent w) .config .channels) (moveOf w x) (queueIn w)
-  unfolding outcome openOutcome dispatchOutcome settleOutcome takeOutcome readOutcome writeOutcome closeOutcome moveOf
+  unfolding outcome openOutcome dispatchOutcome settleOutcome takeOutcome readOutcome writeOutcome closeOutcome lookOutcome numbersOutcome moveOf
   call-moves (openCall out destination received) =
       out-moves (lent w) _ (isWhole (w .state)) (length out) _ (open-moves (lent w) g far (bytesIn received) (length out) (bytesIn destination) (bytes-in received))
   call-moves (dispatchCall out received) = out-moves (lent w) _ (isWhole (w .state)) (length out) _ (dispatch-moves (lent w) g far (bytesIn received) (bytes-in received))
@@ -771,6 +775,8 @@ module _ (w : World) (is : isWhole (w .state) ≡ true) (fit : storesFit (negoti
       out-moves (lent w) _ (isWhole (w .state)) (length out) _ (write-moves (lent w) g far (bytesIn received) ch (length out) (bytesIn bytes) (bytes-in received))
   call-moves (closeCall out ch) = leaves (outcome w (closeCall out ch)) (out-moves (lent w) stays (isWhole (w .state)) (length out) (closeStep (lent w) ch) (close-moves (lent w) g stays ch))
   call-moves frontTaken = ap (queueO (lent w)) front-is ∙ front-taken
+  call-moves (lookCall (numbersLook ch)) =
+      leaves (outcome w (lookCall (numbersLook ch))) (checked-moves (lent w) stays (isWhole (w .state)) (looked (lent w) (numbersFor (lent w) ch)) (looked-still (lent w) stays (numbersFor (lent w) ch)))
 
 -- ---- every list of calls
 

@@ -92,7 +92,7 @@ pub delivered-same : (s : ChannelSlot) (p : RxPolicy) (n : ℕ) → SameRun s (d
 unfolding deliveredOf
 delivered-same s p n =
     let P : Settled → Type 0 = λ r. SameRun s (r .slot) × (r .slot .local ≡ s .local) in
-    pick P (p .delayed) (λ d. (record { head = refl; more = refl }, refl))
+    pick P (p .delayed) (λ d. pick P (s .«has_remote») (λ k. (record { head = refl; more = refl }, refl)) (λ k. (record { head = refl; more = refl }, refl)))
     (λ d. pick P (leb (p .watermark) (s .buffered)) (λ t. (record { head = refl; more = refl }, refl))
     (λ t. pick P (s .«has_remote») (λ k. (record { head = refl; more = refl }, refl)) (λ k. (record { head = refl; more = refl }, refl))))
 

@@ -24,9 +24,9 @@ use Rattle.state_whole.specs.Whole.{isWhole}
 use Rattle.table.specs.Table.{slotIn}
 use Rattle.connection.specs.declared.Refusal.the-variants.{StoreShort, OutShort, BrokenState}
 use Rattle.connection.specs.Answer.{answerNumber, refusalNumber}
-use Rattle.connection.specs.Calls.{Lent, Outcome, checked, checkedOut, fresh, openOutcome, dispatchOutcome, settleOutcome, takeOutcome, readOutcome, writeOutcome, closeOutcome, takeFrontOutcome}
+use Rattle.connection.specs.Calls.{numbersFor, numbersOutcome, Lent, Outcome, checked, checkedOut, fresh, openOutcome, dispatchOutcome, settleOutcome, takeOutcome, readOutcome, writeOutcome, closeOutcome, takeFrontOutcome}
 use Rattle.connection.proofs.Slots.{slots-by}
-use Rattle.history.specs.Run.{Call, openCall, dispatchCall, settleCall, takeCall, readCall, writeCall, closeCall, frontTaken, receivedIn, bytesIn, World, lent, outcome, after, afterAll, Start, begins, agreedIn, policyIn}
+use Rattle.history.specs.Run.{lookOutcome, Call, openCall, dispatchCall, settleCall, takeCall, readCall, writeCall, closeCall, frontTaken, lookCall, numbersLook, receivedIn, bytesIn, World, lent, outcome, after, afterAll, Start, begins, agreedIn, policyIn}
 use Rattle.history.specs.Seen.{heldOf, Seen, Event, seenOf, eventsOf}
 use Rattle.history.specs.Book.{Book, noBook, headerAt, isWrte, bookAfter, eachPlace, Ledger, clean, bookAt, entry, ledgerOf}
 use Rattle.history.specs.NoLeak.{NoTake, ReadOnly, NoLeak}
@@ -34,9 +34,9 @@ use Rattle.history.specs.Demand3.{placeSlot, runOf, Distinct, Apart, Cla
 use Rattle.history.proofs.Good.{Terms, Good, Limits}
 use Rattle.history.proofs.Heads.{call-asked}
 use Rattle.history.proofs.Heard.{seen-eight}
-use Rattle.history.proofs.Joins.{KeptAt, Follows, early-follows, dispatch-follows, settle-follows, take-follows, read-follows, write-follows, close-follows, front-follows, open-follows}
+use Rattle.history.proofs.Joins.{Vacant, vacant-fresh, KeptAt, Follows, early-follows, dispatch-follows, settle-follows, take-follows, read-follows, write-follows, close-follows, front-follows, look-follows, open-follows}
 use Rattle.history.proofs.Never13.{Holds, state-after, holds-after, made-state, starts, in-replicate, always-8}
-use Rattle.history.proofs.Overs.{Notes, dispatch-notes, settle-never, take-never, read-notes, write-notes, close-never, front-never, open-notes}
+use Rattle.history.proofs.Overs.{Notes, dispatch-notes, settle-never, take-never, read-notes, write-notes, close-never, front-never, numbers-never, open-notes}
 use Rattle.history.proofs.Packets.{Marked, reads-write, reads-arg1}
 use Rattle.history.proofs.Places.{TableOk}
 use Rattle.history.proofs.Steps.{sawOf}
@@ -88,7 +88,7 @@ marked : (reads : ℕ → Bool) (n : Negotiated) (w : World) (y : Ledger) → le
 marked reads n w y z k =
     record {
       size = k .size ∙ sym z;
-      there = λ j. by-test (slotIn (stateOf (w .state) .slots) j .filled) (λ t. k .each j .full t .there ∙ sym t) (λ t. k .each j .none t ∙ sym t);
+      there = λ j. by-test (slotIn (stateOf (w .state) .slots) j .filled) (λ t. k .each j .full t .there ∙ sym t) (λ t. k .each j .none t .gone ∙ sym t);
       remote = λ j f. k .each j .full f .rem;
       closed = λ j f. k .each j .full f .ends;
     }
@@ -168,7 +168,7 @@ module _ (reads : ℕ → Bool) (w : World) (r : List ℕ) (rx store : ℕ) wher
             (λ b. early-follows (terms (reads i) m) l table (limits (reads i)) empty placed (y .books) mark (y .asked) (λ t d. k .asks t) i (bookAt y i) (k .each i) x OutShort refl) (λ b. f))
 
         call-follows : (x : Call) → (reads i ≡ true → NoTake i x) → follows x (outcome w x)
-        unfolding outcome openOutcome dispatchOutcome settleOutcome takeOutcome readOutcome writeOutcome closeOutcome takeFrontOutcome
+        unfolding outcome openOutcome dispatchOutcome settleOutcome takeOutcome readOutcome writeOutcome closeOutcome takeFrontOutcome lookOutcome numbersOutcome
         call-follows (openCall out destination received) only =
             follows-out (openCall out destination received) (isWhole (w .state)) (length out) _
             (open-follows (terms (reads i) m) l table (limits (reads i)) empty placed (y .books) mark (y .asked) (λ t d. k .asks t) i (bookAt y i) (k .each i) out destination received)
@@ -193,6 +193,9 @@ module _ (reads : ℕ → Bool) (w : World) (r : List ℕ) (rx store : ℕ) wher
         call-follows frontTaken only =
             follows-checked frontTaken (isWhole (w .state)) _
             (front-follows (terms (reads i) m) l table (limits (reads i)) empty placed (y .books) mark (y .asked) (λ t d. k .asks t) i (bookAt y i) (k .each i))
+        call-follows (lookCall (numbersLook ch)) only =
+            follows-checked (lookCall (numbersLook ch)) (isWhole (w .state)) _
+            (look-follows (terms (reads i) m) l table (limits (reads i)) empty placed (y .books) mark (y .asked) (λ t d. k .asks t) i (bookAt y i) (k .each i) (numbersLook ch) (numbersFor l ch))
 
       -- what is seen of a call
       abbrev event : Call → Event
@@ -234,7 +237,7 @@ module _ (reads : ℕ → Bool) (w : World) (r : List ℕ) (rx store : ℕ) wher
           let eb : bookAt (entry (policyOf m) x (now x) y) i ≡ noBook = List·getD-eq-default (entry (policyOf m) x (now x) y .books) noBook {n = i} (omega arith) in
           record {
             full = λ f. absurd (true≢false (sym f ∙ ap (λ (s : ChannelSlot). s .filled) es));
-            none = λ f. ap (λ (b : Book). b .there) eb;
+            none = λ f. vacant-fresh (policyOf m) _ _ es eb;
           }
 
       -- so what is kept is kept by a call
@@ -262,7 +265,7 @@ module _ (reads : ℕ → Bool) (w : World) (r : List ℕ) (rx store : ℕ) wher
           notes-checked received t _ (pick (λ (x : Outcome). answerNumber (x .answer) ≡ 11 → Notes l table received x) (ltb out 56) (λ b e. absurd (omega arith)) (λ b. f))
 
       call-notes : (x : Call) → answerNumber (outcome w x .answer) ≡ 11 → Notes l table (receivedIn x) (outcome w x)
-      unfolding outcome receivedIn openOutcome dispatchOutcome settleOutcome takeOutcome readOutcome writeOutcome closeOutcome takeFrontOutcome
+      unfolding outcome receivedIn openOutcome dispatchOutcome settleOutcome takeOutcome readOutcome writeOutcome closeOutcome takeFrontOutcome lookOutcome numbersOutcome
       call-notes (openCall out destination received) = notes-out (bytesIn received) (isWhole (w .state)) (length out) _ (open-notes l table (bytesIn received) (length out) (bytesIn destination))
       call-notes (dispatchCall out received) = notes-out (bytesIn received) (isWhole (w .state)) (length out) _ (dispatch-notes l table (bytesIn received))
       call-notes (settleCall out ch want) = notes-out [] (isWhole (w .state)) (length out) _ (λ e. absurd (settle-never l table ch want e))
@@ -271,6 +274,7 @@ module _ (reads : ℕ → Bool) (w : World) (r : List ℕ) (rx store : ℕ) wher
       call-notes (writeCall out ch bytes received) = notes-out (bytesIn received) (isWhole (w .state)) (length out) _ (write-notes l table (bytesIn received) ch (length out) (bytesIn bytes))
       call-notes (closeCall out ch) = notes-out [] (isWhole (w .state)) (length out) _ (λ e. absurd (close-never l table ch e))
       call-notes frontTaken = notes-checked [] (isWhole (w .state)) _ (λ e. absurd (front-never l table e))
+      call-notes (lookCall (numbersLook ch)) = notes-checked [] (isWhole (w .state)) _ (λ e. absurd (numbers-never l table ch e))
 
       -- an 11 is in the book of a channel that is there
       noted : (x : Call) → ((i : ℕ) → reads i ≡ true → NoTake i x) → answerNumber (outcome w x .answer) ≡ 11 → Noted (policyOf m) y (entry (policyOf m) x (now x) y) (event x)
@@ -305,7 +309,7 @@ module _ (reads : ℕ → Bool) (w : World) (r : List ℕ) (rx store : ℕ) wher
             broke = λ d.
                 by-test (slotIn (stateOf (after w x .state) .slots) j .filled)
                 (λ t. by-test (bookAt (entry (policyOf m) x (now x) y) j .kept) (λ u. absurd (true≢false (sym over' ∙ ka .full t .kept d u))) (λ u. u))
-                (λ t. absurd (true≢false (sym there' ∙ ka .none t)));
+                (λ t. absurd (true≢false (sym there' ∙ ka .none t .gone)));
           }
         where
           ok-below : (j : ℕ) → slotIn (c .slots) j .filled ≡ true → j < 64
@@ -351,9 +355,16 @@ module _ (reads : ℕ → Bool) (n : Negotiated) (r : List ℕ) (rx store : ℕ)
 -- ---- where it begins
 
 module _ (n : Negotiated) (w : World) (e : stateOf (w .state) ≡ fresh n) where
+  fresh-slot : (i : ℕ) → placeSlot w i ≡ emptySlot
+  unfolding slotIn fresh
+  fresh-slot i = ap (λ (d : Connection). slotIn (d .slots) i) e ∙ in-replicate 64 i emptySlot
+
+  pub fresh-vacant : (p : RxPolicy) (i : ℕ) → Vacant p (placeSlot w i) (bookAt clean i)
+  fresh-vacant p i = vacant-fresh p _ _ (fresh-slot i) (in-replicate 64 i noBook)
+
   pub no-slot : (i : ℕ) → placeSlot w i .filled ≡ false
-  unfolding slotIn fresh emptySlot
-  no-slot i = ap (λ (d : Connection). slotIn (d .slots) i .filled) e ∙ ap (λ (s : ChannelSlot). s .filled) (in-replicate 64 i emptySlot)
+  unfolding emptySlot
+  no-slot i = ap (λ (s : ChannelSlot). s .filled) (fresh-slot i)
 
   pub fresh-far : Distinct w
   fresh-far i j f g q = absurd (true≢false (sym f ∙ no-slot i))
@@ -364,7 +375,7 @@ module _ (n : Negotiated) (w : World) (e : stateOf (w .state) ≡ fresh n) where
       record {
         size = length-replicate 64 noBook;
         asks = λ t. absurd (true≢false (sym t ∙ ap (λ (d : Connection). d .header .pending .on) e));
-        each = λ i. record { full = λ f. absurd (true≢false (sym f ∙ no-slot i)); none = λ f. ap (λ (b : Book). b .there) (in-replicate 64 i noBook) };
+        each = λ i. record { full = λ f. absurd (true≢false (sym f ∙ no-slot i)); none = λ f. fresh-vacant (policyOf n) i };
       }
 
 pub fresh-start : (s : Start) → stateOf (begins s .state) ≡ fresh (agreedIn s)
@@ -414,8 +425,8 @@ claim p credit s q b g =
 place : (p : RxPolicy) (credit : Terms) (i : ℕ) (ss : List ChannelSlot) (rx : List ℕ) (b : Book) → KeptAt p credit i ss rx b → Place p (slotIn ss i) (runOf rx (p .«rx_cap») i (slotIn ss i)) b
 place p credit i ss rx b k =
     by-test (slotIn ss i .filled)
-    (λ t. let g = k .full t in record { there = g .there ∙ sym t; claim = λ u. claim p credit _ _ b g })
-    (λ t. let n = k .none t in record { there = n ∙ sym t; claim = λ u. absurd (true≢false (sym u ∙ n)) })
+    (λ t. let g = k .full t in record { there = g .there ∙ sym t; claim = λ u. claim p credit _ _ b g; total = g .tally .delayed; plain = g .tally .plain })
+    (λ t. let n = k .none t in record { there = n .gone ∙ sym t; claim = λ u. absurd (true≢false (sym u ∙ n .gone)); total = n .tally .delayed; plain = n .tally .plain })
 
 -- what a list of none, and of one, says
 pub first-8 : (s : Start) → ((x : Call) → answerNumber (outcome (afterAll (begins s) []) x .answer) ≡ 8) → (x : Call) → answerNumber (outcome (begins s) x .answer) ≡ 8
@@ -440,10 +451,11 @@ demand-3 s cs apart =
     let e = ledger-8 p w f g clean cs in
     record {
       places = λ i.
-          let b0 : bookAt clean i .there ≡ false = ap (λ (b : Book). b .there) (in-replicate 64 i noBook) in
-          let bn : bookAt (ledgerOf p clean (eventsOf w cs)) i .there ≡ false = ap (λ (y : Ledger). bookAt y i .there) e ∙ b0 in
+          let v : Vacant p (placeSlot (afterAll w cs) i) (bookAt (ledgerOf p clean (eventsOf w cs)) i) =
+          subst (λ (y : Ledger). Vacant p (placeSlot (afterAll w cs) i) (bookAt y i)) (sym e)
+          (subst (λ (x : World). Vacant p (placeSlot x i) (bookAt clean i)) (sym (a cs .0)) (fresh-vacant n w (fresh-start s) p i)) in
           let sn : placeSlot (afterAll w cs) i .filled ≡ false = ap (λ (v : World). placeSlot v i .filled) (a cs .0) ∙ no-slot n w (fresh-start s) i in
-          record { there = bn ∙ sym sn; claim = λ u. absurd (true≢false (sym u ∙ bn)) };
+          record { there = v .gone ∙ sym sn; claim = λ u. absurd (true≢false (sym u ∙ v .gone)); total = v .tally .delayed; plain = v .tally .plain };
       calls = told-8 p w f g clean cs;
     })
 
@@ -461,7 +473,7 @@ no-leak s cs apart d i only there closed e =
     (λ t. let z = ran (λ j. eqb j i) s t cs apart (λ j q. subst (λ (x : ℕ). ReadOnly x cs) (sym (eqb-true j i q)) only) .kept .each i in
     by-test (slotIn (stateOf (afterAll (begins s) cs .state) .slots) i .filled)
     (λ f. all-acked _ (terms (eqb i i) (agreedIn s)) _ _ _ (z .full f) (eq-eqb i i refl) d closed e)
-    (λ f. absurd (true≢false (sym there ∙ z .none f))))
+    (λ f. absurd (true≢false (sym there ∙ z .none f .gone))))
     (λ t. let c = demand-3 s cs apart .places i in
     let a = always-8 s t cs .0 in
     absurd (true≢false (sym there ∙ c .there ∙ ap (λ (v : World). placeSlot v i .filled) a ∙ no-slot (agreedIn s) (begins s) (fresh-start s) i)))

@@ -34,9 +34,9 @@ use Rattle.connection.specs.Answer.{answerNumber}
 use Rattle.connection.specs.Calls.{Outcome, writtenBy}
 use Rattle.connection.specs.Frames.{Frame, okayFrame, closeFrame, openFrame, writeFrame, frameBytes, framesBytes, Sent}
 use Rattle.connection.proofs.Sending.{sentOf, FrameFits}
-use Rattle.history.specs.Run.{Call, openCall, dispatchCall, settleCall, takeCall, readCall, writeCall, closeCall, frontTaken, bytesIn, outOf, bufOf, receivedIn}
+use Rattle.history.specs.Run.{Call, openCall, dispatchCall, settleCall, takeCall, readCall, writeCall, closeCall, frontTaken, lookCall, bytesIn, outOf, bufOf, receivedIn}
 use Rattle.history.specs.Seen.{Held, heldBy, saidBy, countOf, Seen, Event, seenOf}
-use Rattle.history.specs.Book.{Book, noBook, creditIn, handedB, ackedB, acksOf, lastOpen, headerAt, payloadAt, isWrte, isClse, ownEnd, frameB, packetB, settleB, readUsedB, readB, writeB, isOn, endsOpen, endsOther, entryOn, openedB, acksB, bookAfter, eachPlace, Ledger, entry}
+use Rattle.history.specs.Book.{Book, goneBook, creditIn, handedB, ackedB, acksOf, lastOpen, headerAt, payloadAt, isWrte, isClse, ownEnd, frameB, packetB, settleB, readUsedB, readB, writeB, isOn, endsOpen, endsOther, entryOn, openedB, acksB, bookAfter, eachPlace, Ledger, entry}
 use Rattle.history.specs.Demand3.{sizeOf, Reads, AllRead, Noted, Told}
 use Rattle.history.proofs.Heard.{Writes, counted, heardOf, nothing8, seen-eight, count-eight}
 use Rattle.history.proofs.Opens.{and-false}
@@ -66,8 +66,9 @@ on-eight p d i (settleCall out ch want) b = ap (λ (t : Bool). cond t (settleB p
 on-eight p d i (takeCall ch buf) b = both-same (isOn i b ch) (handedB [] b) b (handed-same b)
 on-eight p d i (readCall out ch buf received) b = both-same (isOn i b ch) b b refl
 on-eight p d i (writeCall out ch bytes received) b = both-same (isOn i b ch) b b refl
-on-eight p d i (closeCall out ch) b = ap (λ (t : Bool). cond t noBook b) (and-false (isOn i b ch))
+on-eight p d i (closeCall out ch) b = ap (λ (t : Bool). cond t (goneBook b) b) (and-false (isOn i b ch))
 on-eight p d i frontTaken b = refl
+on-eight p d i (lookCall x) b = refl
 
 opened-eight : (i asked : ℕ) (c : Call) (b : Book) → openedB i asked c nothing8 b ≡ b
 unfolding openedB
@@ -79,6 +80,7 @@ opened-eight i asked (readCall out ch buf received) b = refl
 opened-eight i asked (writeCall out ch bytes received) b = refl
 opened-eight i asked (closeCall out ch) b = refl
 opened-eight i asked frontTaken b = refl
+opened-eight i asked (lookCall x) b = refl
 
 after-eight : (p : RxPolicy) (d : List Book) (asked : ℕ) (c : Call) (i : ℕ) (b : Book) → bookAfter p d asked c nothing8 i b ≡ b
 unfolding bookAfter acksB acksOf
@@ -248,6 +250,7 @@ module _ (p : RxPolicy) (d : List Book) (i asked : ℕ) (values : List ℕ) (use
       pick Has (isOn i b ch) (λ t. write-over (bytesIn received) w e) (λ t. packet-over (bytesIn received) w e (endsOther d ch) (not-own (bytesIn received) w e _ _))
   entry-over (closeCall out ch) w e = absurd (none-write w)
   entry-over frontTaken w e = absurd (none-write w)
+  entry-over (lookCall y) w e = absurd (none-write w)
 
   -- 11 fills no slot
   opened-over : (c : Call) (x : Book) → openedB i asked c o x ≡ x
@@ -260,6 +263,7 @@ module _ (p : RxPolicy) (d : List Book) (i asked : ℕ) (values : List ℕ) (use
   opened-over (writeCall out ch bytes received) x = refl
   opened-over (closeCall out ch) x = refl
   opened-over frontTaken x = refl
+  opened-over (lookCall y) x = refl
 
   pub book-over : (c : Call) → isWrte (headerAt (receivedIn c)) ≡ true → headerAt (receivedIn c) .arg1 ≡ b .local
       → (bookAfter p d asked c o i b .there ≡ true) × (bookAfter p d asked c o i b .over ≡ true)

@@ -63,9 +63,9 @@ use Rattle.connection.specs.declared.Refusal.the-variants.{ChannelClosed}
 use Rattle.connection.specs.Answer.{refusalNumber, answerNumber, answerValues}
 use Rattle.connection.specs.declared.Received.{Received}
 use Rattle.connection.specs.Act.{Acted, actOn}
-use Rattle.connection.specs.Calls.{Lent, Outcome, Work, begun, then, thenActed, storing, ends, checked, checkedOut, dropped, pendingFor, policy, idsIn, isThere, slotFor, ackFrames, receivedOf, errorRefusal, faultRefusal, unlessFault, bodyOf, frameLen, dispatchBy, dispatchStep, settledAs, settleStep, takenBy, takeStep, reread, readSettled, readActed, isDirect, readDirect, readBy, readTaken, readFirst, readStep, sendLen, sendSome, sendBy, sendAgain, writeReadied, writeActed, writeAct, writeBy, writeFirst, writeOn, writeStep, closeStep, takeFrontBy, takeFrontStep, openOn, stillPending, openReadied, openActed, openBy, openStep, openOutcome, dispatchOutcome, settleOutcome, takeOutcome, readOutcome, writeOutcome, closeOutcome, takeFrontOutcome}
+use Rattle.connection.specs.Calls.{looked, numbersFor, numbersOutcome, Lent, Outcome, Work, begun, then, thenActed, storing, ends, checked, checkedOut, dropped, pendingFor, policy, idsIn, isThere, slotFor, ackFrames, receivedOf, errorRefusal, faultRefusal, unlessFault, bodyOf, frameLen, dispatchBy, dispatchStep, settledAs, settleStep, takenBy, takeStep, reread, readSettled, readActed, isDirect, readDirect, readBy, readTaken, readFirst, readStep, sendLen, sendSome, sendBy, sendAgain, writeReadied, writeActed, writeAct, writeBy, writeFirst, writeOn, writeStep, closeStep, takeFrontBy, takeFrontStep, openOn, stillPending, openReadied, openActed, openBy, openStep, openOutcome, dispatchOutcome, settleOutcome, takeOutcome, readOutcome, writeOutcome, closeOutcome, takeFrontOutcome}
 use Rattle.connection.specs.Frames.{Frame, closeFrame, openFrame, writeFrame, frameBytes, framesBytes}
-use Rattle.history.specs.Run.{bytesIn, Call, openCall, dispatchCall, settleCall, takeCall, readCall, writeCall, closeCall, frontTaken, outOf, bufOf, World, lent, outcome}
+use Rattle.history.specs.Run.{lookOutcome, bytesIn, Call, openCall, dispatchCall, settleCall, takeCall, readCall, writeCall, closeCall, frontTaken, lookCall, numbersLook, outOf, bufOf, World, lent, outcome}
 use Rattle.history.specs.Seen.{countOf, heldOf, Seen, seenOf}
 use Rattle.history.specs.Book.{acksOf, lastOpen}
 use Rattle.history.proofs.Acts.{acksIn}
@@ -709,7 +709,7 @@ module _ (l : Lent) (able : Able l) (out room : ℕ) where
 -- every call on a state that is able, where it is whole
 pub call-writes : (w : World) → (isWhole (w .state) ≡ true → Able (lent w)) → (c : Call)
     → Writes (lent w .state .header .negotiated) (length (outOf c)) (length (bufOf c)) (outcome w c)
-unfolding outcome outOf bufOf openOutcome dispatchOutcome settleOutcome takeOutcome readOutcome writeOutcome closeOutcome takeFrontOutcome
+unfolding outcome outOf bufOf openOutcome dispatchOutcome settleOutcome takeOutcome readOutcome writeOutcome closeOutcome takeFrontOutcome lookOutcome numbersOutcome
 call-writes w f (openCall out destination received) =
     writes-checked-out (lent w) (length out) 0 (isWhole (w .state)) _
     (λ t big. open-writes (lent w) (f t) (length out) 0 big (bytesIn received) (bytes-in received) (bytesIn destination))
@@ -730,6 +730,8 @@ call-writes w f (closeCall out ch) =
     writes-checked-out (lent w) (length out) 0 (isWhole (w .state)) _ (λ t big. close-writes (lent w) (f t) (length out) 0 big ch)
 call-writes w f frontTaken =
     writes-checked (lent w) 0 0 (isWhole (w .state)) _ (λ t. front-writes (lent w) (f t) 0 0)
+call-writes w f (lookCall (numbersLook ch)) =
+    writes-checked (lent w) 0 0 (isWhole (w .state)) _ (λ t. writes-none _ 0 0 (looked (lent w) (numbersFor (lent w) ch)) refl (omega arith))
 
 take-counted : (w : World) → (isWhole (w .state) ≡ true → Able (lent w)) → (ch : ChannelId) (buf : List ℕ) → Counts (lent w) (outcome w (takeCall ch buf))
 unfolding outcome takeOutcome policyOf
@@ -756,6 +758,7 @@ call-counts w f (readCall out ch buf received) e = read-counted w f out ch buf r
 call-counts w f (writeCall out ch bytes received) e = none-handed _ _ _ (call-writes w f (writeCall out ch bytes received))
 call-counts w f (closeCall out ch) e = none-handed _ _ _ (call-writes w f (closeCall out ch))
 call-counts w f frontTaken e = none-handed _ _ _ (call-writes w f frontTaken)
+call-counts w f (lookCall x) e = none-handed _ _ _ (call-writes w f (lookCall x))
 
 -- what is seen of a call is what its outcome says, on a state that holds
 module _ (n : Negotiated) (r : List ℕ) (rx store : ℕ) (w : World) (k : Holds n r rx store w) (c : Call) where

@@ -18,7 +18,7 @@ use Rattle.slot.specs.Slot.{emptySlot, withRemote, withNumbers, settledOf}
 use Rattle.table.specs.declared.ChannelId.{ChannelId}
 use Rattle.table.specs.Table.{first}
 use Rattle.connection.specs.Frames.{Sent}
-use Rattle.history.specs.Run.{Call, openCall, dispatchCall, settleCall, takeCall, readCall, writeCall, closeCall, frontTaken, bytesIn}
+use Rattle.history.specs.Run.{Call, openCall, dispatchCall, settleCall, takeCall, readCall, writeCall, closeCall, frontTaken, lookCall, bytesIn}
 use Rattle.history.specs.Seen.{Seen, Event, seenOf}
 
 -- what is kept of one channel
@@ -87,6 +87,10 @@ withBytes b sent accepted handed acked aside =
       kept = b .kept;
       over = b .over;
     }
+
+-- that of a place whose channel we closed: the credit in its OKAYs is kept until the place is filled again
+abbrev pub goneBook : Book → Book
+goneBook b = withBytes noBook 0 [] [] (b .acked) 0
 
 -- with these marks: closed, rule kept, answered 11
 abbrev withMarks : Book → Bool → Bool → Bool → Book
@@ -290,8 +294,9 @@ entryOn p d i (readCall out ch buf received) o b =
     cond (isOn i b ch) (readB p d i (length buf) (bytesIn received) o b) (packetB d i (bytesIn received) (endsOther d ch) o b)
 entryOn p d i (writeCall out ch bytes received) o b =
     cond (isOn i b ch) (writeB d i (bytesIn received) o b) (packetB d i (bytesIn received) (endsOther d ch) o b)
-entryOn p d i (closeCall out ch) o b = cond (isOn i b ch && not (isRefused (o .number))) noBook b
+entryOn p d i (closeCall out ch) o b = cond (isOn i b ch && not (isRefused (o .number))) (goneBook b) b
 entryOn p d i frontTaken o b = b
+entryOn p d i (lookCall x) o b = b
 
 -- an open that is done filled the slot that its answer names, with that local number; the remote number is its OKAY's
 unfoldable pub openedB : ℕ → ℕ → Call → Seen → Book → Book
@@ -304,6 +309,7 @@ openedB i asked (readCall out ch buf received) o b = b
 openedB i asked (writeCall out ch bytes received) o b = b
 openedB i asked (closeCall out ch) o b = b
 openedB i asked frontTaken o b = b
+openedB i asked (lookCall x) o b = b
 
 -- with the OKAYs written that have its local number in arg0, by a refused call too, after the call's other steps
 unfoldable pub acksB : Seen → Book → Book

@@ -1,5 +1,5 @@
 -- Demand 3: one statement over every list of calls (docs/SCOPE.md, 7 and 8). Assumes nothing.
-use Prim.Native.Nat.{ℕ, _+_, _^_, _≤_, _<_}
+use Prim.Native.Nat.{ℕ, _+_, _-_, _^_, _≤_, _<_, min}
 use mathlib.Core.Bool.{true, false}
 use mathlib.Core.List.{List, [], _∷_, _++_}
 use mathlib.Core.Path.{_≡_}
@@ -52,6 +52,10 @@ pub record Claim (p : RxPolicy) (s : ChannelSlot) (buffered : List ℕ) (b : Boo
 pub record Place (p : RxPolicy) (s : ChannelSlot) (buffered : List ℕ) (b : Book) : Type 0 where
   pub there : b .there ≡ s .filled
   pub claim : b .there ≡ true → Claim p s buffered b
+  -- the slot's total is the credit in the OKAYs of its channel, closed or not, and of its last one after our close; it stops at the
+  -- largest value. In the plain mode it is 0
+  pub total : p .delayed ≡ true → s .«acked_total» ≡ min (b .acked) (2 ^ 64 - 1)
+  pub plain : p .delayed ≡ false → s .«acked_total» ≡ 0
 
 -- ---- what is claimed of each call
 

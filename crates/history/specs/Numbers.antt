@@ -8,7 +8,7 @@ use lib.ListN.{length}
 use Rattle.protocol.specs.Packet.{maxPayload}
 use Rattle.protocol.specs.Command.{isOpen}
 use Rattle.connection.specs.Frames.{Sent}
-use Rattle.history.specs.Run.{Call, openCall, dispatchCall, settleCall, takeCall, readCall, writeCall, closeCall, frontTaken, afterAll, Start, begins, policyIn}
+use Rattle.history.specs.Run.{Call, openCall, dispatchCall, settleCall, takeCall, readCall, writeCall, closeCall, frontTaken, lookCall, afterAll, Start, begins, policyIn}
 use Rattle.history.specs.Seen.{Seen, Event, seenOf, eventsOf}
 use Rattle.history.specs.Demand3.{Apart, Claims}
 
@@ -29,6 +29,7 @@ givenBy (readCall out ch buf received) o = 0
 givenBy (writeCall out ch bytes received) o = 0
 givenBy (closeCall out ch) o = 0
 givenBy frontTaken o = 0
+givenBy (lookCall x) o = 0
 
 -- by a list of calls
 unfoldable pub givenIn : List Event → ℕ

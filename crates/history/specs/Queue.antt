@@ -23,7 +23,7 @@ use Rattle.connection.specs.declared.Answer.the-variants.{Nothing, Front as Fro
 use Rattle.connection.specs.declared.Received.{Received}
 use Rattle.connection.specs.declared.Received.the-variants.{Packet as PacketIs, Stop}
 use Rattle.connection.specs.Calls.{Lent, idsIn, slotFor, receivedOf, bodyOf, isDirect}
-use Rattle.history.specs.Run.{bytesIn, Call, openCall, dispatchCall, settleCall, takeCall, readCall, writeCall, closeCall, frontTaken, World, lent, outcome, after, afterAll, Start, begins}
+use Rattle.history.specs.Run.{bytesIn, Call, openCall, dispatchCall, settleCall, takeCall, readCall, writeCall, closeCall, frontTaken, lookCall, World, lent, outcome, after, afterAll, Start, begins}
 
 -- what is queued, in order: remote number, credit and destination of each
 unfoldable pub queueOf : Lent → List Incoming
@@ -109,6 +109,7 @@ moveOf w (writeCall out ch bytes received) =
     receivedMove (lent w) (writeTakes (lent w) ch) (bytesIn received) (outcome w (writeCall out ch bytes received) .used)
 moveOf w (closeCall out ch) = stays
 moveOf w frontTaken = pops
+moveOf w (lookCall x) = stays
 
 -- ---- the claim
 

@@ -14,11 +14,15 @@ use Rattle.state.specs.Change.{putAll}
 use Rattle.state.specs.State.{stateLen, stateOf}
 use Rattle.state_whole.specs.Whole.{isWhole}
 use Rattle.table.specs.declared.ChannelId.{ChannelId}
-use Rattle.connection.specs.Calls.{Lent, Outcome, openOutcome, dispatchOutcome, settleOutcome, takeOutcome, readOutcome, writeOutcome, closeOutcome, takeFrontOutcome, makeOf}
+use Rattle.connection.specs.Calls.{Lent, Outcome, openOutcome, dispatchOutcome, settleOutcome, takeOutcome, readOutcome, writeOutcome, closeOutcome, takeFrontOutcome, numbersOutcome, makeOf}
 
 -- numbers as bytes: a caller's list of any numbers stands for bytes
 unfoldable pub bytesIn : List ℕ → List ℕ
 bytesIn l = map (λ (n : ℕ). n % 256) l
+
+-- a call that only looks, and its arguments
+pub data Look : Type 0 where
+  numbersLook : ChannelId → Look
 
 -- a call and its arguments: the outgoing buffer, then what the call takes; the reader's buffer; received bytes last
 pub data Call : Type 0 where
@@ -30,6 +34,7 @@ pub data Call : Type 0 where
   writeCall : List ℕ → ChannelId → List ℕ → List ℕ → Call
   closeCall : List ℕ → ChannelId → Call
   frontTaken : Call
+  lookCall : Look → Call
 
 -- the outgoing buffer that a call is lent; none where it takes none
 unfoldable pub outOf : Call → List ℕ
@@ -41,6 +46,7 @@ outOf (readCall out ch buf received) = out
 outOf (writeCall out ch bytes received) = out
 outOf (closeCall out ch) = out
 outOf frontTaken = []
+outOf (lookCall x) = []
 
 -- the reader's buffer that it is lent
 unfoldable pub bufOf : Call → List ℕ
@@ -52,6 +58,7 @@ bufOf (readCall out ch buf received) = buf
 bufOf (writeCall out ch bytes received) = []
 bufOf (closeCall out ch) = []
 bufOf frontTaken = []
+bufOf (lookCall x) = []
 
 -- the received bytes that it is handed
 unfoldable pub receivedIn : Call → List ℕ
@@ -63,6 +70,7 @@ receivedIn (readCall out ch buf received) = bytesIn received
 receivedIn (writeCall out ch bytes received) = bytesIn received
 receivedIn (closeCall out ch) = []
 receivedIn frontTaken = []
+receivedIn (lookCall x) = []
 
 -- the lent bytes that last from call to call
 pub record World : Type 0 where
@@ -74,6 +82,10 @@ pub record World : Type 0 where
 abbrev pub lent : World → Lent
 lent w = record { state = stateOf (w .state); rx = w .rx; store = w .store }
 
+-- what a call that only looks answers: it leaves everything as it is
+unfoldable pub lookOutcome : Bool → Lent → Look → Outcome
+lookOutcome whole l (numbersLook ch) = numbersOutcome whole l ch
+
 -- a call's own definition on the lent bytes
 unfoldable pub outcome : World → Call → Outcome
 outcome w (openCall out destination received) = openOutcome (isWhole (w .state)) (lent w) (length out) (bytesIn destination) (bytesIn received)
@@ -84,6 +96,7 @@ outcome w (readCall out ch buf received) = readOutcome (isWhole (w .state)) (len
 outcome w (writeCall out ch bytes received) = writeOutcome (isWhole (w .state)) (lent w) (length out) ch (bytesIn bytes) (bytesIn received)
 outcome w (closeCall out ch) = closeOutcome (isWhole (w .state)) (lent w) (length out) ch
 outcome w frontTaken = takeFrontOutcome (isWhole (w .state)) (lent w)
+outcome w (lookCall x) = lookOutcome (isWhole (w .state)) (lent w) x
 
 -- what a call leaves
 unfoldable pub after : World → Call → World

@@ -13,7 +13,7 @@ use Rattle.protocol.specs.Packet.{maxPayload, payloadOf, decodeOf, usedOf}
 use Rattle.connection.specs.Answer.{answerNumber, answerValues}
 use Rattle.connection.specs.Calls.{Outcome, writtenBy}
 use Rattle.connection.specs.Frames.{Sent, framesBytes}
-use Rattle.history.specs.Run.{Call, openCall, dispatchCall, settleCall, takeCall, readCall, writeCall, closeCall, frontTaken, outOf, bufOf, World, lent, outcome, after}
+use Rattle.history.specs.Run.{Call, openCall, dispatchCall, settleCall, takeCall, readCall, writeCall, closeCall, frontTaken, lookCall, outOf, bufOf, World, lent, outcome, after}
 
 -- what a caller holds after a call: the number, what the answer says (bytes used, bytes written, values), and both buffers as
 -- they are then
@@ -56,6 +56,7 @@ countOf (readCall out ch buf received) number values = cond (eqb number 0) (getD
 countOf (writeCall out ch bytes received) number values = 0
 countOf (closeCall out ch) number values = 0
 countOf frontTaken number values = 0
+countOf (lookCall x) number values = 0
 
 -- what bytes begin with, before the frames behind it
 unfoldable pub sentBy : List ℕ → List Sent → Decoded → List Sent

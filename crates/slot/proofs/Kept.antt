@@ -148,14 +148,14 @@ pub delivered-sound : (s : ChannelSlot) (p : RxPolicy) (n cap : ℕ) → SlotOk 
 unfolding deliveredOf
 delivered-sound s p n cap ok =
     let P : Settled → Type 0 = λ r. SlotOk (r .slot) cap in
-    pick P (p .delayed) (λ d. ok)
+    pick P (p .delayed) (λ d. pick P (s .«has_remote») (λ r. same-sound s _ cap refl refl refl ok) (λ r. ok))
     (λ d. pick P (leb (p .watermark) (s .buffered)) (λ w. ok)
     (λ w. pick P (s .«has_remote») (λ r. same-sound s _ cap refl refl refl ok) (λ r. ok)))
 
-settled-by : (s : ChannelSlot) (n cap : ℕ) → n ≤ s .buffered → s .settled ≡ 0 → SlotOk s cap → (a : PendingAck) → SlotOk (settledBy s n a .slot) cap
+settled-by : (s : ChannelSlot) (p : RxPolicy) (n cap : ℕ) → n ≤ s .buffered → s .settled ≡ 0 → SlotOk s cap → (a : PendingAck) → SlotOk (settledBy s p n a .slot) cap
 unfolding settledBy
-settled-by s n cap h z ok Nothing = ok
-settled-by s n cap h z ok (Len k) =
+settled-by s p n cap h z ok Nothing = ok
+settled-by s p n cap h z ok (Len k) =
     record {
       settled-buffered = h;
       settled-cap = omega arith;
@@ -172,7 +172,7 @@ settled-sound s p want cap ok =
     let n = min want (s .buffered) in
     pick P (s .«has_remote»)
     (λ r. pick P (eqb (s .settled) 0)
-    (λ z. settled-by s n cap (omega arith) (eqb-true (s .settled) 0 z) ok (ackLenOf s p n (s .buffered - n)))
+    (λ z. settled-by s p n cap (omega arith) (eqb-true (s .settled) 0 z) ok (ackLenOf s p n (s .buffered - n)))
     (λ z. ok))
     (λ r. ok)
 

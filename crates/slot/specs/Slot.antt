@@ -56,6 +56,7 @@ withState s x =
       settled = s .settled;
       head = s .head;
       buffered = s .buffered;
+      «acked_total» = s .«acked_total»;
       failed = s .failed;
     }
 
@@ -74,6 +75,7 @@ withRemote s r =
       settled = s .settled;
       head = s .head;
       buffered = s .buffered;
+      «acked_total» = s .«acked_total»;
       failed = s .failed;
     }
 
@@ -92,6 +94,7 @@ withSending s acked budget =
       settled = s .settled;
       head = s .head;
       buffered = s .buffered;
+      «acked_total» = s .«acked_total»;
       failed = s .failed;
     }
 
@@ -110,6 +113,26 @@ withNumbers s u d h b =
       settled = d;
       head = h;
       buffered = b;
+      «acked_total» = s .«acked_total»;
+      failed = s .failed;
+    }
+
+-- what our OKAYs allowed the device
+abbrev pub withTotal : ChannelSlot → ℕ → ChannelSlot
+withTotal s n =
+    record {
+      filled = s .filled;
+      local = s .local;
+      remote = s .remote;
+      «has_remote» = s .«has_remote»;
+      state = s .state;
+      «wrte_acked» = s .«wrte_acked»;
+      «send_budget» = s .«send_budget»;
+      unacked = s .unacked;
+      settled = s .settled;
+      head = s .head;
+      buffered = s .buffered;
+      «acked_total» = n;
       failed = s .failed;
     }
 
@@ -130,6 +153,7 @@ openingSlot l =
       settled = 0;
       head = 0;
       buffered = 0;
+      «acked_total» = 0;
       failed = No;
     }
 
@@ -148,8 +172,13 @@ emptySlot =
       settled = 0;
       head = 0;
       buffered = 0;
+      «acked_total» = 0;
       failed = No;
     }
+
+-- the place of a channel that we closed: nothing of it stays but the total
+unfoldable pub emptiedSlot : ChannelSlot → ChannelSlot
+emptiedSlot s = withTotal emptySlot (s .«acked_total»)
 
 -- still opening
 unfoldable pub isOpening : ChannelState → Bool
@@ -234,10 +263,15 @@ acked s a = record { slot = s; ack = a }
 unfoldable pub someLen : ℕ → PendingAck
 someLen n = cond (eqb n 0) Nothing (Len n)
 
+-- the total where an OKAY for k bytes is written: in delayed mode it carries them; it stops at the largest value
+unfoldable pub totalWith : RxPolicy → ℕ → ℕ → ℕ
+totalWith p total k = cond (p .delayed) (satSum total k) total
+
 -- `deliver`: n bytes of a WRTE went straight to the reader and are not added to what is unacknowledged
 unfoldable pub deliveredOf : ChannelSlot → RxPolicy → ℕ → Settled
 deliveredOf s p n =
-    cond (p .delayed) (acked s (cond (s .«has_remote») (someLen n) Nothing))
+    cond (p .delayed)
+    (cond (s .«has_remote») (acked (withTotal s (totalWith p (s .«acked_total») n)) (someLen n)) (acked s Nothing))
     (cond (leb (p .watermark) (s .buffered)) (acked s Nothing)
     (cond (s .«has_remote») (acked (withNumbers s 0 (s .settled) (s .head) (s .buffered)) (Len (s .unacked))) (acked s Nothing)))
 
@@ -252,13 +286,14 @@ unfoldable pub hasData : ChannelSlot → Bool
 hasData s = cond (s .«has_remote») (not (eqb (s .buffered) 0)) false
 
 -- n bytes set aside, if an acknowledgement is due
-unfoldable pub settledBy : ChannelSlot → ℕ → PendingAck → Settled
-settledBy s n (Len k) = acked (withNumbers s (s .unacked - k) n (s .head) (s .buffered)) (Len k)
-settledBy s n Nothing = acked s Nothing
+unfoldable pub settledBy : ChannelSlot → RxPolicy → ℕ → PendingAck → Settled
+settledBy s p n (Len k) =
+    acked (withTotal (withNumbers s (s .unacked - k) n (s .head) (s .buffered)) (totalWith p (s .«acked_total») k)) (Len k)
+settledBy s p n Nothing = acked s Nothing
 
 -- `settle_take` of n bytes that are buffered, with none set aside
 unfoldable pub settledSome : ChannelSlot → RxPolicy → ℕ → Settled
-settledSome s p n = settledBy s n (ackLenOf s p n (s .buffered - n))
+settledSome s p n = settledBy s p n (ackLenOf s p n (s .buffered - n))
 
 -- `settle_take`: as many bytes as are wanted and there, unless some are set aside already
 unfoldable pub settledOf : ChannelSlot → RxPolicy → ℕ → Settled
@@ -342,6 +377,7 @@ failedSlot s fault =
       settled = s .settled;
       head = s .head;
       buffered = s .buffered;
+      «acked_total» = s .«acked_total»;
       failed = By fault;
     }
 

@@ -10,7 +10,7 @@ use ids::RemoteId;
 ghost use mathlib.Core.Path.{_≡_};
 ghost use Rattle.slot.specs.Numbers.{readiedNumber, decisionNumber, faultNumber, errorNumber, takenNumber, budgetNumber};
 ghost use Rattle.slot.specs.Slot.{emptySlot, openingSlot, acceptedSlot, isOpening, isClosed, isFailed, idsOf, errorOf};
-ghost use Rattle.slot.specs.Slot.{closedSlot, failedSlot, withState, withRemote, withSending, withNumbers};
+ghost use Rattle.slot.specs.Slot.{closedSlot, failedSlot, withState, withRemote, withSending, withNumbers, withTotal, emptiedSlot};
 
 pub enum ChannelState {
     // An OPEN was sent and not answered yet.
@@ -58,6 +58,9 @@ pub struct ChannelSlot {
     pub head: u32,
     // Bytes waiting to be read.
     pub buffered: u32,
+    // Bytes that our OKAYs have allowed the device since the place was last filled, where acknowledgements are delayed: it stops at
+    // the largest value, and stays when the channel is closed.
+    pub acked_total: usize,
     pub failed: Failed,
 }
 
@@ -231,6 +234,7 @@ impl ChannelSlot {
             settled: 0,
             head: 0,
             buffered: 0,
+            acked_total: 0,
             failed: Failed::No,
         }
     }
@@ -251,6 +255,7 @@ impl ChannelSlot {
             settled: 0,
             head: 0,
             buffered: 0,
+            acked_total: 0,
             failed: Failed::No,
         }
     }
@@ -273,6 +278,7 @@ impl ChannelSlot {
             settled: self.settled,
             head: self.head,
             buffered: self.buffered,
+            acked_total: self.acked_total,
             failed,
         }
     }
@@ -304,6 +310,21 @@ impl ChannelSlot {
         t.head = head;
         t.buffered = buffered;
         t
+    }
+
+    pub fn with_total(self, acked_total: usize) -> ChannelSlot
+        ensures { λ r. ⌜ r ≡ withTotal self «acked_total» ⌝ }
+    {
+        let mut t = self;
+        t.acked_total = acked_total;
+        t
+    }
+
+    // The place of a channel that we closed: nothing of it stays but the total.
+    pub fn emptied(self) -> ChannelSlot
+        ensures { λ r. ⌜ r ≡ emptiedSlot self ⌝ }
+    {
+        ChannelSlot::empty().with_total(self.acked_total)
     }
 
     // A channel that the device opened and we take, with the credit of its OPEN.
@@ -378,6 +399,7 @@ impl ChannelSlot {
             settled: self.settled,
             head: self.head,
             buffered: self.buffered,
+            acked_total: self.acked_total,
             failed: Failed::By(fault),
         }
     }

@@ -12,7 +12,7 @@ use slot::is_opening;
 ghost use mathlib.Core.Path.{_≡_};
 ghost use Prim.Native.Nat.{_≤_};
 ghost use Rattle.slot.specs.Slot.{heldOf, acksNow, wroteOf, someLen, deliveredOf, ackLenOf, isAck, hasData, settledSome, settledOf};
-ghost use Rattle.slot.specs.Slot.{takeLen, tookOf, takenOf, takeAcks, slotOk, SlotOk};
+ghost use Rattle.slot.specs.Slot.{takeLen, tookOf, takenOf, takeAcks, totalWith, slotOk, SlotOk};
 
 fn some_len(len: usize) -> PendingAck
     ensures { λ r. ⌜ r ≡ someLen len ⌝ }
@@ -88,14 +88,25 @@ pub fn apply_write(slot: ChannelSlot, n: usize, policy: RxPolicy) -> Wrote
     }
 }
 
+// The total of what the device was allowed, where an OKAY for k bytes is written: in delayed mode it carries them.
+fn total_with(policy: RxPolicy, total: usize, k: usize) -> usize
+    ensures { λ r. ⌜ r ≡ totalWith policy total k ⌝ }
+{
+    if policy.delayed {
+        return saturate::sat_sum(total, k);
+    }
+    total
+}
+
 // Bytes of a WRTE that went straight to the reader: they never were unacknowledged.
 pub fn deliver(slot: ChannelSlot, taken: usize, policy: RxPolicy) -> Settled
     ensures { λ r. ⌜ r ≡ deliveredOf slot policy taken ⌝ }
 {
     if policy.delayed {
         if slot.has_remote {
+            let total = total_with(policy, slot.acked_total, taken);
             return Settled {
-                slot,
+                slot: slot.with_total(total),
                 ack: some_len(taken),
             };
         }
@@ -172,10 +183,14 @@ fn settle_some(slot: ChannelSlot, n: usize, policy: RxPolicy) -> Settled
             slot,
             ack: PendingAck::Nothing,
         },
-        PendingAck::Len(len) => Settled {
-            slot: slot.with_numbers(slot.unacked - len, n as u32, slot.head, slot.buffered),
-            ack: PendingAck::Len(len),
-        },
+        PendingAck::Len(len) => {
+            let total = total_with(policy, slot.acked_total, len);
+            let rest = slot.with_numbers(slot.unacked - len, n as u32, slot.head, slot.buffered);
+            Settled {
+                slot: rest.with_total(total),
+                ack: PendingAck::Len(len),
+            }
+        }
     }
 }
 

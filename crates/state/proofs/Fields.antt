@@ -13,24 +13,24 @@ use Rattle.state.specs.declared.QueuedOpen.{QueuedOpen}
 use Rattle.state.specs.State.{headerLen, queuedLen, tagAt, slotLen, flagByte, slotNumbers, slotCounts, tagOf, slotBytes, queuedBytes, headerSizes, headerWords, headerTags, stateHeader, putHeader}
 
 pub numbers-put : (d : List ℕ) (s : ChannelSlot) → slotLen ≤ length d
-    → put (put (put (put d 0 (bytesOf 4 (s .local .0))) 4 (bytesOf 4 (s .remote .0))) 8 (bytesOf 8 (unsigned 63 (s .«send_budget»)))) 16 (bytesOf 8 (s .unacked)) ≡ put d 0 (slotNumbers s)
+    → put (put (put (put (put d 0 (bytesOf 4 (s .local .0))) 4 (bytesOf 4 (s .remote .0))) 8 (bytesOf 8 (unsigned 63 (s .«send_budget»)))) 16 (bytesOf 8 (s .unacked))) 24 (bytesOf 8 (s .«acked_total»)) ≡ put d 0 (slotNumbers s)
 unfolding slotNumbers bytesOf
 numbers-put d s h =
     put-seq d 0 (bytesOf 4 (s .local .0))
-    (bytesOf 4 (s .remote .0) ∷ bytesOf 8 (unsigned 63 (s .«send_budget»)) ∷ bytesOf 8 (s .unacked) ∷ [])
+    (bytesOf 4 (s .remote .0) ∷ bytesOf 8 (unsigned 63 (s .«send_budget»)) ∷ bytesOf 8 (s .unacked) ∷ bytesOf 8 (s .«acked_total») ∷ [])
     (omega arith)
 
 pub counts-put : (d : List ℕ) (s : ChannelSlot) → slotLen ≤ length d
-    → put (put (put d 24 (bytesOf 4 (s .settled))) 28 (bytesOf 4 (s .head))) 32 (bytesOf 4 (s .buffered)) ≡ put d 24 (slotCounts s)
+    → put (put (put d 32 (bytesOf 4 (s .settled))) 36 (bytesOf 4 (s .head))) 40 (bytesOf 4 (s .buffered)) ≡ put d 32 (slotCounts s)
 unfolding slotCounts bytesOf
-counts-put d s h = put-seq d 24 (bytesOf 4 (s .settled)) (bytesOf 4 (s .head) ∷ bytesOf 4 (s .buffered) ∷ []) (omega arith)
+counts-put d s h = put-seq d 32 (bytesOf 4 (s .settled)) (bytesOf 4 (s .head) ∷ bytesOf 4 (s .buffered) ∷ []) (omega arith)
 
 pub length-slot : (s : ChannelSlot) → length (slotBytes s) ≡ slotLen
 unfolding slotBytes slotNumbers slotCounts bytesOf
 length-slot s = refl
 
 pub slot-put : (d : List ℕ) (s : ChannelSlot) → slotLen ≤ length d
-    → put (put (put d 0 (slotNumbers s)) 24 (slotCounts s)) tagAt (bytesOf 1 (tagOf s)) ≡ put d 0 (slotBytes s)
+    → put (put (put d 0 (slotNumbers s)) 32 (slotCounts s)) tagAt (bytesOf 1 (tagOf s)) ≡ put d 0 (slotBytes s)
 unfolding slotBytes slotNumbers slotCounts bytesOf
 slot-put d s h = put-seq d 0 (slotNumbers s) (slotCounts s ∷ bytesOf 1 (tagOf s) ∷ []) (omega arith)
 

@@ -172,7 +172,7 @@ byte-back : (l : List ℕ) (a v : ℕ) → Bytes l → a + 1 ≤ length l → v 
 unfolding bytesOf
 byte-back l a v y h e = let lt = y a in let m : v % 256 ≡ getD l a 0 = omega arith in rw m (sym (one l a h))
 
-numbers-back : (l : List ℕ) → Bytes l → tagAt ≤ length l → slotNumbers (slotOf l) ≡ part l 0 24
+numbers-back : (l : List ℕ) → Bytes l → tagAt ≤ length l → slotNumbers (slotOf l) ≡ part l 0 32
 unfolding slotNumbers slotOf
 numbers-back l b h =
     rw (
@@ -181,20 +181,22 @@ numbers-back l b h =
       unsigned-signed 63 (numOf (part l 8 8)) (numOf-part 8 l 8 b),
       read-write-part l 8 8 b (omega arith),
       read-write-part l 16 8 b (omega arith),
+      read-write-part l 24 8 b (omega arith),
       part-join l 0 4 4,
       part-join l 0 8 8,
       part-join l 0 16 8,
+      part-join l 0 24 8,
     )
 
-counts-back : (l : List ℕ) → Bytes l → tagAt ≤ length l → slotCounts (slotOf l) ≡ part l 24 12
+counts-back : (l : List ℕ) → Bytes l → tagAt ≤ length l → slotCounts (slotOf l) ≡ part l 32 12
 unfolding slotCounts slotOf
 counts-back l b h =
     rw (
-      read-write-part l 24 4 b (omega arith),
-      read-write-part l 28 4 b (omega arith),
       read-write-part l 32 4 b (omega arith),
-      part-join l 24 4 4,
-      part-join l 24 8 4,
+      read-write-part l 36 4 b (omega arith),
+      read-write-part l 40 4 b (omega arith),
+      part-join l 32 4 4,
+      part-join l 32 8 4,
     )
 
 slot-back : (l : List ℕ) → Bytes l → slotLen ≤ length l → isSlot l ≡ true → slotBytes (slotOf l) ≡ take slotLen l
@@ -204,7 +206,7 @@ slot-back l b h t =
       numbers-back l b (omega arith),
       counts-back l b (omega arith),
       byte-back l tagAt (tagOf (slotOf l)) b (omega arith) (tag-back l t),
-      part-join l 0 24 12,
+      part-join l 0 32 12,
       part-join l 0 tagAt 1,
     )
     (part-start l slotLen)
@@ -215,6 +217,7 @@ pub record SlotFits (s : ChannelSlot) : Type 0 where
   pub remote : s .remote .0 < 2 ^ 32
   pub budget : mag (s .«send_budget») < 2 ^ 63
   pub unacked : s .unacked < 2 ^ 64
+  pub total : s .«acked_total» < 2 ^ 64
   pub settled : s .settled < 2 ^ 32
   pub head : s .head < 2 ^ 32
   pub buffered : s .buffered < 2 ^ 32
@@ -240,6 +243,7 @@ slot-forth s f =
       write-read 8 (unsigned 63 (s .«send_budget»)) (unsigned-small 63 (s .«send_budget») (f .budget)),
       signed-unsigned 63 (s .«send_budget») (f .budget),
       write-read 8 (s .unacked) (f .unacked),
+      write-read 8 (s .«acked_total») (f .total),
       write-read 4 (s .settled) (f .settled),
       write-read 4 (s .head) (f .head),
       write-read 4 (s .buffered) (f .buffered),
@@ -461,9 +465,10 @@ slot-fits l y =
       remote = numOf-part 4 l 4 y;
       budget = signed-small 63 (numOf (part l 8 8)) (numOf-part 8 l 8 y);
       unacked = numOf-part 8 l 16 y;
-      settled = numOf-part 4 l 24 y;
-      head = numOf-part 4 l 28 y;
-      buffered = numOf-part 4 l 32 y;
+      total = numOf-part 8 l 24 y;
+      settled = numOf-part 4 l 32 y;
+      head = numOf-part 4 l 36 y;
+      buffered = numOf-part 4 l 40 y;
     }
 
 open-fits : (l : List ℕ) → Bytes l → OpenFits (queuedOf l)

@@ -24,7 +24,7 @@ headerLen = 58
 
 -- where a slot's byte of flags and tags lies, behind its numbers
 abbrev pub tagAt : ℕ
-tagAt = 36
+tagAt = 44
 
 -- the length of a slot
 abbrev pub slotLen : ℕ
@@ -87,10 +87,11 @@ failedTag (By (BadCredit Negative)) = 5
 
 -- ---- a slot
 
--- its numbers, budget and bytes unacknowledged: 24 bytes
+-- its numbers, budget, bytes unacknowledged, and what our OKAYs allowed: 32 bytes
 unfoldable pub slotNumbers : ChannelSlot → List ℕ
 slotNumbers s =
     bytesOf 4 (s .local .0) ++ bytesOf 4 (s .remote .0) ++ bytesOf 8 (unsigned 63 (s .«send_budget»)) ++ bytesOf 8 (s .unacked)
+    ++ bytesOf 8 (s .«acked_total»)
 
 -- what is set aside, where the run begins, its length: 12 bytes
 unfoldable pub slotCounts : ChannelSlot → List ℕ
@@ -117,9 +118,10 @@ slotOf l =
       «wrte_acked» = flagOf (getD l tagAt 0 / 2 / 2 % 2);
       «send_budget» = signed 63 (numOf (part l 8 8));
       unacked = numOf (part l 16 8);
-      settled = numOf (part l 24 4);
-      head = numOf (part l 28 4);
-      buffered = numOf (part l 32 4);
+      settled = numOf (part l 32 4);
+      head = numOf (part l 36 4);
+      buffered = numOf (part l 40 4);
+      «acked_total» = numOf (part l 24 8);
       failed = failedOfTag (getD l tagAt 0 / 2 / 2 / 2 / 4);
     }
 

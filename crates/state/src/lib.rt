@@ -22,7 +22,7 @@ ghost use Rattle.state.specs.State.{headerWords, headerTags, headerOf, s
 pub const HEADER_LEN: usize = 58;
 
 // Where a slot's byte of flags and tags lies, behind its numbers.
-pub const TAG_AT: usize = 36;
+pub const TAG_AT: usize = 44;
 
 pub const SLOT_LEN: usize = TAG_AT + 1;
 // Where the queued opens begin: behind the header and 64 slots.
@@ -158,9 +158,10 @@ pub fn slot_of(p: &[u8]) -> ChannelSlot
         wrte_acked: flag(tag / 2 / 2 % 2),
         send_budget: le::get_i64(p, 8),
         unacked: le::get_usize(p, 16),
-        settled: le::get_u32(p, 24),
-        head: le::get_u32(p, 28),
-        buffered: le::get_u32(p, 32),
+        settled: le::get_u32(p, 32),
+        head: le::get_u32(p, 36),
+        buffered: le::get_u32(p, 40),
+        acked_total: le::get_usize(p, 24),
         failed: failed_of(tag / 2 / 2 / 2 / 4),
     }
 }
@@ -173,15 +174,16 @@ fn fill_numbers(p: &mut [u8], s: ChannelSlot)
     le::put_u32(p, 4, s.remote.0);
     le::put_i64(p, 8, s.send_budget);
     le::put_usize(p, 16, s.unacked);
+    le::put_usize(p, 24, s.acked_total);
 }
 
 fn fill_counts(p: &mut [u8], s: ChannelSlot)
     requires { ⌜ slotLen ≤ length (now p) ⌝ }
-    ensures { λ _. ⌜ now (p .exit) ≡ put (now (p .entry)) 24 (slotCounts s) ⌝ }
+    ensures { λ _. ⌜ now (p .exit) ≡ put (now (p .entry)) 32 (slotCounts s) ⌝ }
 {
-    le::put_u32(p, 24, s.settled);
-    le::put_u32(p, 28, s.head);
-    le::put_u32(p, 32, s.buffered);
+    le::put_u32(p, 32, s.settled);
+    le::put_u32(p, 36, s.head);
+    le::put_u32(p, 40, s.buffered);
 }
 
 fn tag_of(s: ChannelSlot) -> u8

@@ -40,6 +40,7 @@ live-stays n i s t v k ok =
             remote = subst (λ (x : RemoteId). x .0 < 2 ^ 32) (sym (k .remote)) (v .fits .remote);
             budget = k .budget (v .fits .budget);
             unacked = k .unacked (v .fits .unacked);
+            total = k .total (v .fits .total);
             settled = omega arith;
             head = omega arith;
             buffered = omega arith;
@@ -70,7 +71,7 @@ module _ (n : Negotiated) (i : ℕ) where
           failed = refl;
           remote = refl;
           ok = record { settled-buffered = omega arith; settled-cap = omega arith; held-cap = omega arith; run-fits = omega arith; cap-small = cap };
-          fits = record { local = l; remote = r; budget = f; unacked = omega arith; settled = omega arith; head = omega arith; buffered = omega arith };
+          fits = record { local = l; remote = r; budget = f; unacked = omega arith; total = omega arith; settled = omega arith; head = omega arith; buffered = omega arith };
         }
     opened-live-by (Bad b) f = tt
 
@@ -86,7 +87,7 @@ module _ (n : Negotiated) (i : ℕ) where
           failed = refl;
           remote = refl;
           ok = record { settled-buffered = omega arith; settled-cap = omega arith; held-cap = omega arith; run-fits = omega arith; cap-small = cap };
-          fits = record { local = l; remote = r; budget = omega arith; unacked = omega arith; settled = omega arith; head = omega arith; buffered = omega arith };
+          fits = record { local = l; remote = r; budget = omega arith; unacked = omega arith; total = omega arith; settled = omega arith; head = omega arith; buffered = omega arith };
         })
 
 -- ---- so a filled slot stays one of a whole state

@@ -16,7 +16,7 @@ use Rattle.config.specs.Config.{Within, capOf}
 use Rattle.config.specs.Negotiated.{policyOf}
 use Rattle.config.proofs.Laws.{and-true, within, within-holds, sound as limits-sound}
 use Rattle.slot.specs.declared.ChannelSlot.{ChannelSlot}
-use Rattle.slot.specs.Slot.{emptySlot, isOpening, isFailed, SlotOk}
+use Rattle.slot.specs.Slot.{withTotal, emptiedSlot, emptySlot, isOpening, isFailed, SlotOk}
 use Rattle.slot.proofs.Kept.{sound, sound-holds}
 use Rattle.slot.proofs.Laws.{cond-true, cond-false}
 use Rattle.state.specs.declared.Header.{Header}
@@ -85,9 +85,10 @@ pub record Whole (n : Negotiated) (h : Header) (ss : List ChannelSlot) (os : Lis
 pub live-whole : (n : Negotiated) (i : ℕ) (s : ChannelSlot) → Live n i s → SlotWhole n i s
 live-whole n i s v = record { fits = v .fits; live = λ e. v }
 
-pub empty-whole : (n : Negotiated) (i : ℕ) → SlotWhole n i emptySlot
+-- a place with no channel, whatever was allowed its last one
+left-whole : (n : Negotiated) (i t : ℕ) → t < 2 ^ 64 → SlotWhole n i (withTotal emptySlot t)
 unfolding emptySlot
-empty-whole n i =
+left-whole n i t h =
     record {
       fits =
           record {
@@ -95,12 +96,21 @@ empty-whole n i =
             remote = omega arith;
             budget = omega arith;
             unacked = omega arith;
+            total = h;
             settled = omega arith;
             head = omega arith;
             buffered = omega arith;
           };
       live = λ e. never e;
     }
+
+pub empty-whole : (n : Negotiated) (i : ℕ) → SlotWhole n i emptySlot
+unfolding emptySlot
+empty-whole n i = left-whole n i 0 (omega arith)
+
+pub emptied-whole : (n : Negotiated) (i : ℕ) (s : ChannelSlot) → SlotFits s → SlotWhole n i (emptiedSlot s)
+unfolding emptiedSlot
+emptied-whole n i s f = left-whole n i (s .«acked_total») (f .total)
 
 -- one slot is put
 pub put-whole : (n : Negotiated) (ss : List ChannelSlot) (i : ℕ) (t : ChannelSlot) → SlotsWhole n ss → i < 64 → SlotWhole n i t → SlotsWhole n (set ss i t)

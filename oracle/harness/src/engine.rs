@@ -46,6 +46,8 @@ pub enum Call {
     Close(usize, u32),
     TakeFront,
     InUse,
+    Numbers(usize, u32),
+    Totals,
     HasFeature(Vec<u8>, Vec<u8>),
     Decode(u32, Vec<u8>),
     Missing(Vec<u8>),
@@ -137,6 +139,14 @@ impl Call {
                 want(0)?;
                 Call::InUse
             }
+            "numbers" => {
+                want(2)?;
+                Call::Numbers(size(a[0])?, number32(a[1])?)
+            }
+            "totals" => {
+                want(0)?;
+                Call::Totals
+            }
             "has_feature" => {
                 want(2)?;
                 Call::HasFeature(bytes(a[0])?, bytes(a[1])?)
@@ -179,6 +189,8 @@ impl Call {
             Call::Close(s, l) => format!("close {s} {l}"),
             Call::TakeFront => "take_front".into(),
             Call::InUse => "in_use".into(),
+            Call::Numbers(s, l) => format!("numbers {s} {l}"),
+            Call::Totals => "totals".into(),
             Call::HasFeature(t, n) => format!("has_feature {} {}", hex(t), hex(n)),
             Call::Decode(l, r) => format!("decode {l} {}", hex(r)),
             Call::Missing(r) => format!("missing {}", hex(r)),
@@ -350,6 +362,9 @@ pub struct Oracle {
     kept: Option<OpenFuture>,
     route: Route,
     config: Option<Make>,
+    /// For each place the credit in the OKAYs that calls on its channel
+    /// wrote, since it was filled. libadb has no such number.
+    totals: Vec<u64>,
 }
 
 /// How received bytes reach the original.
@@ -383,6 +398,7 @@ impl Oracle {
             kept: None,
             route,
             config: None,
+            totals: vec![0; 64],
         }
     }
 
@@ -489,6 +505,7 @@ impl Oracle {
             }
         };
         let out = core::mem::take(&mut self.pipe.0.borrow_mut().written);
+        self.count(call, &answer, &out);
         let state = self.snapshot();
         let mut answer = answer;
         if self.kept.is_none() && !self.conn.is_null() && self.conn().probe_desynced() {
@@ -502,6 +519,49 @@ impl Oracle {
             state,
             made: !self.conn.is_null(),
             waiting: self.waiting(),
+        }
+    }
+
+    /// The credit in what a call wrote: only a settling and a read write an
+    /// OKAY that carries any, and each for its own channel.
+    fn count(&mut self, call: &Call, answer: &str, out: &[u8]) {
+        match call {
+            Call::Make(_) => self.totals = vec![0; 64],
+            Call::Open(..) => {
+                if let Some(slot) = answer.strip_prefix("opened slot=") {
+                    let slot: usize = slot.split(' ').next().unwrap().parse().unwrap();
+                    self.totals[slot] = 0;
+                }
+            }
+            Call::Settle(slot, ..) | Call::Read(slot, ..) => {
+                let mut at = 0;
+                while at < out.len() {
+                    let word = |i: usize| u32::from_le_bytes(out[at + i..at + i + 4].try_into().unwrap());
+                    let len = word(12) as usize;
+                    if &out[at..at + 4] == b"OKAY" && len == 4 {
+                        self.totals[*slot] += u64::from(word(24));
+                    }
+                    at += 24 + len;
+                }
+            }
+            _ => {}
+        }
+    }
+
+    fn numbers(&mut self, slot: usize, local: u32) -> String {
+        let Some(state) = self.snapshot() else {
+            return "numbers ?".into();
+        };
+        match state.slots.iter().find(|s| s.place == slot && s.local == local) {
+            Some(s) => format!(
+                "numbers {} total={} buffered={} unacked={} budget={}",
+                if s.state == SlotState::Closed { "closed" } else { "open" },
+                self.totals[slot],
+                s.data.len(),
+                s.unacked,
+                s.budget
+            ),
+            None => "refused 10".into(),
         }
     }
 
@@ -547,6 +607,11 @@ impl Oracle {
                 }
                 let n = channel_table::probe::in_use(self.conn().probe_table());
                 return plain(format!("in_use n={n}"));
+            }
+            Call::Numbers(slot, local) => return plain(self.numbers(*slot, *local)),
+            Call::Totals => {
+                let some = self.totals.iter().enumerate().filter(|(_, n)| **n > 0);
+                return plain(format!("totals {}", list(some.map(|(i, n)| format!("{i}:{n}")).collect())));
             }
             Call::Open(dest, received) => return self.open(dest, received),
             _ => {}

@@ -28,8 +28,8 @@ one-requires-3 c κs = search needs
 enum-known-answer : tie.Need-enum-known-answer
 enum-known-answer c = search needs
 
-cast-t14 : tie.Need-cast-t14
-cast-t14 c = search needs
+cast-t18 : tie.Need-cast-t18
+cast-t18 c = search needs
 
 enum-known-answer-2 : tie.Need-enum-known-answer-2
 enum-known-answer-2 c = search needs
@@ -55,14 +55,20 @@ one-requires-6 c κs = search needs
 enum-known-answer-5 : tie.Need-enum-known-answer-5
 enum-known-answer-5 c = search needs
 
-cast-t18 : tie.Need-cast-t18
-cast-t18 c = search needs
+cast-t22 : tie.Need-cast-t22
+cast-t22 c = search needs
 
-cast-t19 : tie.Need-cast-t19
-cast-t19 c = search needs
+cast-t23 : tie.Need-cast-t23
+cast-t23 c = search needs
 
 enum-known-answer-6 : tie.Need-enum-known-answer-6
 enum-known-answer-6 c = search needs
+
+cast-t27 : tie.Need-cast-t27
+cast-t27 c = search needs
+
+enum-known-answer-7 : tie.Need-enum-known-answer-7
+enum-known-answer-7 c = search needs
 
 refusal-word-requires : tie.Need-refusal-word-requires
 refusal-word-requires c κs = search needs
@@ -88,9 +94,7 @@ returns-4 c = rw (c .before .before .before .answer .given .1)
 
 returns-5 : tie.Need-returns-5
 unfolding answerValues
-returns-5 c =
-    let at-answer2 = c .before .before .before in
-    rw (at-answer2 .answer2 .given .1) (ap valuesIn (c .one4 .ensures) ∙ ap (λ (x : ℕ). x ∷ 0 ∷ 0 ∷ 0 ∷ []) (c .before .ack-length .ensures))
+returns-5 c = rw (c .before .before .before .answer2 .given .1) (ap valuesIn (c .one4 .ensures) ∙ ap (λ (x : ℕ). x ∷ 0 ∷ 0 ∷ 0 ∷ []) (c .before .ack-length .ensures))
 
 returns-6 : tie.Need-returns-6
 unfolding answerValues
@@ -106,9 +110,11 @@ returns-8 c = rw (c .before .before .answer5 .given .1)
 
 returns-9 : tie.Need-returns-9
 unfolding answerValues
-returns-9 c =
-    let at-answer6 = c .before .before .before in
-    rw (at-answer6 .answer6 .given .1) (ap valuesIn (c .one7 .ensures) ∙ ap (λ (x : ℕ). x ∷ 0 ∷ 0 ∷ 0 ∷ []) (c .before .refusal-word .ensures))
+returns-9 c = rw (c .before .answer6 .given .1)
+
+returns-10 : tie.Need-returns-10
+unfolding answerValues
+returns-10 c = rw (c .before .before .before .answer7 .given .1) (ap valuesIn (c .one7 .ensures) ∙ ap (λ (x : ℕ). x ∷ 0 ∷ 0 ∷ 0 ∷ []) (c .before .refusal-word .ensures))
 
 pub values-of-spec : {M : Type 1} → statement M
 values-of-spec =
@@ -121,7 +127,7 @@ values-of-spec =
     enum-told-3
     one-requires-3
     enum-known-answer
-    cast-t14
+    cast-t18
     enum-known-answer-2
     ack-length-requires
     one-requires-4
@@ -130,9 +136,11 @@ values-of-spec =
     enum-known-answer-4
     one-requires-6
     enum-known-answer-5
-    cast-t18
-    cast-t19
+    cast-t22
+    cast-t23
     enum-known-answer-6
+    cast-t27
+    enum-known-answer-7
     refusal-word-requires
     one-requires-7
     returns
@@ -143,4 +151,5 @@ values-of-spec =
     returns-6
     returns-7
     returns-8
-    returns-9)
+    returns-9
+    returns-10)

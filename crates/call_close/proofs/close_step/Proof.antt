@@ -19,8 +19,8 @@ ids-in-requires c κs = search needs
 put-close-requires : tie.Need-put-close-requires
 put-close-requires c κs = search needs
 
-empty-requires : tie.Need-empty-requires
-empty-requires c κs = search needs
+emptied-requires : tie.Need-emptied-requires
+emptied-requires c κs = search needs
 
 store-slot-requires : tie.Need-store-slot-requires
 store-slot-requires c κs =
@@ -50,15 +50,15 @@ same-length-2 c = search needs
 returns : tie.Need-returns
 returns c =
     let at-store-slot = c .before .before in
-    let at-empty = at-store-slot .before .before in
-    let at-put-close = at-empty .before .before .before in
+    let at-emptied = at-store-slot .before .before in
+    let at-put-close = at-emptied .before .before .before in
     let at-ids-in = at-put-close .before in
     let at-found = at-ids-in .before .before .before in
     let at-get = at-found .before .before in
     let start = at-get .before .before .before .before .before .before .before .before in
     close-leaves (start .args .state .now) (start .args .rx .now) (start .args .store .now) (start .args .out .now) (start .args .h) (start .pre .1)
-    (start .args .ch) (at-get .get .result) (at-get .get .ensures) (start .pre .0) _ (at-found .found .given .1) (at-empty .empty .result)
-    (at-ids-in .ids-in .result) _ _ _ _ (at-ids-in .ids-in .ensures) (at-put-close .put-close .ensures) (at-empty .empty .ensures)
+    (start .args .ch) (at-get .get .result) (at-get .get .ensures) (start .pre .0) _ (at-found .found .given .1) (at-emptied .emptied .result)
+    (at-ids-in .ids-in .result) _ _ _ _ (at-ids-in .ids-in .ensures) (at-put-close .put-close .ensures) (at-emptied .emptied .ensures)
     (at-store-slot .store-slot .ensures) refl
 
 same-length-3 : tie.Need-same-length-3
@@ -82,7 +82,7 @@ close-step-spec =
     enum-known-found
     ids-in-requires
     put-close-requires
-    empty-requires
+    emptied-requires
     store-slot-requires
     enum-told
     put-header-requires

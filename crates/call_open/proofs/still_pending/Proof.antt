@@ -54,6 +54,12 @@ enum-told-9 c = search needs
 drop-pending-requires-8 : tie.Need-drop-pending-requires-8
 drop-pending-requires-8 c κs = search needs
 
+enum-told-10 : tie.Need-enum-told-10
+enum-told-10 c = search needs
+
+drop-pending-requires-9 : tie.Need-drop-pending-requires-9
+drop-pending-requires-9 c κs = search needs
+
 returns : tie.Need-returns
 unfolding stillPending
 returns c = rw (c .enum-told .given .1)
@@ -90,6 +96,10 @@ returns-9 : tie.Need-returns-9
 unfolding stillPending
 returns-9 c = rw (c .before .enum-told9 .given .1) (c .drop-pending8 .ensures)
 
+returns-10 : tie.Need-returns-10
+unfolding stillPending
+returns-10 c = rw (c .before .enum-told10 .given .1) (c .drop-pending9 .ensures)
+
 pub still-pending-spec : {M : Type 1} → statement M
 still-pending-spec =
     tie.close
@@ -111,6 +121,8 @@ still-pending-spec =
     drop-pending-requires-7
     enum-told-9
     drop-pending-requires-8
+    enum-told-10
+    drop-pending-requires-9
     returns
     returns-2
     returns-3
@@ -119,4 +131,5 @@ still-pending-spec =
     returns-6
     returns-7
     returns-8
-    returns-9)
+    returns-9
+    returns-10)

@@ -68,7 +68,7 @@ word = tyInt w64
 
 -- the bytes of a slot in storage
 abbrev slot-size : ℕ
-slot-size = 48
+slot-size = 64
 
 abbrev slice : Ty
 slice = sliceTy (tyRef (named 0) imm (pointee (S.the-row .written)))

@@ -3,18 +3,26 @@ use Rattle.slot.specs.declared.PendingAck.the-variants.{Len}
 use Rattle.slot.proofs.Laws.{cond-true, cond-false}
 use native.Mathlib.Omega.{arith}
 use borrow.Author.Tests.{le-leb, lt-leb}
-use mathlib.Core.Path.{sym, ap, _∙_}
-use Rattle.slot.specs.Slot.{deliveredOf, acked}
+use mathlib.Core.Path.{sym, ap, ap₂, _∙_}
+use Rattle.slot.specs.Slot.{withTotal, deliveredOf, acked}
 use borrow.Author.Needs.{needs}
 use Rattle.slot_receive.proofs.deliver.Statement.{statement}
 use Rattle.slot_receive.proofs.deliver.Tie as tie
+
+total-with-requires : tie.Need-total-with-requires
+total-with-requires c κs = search needs
+
+with-total-requires : tie.Need-with-total-requires
+with-total-requires c κs = search needs
 
 some-len-requires : tie.Need-some-len-requires
 some-len-requires c κs = search needs
 
 returns : tie.Need-returns
 unfolding deliveredOf
-returns c = rw (c .before .before .if1 .taken, c .before .if2 .taken, c .some-len .ensures)
+returns c =
+    ap₂ acked (c .before .with-total .ensures ∙ ap (withTotal (c .before .before .before .before .before .args .slot)) (c .before .before .total-with .ensures)) (c .some-len .ensures)
+    ∙ sym (cond-true _ _ _ (c .before .before .before .if2 .taken)) ∙ sym (cond-true _ _ _ (c .before .before .before .before .if1 .taken))
 
 returns-2 : tie.Need-returns-2
 unfolding deliveredOf
@@ -54,6 +62,8 @@ pub deliver-spec : {M : Type 1} → statement M
 deliver-spec =
     tie.close
     (tie.spec
+    total-with-requires
+    with-total-requires
     some-len-requires
     returns
     returns-2

@@ -21,13 +21,14 @@ put-i64-requires c κs = search needs
 put-usize-requires : tie.Need-put-usize-requires
 put-usize-requires c κs = search needs
 
+put-usize-requires-2 : tie.Need-put-usize-requires-2
+put-usize-requires-2 c κs = search needs
+
 same-length : tie.Need-same-length
 same-length c = search needs
 
 returns : tie.Need-returns
-returns c =
-    let start = c .before .before .before .before .before .before .before .before .before .before .before .before .before .before .before .before .before .before in
-    cc (numbers-put (start .args .p .now) (start .args .s) (start .pre), toZ-ofZ (budget-fits start))
+returns c = cc (numbers-put (c .before .before .before .before .before .before .before .before .before .before .before .before .before .before .before .before .before .before .before .before .before .before .args .p .now) (c .before .before .before .before .before .before .before .before .before .before .before .before .before .before .before .before .before .before .before .before .before .before .args .s) (c .before .before .before .before .before .before .before .before .before .before .before .before .before .before .before .before .before .before .before .before .before .before .pre), toZ-ofZ (budget-fits (c .before .before .before .before .before .before .before .before .before .before .before .before .before .before .before .before .before .before .before .before .before .before)))
 
 pub fill-numbers-spec : {M : Type 1} → statement M
 fill-numbers-spec =
@@ -37,5 +38,6 @@ fill-numbers-spec =
     put-u32-requires-2
     put-i64-requires
     put-usize-requires
+    put-usize-requires-2
     same-length
     returns)

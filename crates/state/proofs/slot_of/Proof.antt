@@ -41,12 +41,15 @@ get-u32-requires-4 c κs = search needs
 get-u32-requires-5 : tie.Need-get-u32-requires-5
 get-u32-requires-5 c κs = search needs
 
+get-usize-requires-2 : tie.Need-get-usize-requires-2
+get-usize-requires-2 c κs = search needs
+
 failed-of-requires : tie.Need-failed-of-requires
 failed-of-requires c κs = search needs
 
 returns : tie.Need-returns
 unfolding slotOf
-returns c = rw (toZ-ofZ {w = w64} {z = c .before .before .before .before .before .get-i64 .result} (record { sfits = c .before .before .before .before .before .get-i64 .ok })) (cc)
+returns c = rw (toZ-ofZ {w = w64} {z = c .before .before .before .before .before .before .get-i64 .result} (record { sfits = c .before .before .before .before .before .before .get-i64 .ok })) (cc)
 
 pub slot-of-spec : {M : Type 1} → statement M
 slot-of-spec =
@@ -64,5 +67,6 @@ slot-of-spec =
     get-u32-requires-3
     get-u32-requires-4
     get-u32-requires-5
+    get-usize-requires-2
     failed-of-requires
     returns)

@@ -30,6 +30,12 @@ enum-told-8 c = search needs
 enum-known-self : tie.Need-enum-known-self
 enum-known-self c = search needs
 
+open-number-requires : tie.Need-open-number-requires
+open-number-requires c κs = search needs
+
+enum-known-self-2 : tie.Need-enum-known-self-2
+enum-known-self-2 c = search needs
+
 number-requires : tie.Need-number-requires
 number-requires c κs = search needs
 
@@ -67,7 +73,11 @@ returns-8 c = rw (c .enum-told8 .given .1)
 
 returns-9 : tie.Need-returns-9
 unfolding answerNumber
-returns-9 c = rw (c .before .before .self .given .1) (c .number .ensures)
+returns-9 c = rw (c .before .before .self .given .1, c .open-number .ensures)
+
+returns-10 : tie.Need-returns-10
+unfolding answerNumber
+returns-10 c = rw (c .before .before .self2 .given .1, c .number .ensures)
 
 pub number-spec : {M : Type 1} → statement M
 number-spec =
@@ -82,6 +92,8 @@ number-spec =
     enum-told-7
     enum-told-8
     enum-known-self
+    open-number-requires
+    enum-known-self-2
     number-requires
     returns
     returns-2
@@ -91,4 +103,5 @@ number-spec =
     returns-6
     returns-7
     returns-8
-    returns-9)
+    returns-9
+    returns-10)
