@@ -5,8 +5,9 @@
  *
  * With --capture every frame that the host takes or writes goes into a pcap file, with the time at which it did.
  * The host's half uses the C interface alone. The device's half is simulated here: it answers OPENs, sends no more than the
- * protocol lets it, acknowledges late, and opens channels towards the host now and then, which the host refuses. What the
- * device sends arrives cut at random places.
+ * protocol lets it, and acknowledges late. Every third peer's channel is opened by the device, and the host accepts it by its
+ * name; now and then the device opens channels of other names, which the host rejects. Of both it lets some go first and takes
+ * them later. What the device sends arrives cut at random places.
  */
 #define _POSIX_C_SOURCE 199309L
 #include "common.h"
@@ -95,7 +96,7 @@ struct peer {
     int opened, closed;           /* by the device, by the host */
     uint64_t sent, heard;         /* bytes sent to the host and received from it */
     int64_t credit;               /* delayed: bytes that the device may send; classic: 1 if it may send a WRTE */
-    int64_t first_credit;         /* as the OPEN granted it */
+    int64_t first_credit;         /* as the OPEN granted it, or the OKAY that accepted */
     int64_t host_credit;          /* what the host may send, likewise */
     uint64_t window;              /* delayed: the host's credit at the start */
     uint64_t owed;                /* delayed: bytes to acknowledge; classic: 1 if an OKAY is owed */
@@ -107,7 +108,7 @@ struct peer {
 
 struct tally {
     uint64_t calls, waiting, partial, frames_in, frames_out, wrte_in, wrte_out, okay_in, okay_out;
-    uint64_t bytes_in, bytes_out, opens, refused, full, ns, wall, captured;
+    uint64_t bytes_in, bytes_out, refused, rejected, accepted, let_go, ns, wall, captured;
 };
 
 static struct peer peers[PEERS];
@@ -121,7 +122,7 @@ static uint8_t *wire;        /* what the device has sent and has not arrived */
 static size_t wire_len, wire_at;
 #define WIRE_MAX (1u << 17)
 static uint32_t next_open;   /* opens of the device's so far */
-static uint32_t next_front;  /* of those, answered by take_front or refused since too many waited */
+static uint32_t next_front;  /* of those, rejected or refused since too many waited */
 static uint8_t refused[DEVICE_OPENS];
 
 /* ---- the capture */
@@ -192,6 +193,36 @@ static struct peer *peer_of(uint32_t number)
     return NULL;
 }
 
+/* Whether the device opens a peer's channel. */
+static int inward(const struct peer *p) { return (p - peers) % 3 == 2; }
+
+static size_t name_of(const struct peer *p, char *name, size_t room) { return (size_t)snprintf(name, room, "peer:%d", (int)(p - peers)); }
+
+static void device_opens(struct peer *p)
+{
+    char name[32];
+    const size_t n = name_of(p, name, sizeof name);
+    device_sends(OPEN, p->number, delayed ? (uint32_t)p->window : 0, (const uint8_t *)name, n);
+}
+
+/* The peer whose channel the device has asked for, and that is not accepted yet, or NULL. */
+static struct peer *asked(uint32_t number)
+{
+    for (int i = 0; i < PEERS; i++)
+        if (peers[i].number == number && inward(&peers[i]) && !peers[i].opened) return &peers[i];
+    return NULL;
+}
+
+/* Its OKAY: it carries the credit that the device has at first, and acknowledges nothing. */
+static void device_is_accepted(struct peer *p, uint32_t local, const uint8_t *payload, size_t n)
+{
+    if (n != (delayed ? 4u : 0u)) die("an accepting OKAY's length", n, 0);
+    p->opened = 1;
+    p->host = local;
+    p->credit = p->first_credit = delayed ? (int64_t)adb_le32(payload) : 1;
+    p->host_credit = delayed ? (int64_t)p->window : 1;
+}
+
 static void device_hears_open(uint32_t local, uint32_t credit, const uint8_t *name, size_t n)
 {
     char text[32];
@@ -200,7 +231,7 @@ static void device_hears_open(uint32_t local, uint32_t credit, const uint8_t *na
     text[least(n, sizeof text - 1)] = 0;
     if (strncmp(text, "peer:", 5) || atoi(text + 5) < 0 || atoi(text + 5) >= PEERS) die("an OPEN for another name", n, 0);
     p = &peers[atoi(text + 5)];
-    if (p->opened) die("a channel opened twice", p->host, local);
+    if (p->opened || inward(p)) die("a channel opened twice", p->host, local);
     if (delayed != (credit != 0)) die("an OPEN's credit", credit, 0);
     p->opened = 1;
     p->host = local;
@@ -222,9 +253,17 @@ static void device_hears(const uint8_t *f, size_t n)
     }
     if (!memcmp(f, names[CLSE], 4) && arg0 == 0) {
         const uint32_t i = arg1 - FIRST_OPEN_NUMBER;
+        if (asked(arg1)) { /* too many waited: once more */
+            device_opens(asked(arg1));
+            return;
+        }
         if (i >= next_open || refused[i]) die("a CLSE for no open of the device's", arg1, 0);
         refused[i] = 1;
         t.refused++;
+        return;
+    }
+    if (!memcmp(f, names[OKAY], 4) && asked(arg1)) {
+        device_is_accepted(asked(arg1), arg0, payload, n);
         return;
     }
     struct peer *p = peer_of(arg1);
@@ -275,7 +314,6 @@ static void device_acts(void)
         const int n = snprintf((char *)bytes, sizeof bytes, "service:%" PRIu32, next_open);
         device_sends(OPEN, FIRST_OPEN_NUMBER + next_open, 7 * next_open, bytes, (size_t)n);
         next_open++;
-        t.opens++;
     }
 }
 
@@ -314,7 +352,6 @@ static void after(uint32_t said, int has_out)
         const size_t n = adb_le32(out.at + at + 12);
         if (written - at - ADB_HEADER_LEN < n) die("a part of a frame was written", written, at);
         capture_frame(out.at + at, ADB_HEADER_LEN + n);
-        t.full += !memcmp(out.at + at, names[CLSE], 4) && !adb_le32(out.at + at + 4);
         device_hears(out.at + at, n);
         at += ADB_HEADER_LEN + n;
     }
@@ -327,7 +364,7 @@ static void after(uint32_t said, int has_out)
 static void host_opens(struct peer *p, int i)
 {
     char name[32];
-    const size_t n = (size_t)snprintf(name, sizeof name, "peer:%d", i);
+    const size_t n = name_of(p, name, sizeof name);
     uint32_t said;
     do {
         ahead();
@@ -397,32 +434,86 @@ static uint32_t host_dispatches(void)
     return said;
 }
 
-/* The device's open that has waited longest is refused. */
+/* The verdict on the open that was taken: its peer's channel is accepted. */
+static void host_accepts(struct peer *p)
+{
+    uint32_t said;
+    ahead();
+    said = adb_accept(LENT, out.at, out.len, answer.at, answer.len);
+    after(said, 1);
+    if (said != ADB_DONE) die("accept is refused", said, p->number);
+    p->slot = adb_answer_slot(answer.at);
+    p->local = adb_answer_local(answer.at);
+    if (!p->opened || p->host != p->local) die("no OKAY reached the device", p->local, p->host);
+    t.accepted++;
+}
+
+static void host_rejects(uint32_t number)
+{
+    uint32_t said;
+    ahead();
+    said = adb_reject(LENT, out.at, out.len, answer.at, answer.len);
+    after(said, 1);
+    if (said != ADB_DONE) die("reject is refused", said, number);
+    if (!refused[number]) die("no CLSE reached the device", number, 0);
+    t.rejected++;
+}
+
+static void host_lets_go(void)
+{
+    uint32_t said;
+    ahead();
+    said = adb_let_go(LENT, answer.at, answer.len);
+    after(said, 0);
+    if (said != ADB_DONE) die("let_go is refused", said, 0);
+    t.let_go++;
+}
+
+/* The device's open that has waited longest: a peer's is accepted, any other rejected; some are let go first. */
 static uint32_t host_takes_front(void)
 {
     char name[32];
-    uint8_t clse[ADB_HEADER_LEN] = "CLSE";
-    uint32_t said, number;
+    struct peer *p;
+    uint32_t said, number, credit;
     size_t n, at, len;
     ahead();
     said = adb_take_front(LENT, answer.at, answer.len);
     after(said, 0);
     if (said == ADB_NONE) return said;
     if (said != ADB_DONE) die("take_front is refused", said, 0);
-    /* They come in order; some were refused since too many waited. */
+    p = asked(adb_answer_remote(answer.at));
     number = adb_answer_remote(answer.at) - FIRST_OPEN_NUMBER;
-    while (next_front < number && next_front < DEVICE_OPENS && refused[next_front]) next_front++;
-    if (number != next_front) die("the device's opens out of order", number, next_front);
-    next_front++;
-    n = (size_t)snprintf(name, sizeof name, "service:%" PRIu32, number);
+    if (!p) {
+        /* They come in order; some were refused since too many waited. */
+        while (next_front < number && next_front < DEVICE_OPENS && refused[next_front]) next_front++;
+        if (number != next_front) die("the device's opens out of order", number, next_front);
+    }
+    credit = p ? (delayed ? (uint32_t)p->window : 0) : 7 * number;
+    n = p ? name_of(p, name, sizeof name) : (size_t)snprintf(name, sizeof name, "service:%" PRIu32, number);
     at = adb_answer_destination(answer.at);
     len = adb_answer_destination_len(answer.at);
-    if (adb_answer_credit(answer.at) != 7 * number) die("an open's credit", adb_answer_credit(answer.at), number);
+    if (adb_answer_credit(answer.at) != credit) die("an open's credit", adb_answer_credit(answer.at), number);
     if (len != n || at > opens.len || n > opens.len - at || memcmp(opens.at + at, name, n)) die("an open's destination", at, len);
-    put32(clse + 8, adb_answer_remote(answer.at));
-    put32(clse + 20, ~adb_le32(clse));
-    device_hears(clse, 0);
+    if (chance(10)) host_lets_go();
+    else if (p) host_accepts(p);
+    else {
+        host_rejects(number);
+        next_front++;
+    }
     return said;
+}
+
+/* A peer's channel that the device opens. */
+static void device_opens_toward(struct peer *p)
+{
+    p->window = between(1000, 20000);
+    device_opens(p);
+    while (!p->opened) {
+        device_acts();
+        arrive();
+        host_dispatches();
+        host_takes_front();
+    }
 }
 
 static void host_closes(struct peer *p)
@@ -563,7 +654,10 @@ static struct tally run(int with_delayed, uint64_t seed, uint64_t total)
     mode = delayed ? "delayed" : "classic";
     begin(seed, total);
     from = now_ns();
-    for (int i = 0; i < PEERS; i++) host_opens(&peers[i], i);
+    for (int i = 0; i < PEERS; i++) {
+        if (inward(&peers[i])) device_opens_toward(&peers[i]);
+        else host_opens(&peers[i], i);
+    }
     move_bytes();
     finish();
     t.wall = now_ns() - from;
@@ -604,8 +698,10 @@ int main(int argc, char **argv)
     row("frames to the device", c.frames_out, d.frames_out);
     row("  WRTE", c.wrte_out, d.wrte_out);
     row("  OKAY", c.okay_out, d.okay_out);
-    row("opens of the device's, all refused", c.opens, d.opens);
-    row("  since too many waited", c.full, d.full);
+    row("channels that the device opened, accepted", c.accepted, d.accepted);
+    row("other opens of the device's, all refused", c.refused, d.refused);
+    row("  since too many waited", c.refused - c.rejected, d.refused - d.rejected);
+    row("opens let go and taken again", c.let_go, d.let_go);
     row("calls", c.calls, d.calls);
     row("  answered waiting", c.waiting, d.waiting);
     row("  waiting on a part of a frame", c.partial, d.partial);

@@ -69,6 +69,10 @@
  * at most one WRTE, whose length is the answer's first value, and is called again with the rest. A program that only wants to
  * take packets calls adb_dispatch. While an open is pending, only adb_open goes on with it: any other call that is
  * not refused by 8, 9 or 13 drops it.
+ *
+ * A channel that the device opens is queued. adb_take_front takes the first of the queue and tells its name, which is then
+ * offered: decide by adb_accept or adb_reject, or put it back by adb_let_go, before any other call. Any other call that is not
+ * refused by 8, 9 or 13 ends the offer, adb_take_front too; the open is then gone, and the device was told nothing.
  */
 #ifndef ADB_H
 #define ADB_H
@@ -87,7 +91,7 @@
 
 #define ADB_DONE 0      /* the call reached its end */
 #define ADB_WAITING 100 /* the frame is incomplete (0 used), or one packet was handled and the call's end has not come */
-#define ADB_NONE 101    /* adb_take: nothing is buffered; adb_take_front: no open is queued */
+#define ADB_NONE 101    /* adb_take: nothing is buffered; adb_take_front: no open is queued; the verdicts: none is offered */
 #define ADB_CLOSED 102  /* adb_numbers: the numbers of a channel that the device closed */
 
 /* Refusals. Nothing is used, written or changed unless said. A read may have written its channel's OKAY first. */
@@ -102,7 +106,7 @@
 #define ADB_REFUSED_OUT_SHORT 9            /* out is under ADB_OUT_MIN, or too short for the OPEN or WRTE due */
 #define ADB_REFUSED_CHANNEL_CLOSED 10      /* no such channel, or closed; a CLSE that says so is used and closes it */
 #define ADB_REFUSED_CHANNEL_RX_OVERFLOW 11 /* a WRTE over what the channel may hold; frame used, its bytes are dropped */
-#define ADB_REFUSED_NO_FREE_CHANNELS 12    /* every slot is filled */
+#define ADB_REFUSED_NO_FREE_CHANNELS 12    /* every slot is filled; adb_accept wrote a CLSE then, and the open is gone */
 #define ADB_REFUSED_BROKEN_STATE 13        /* the state's bytes are not those of a connection */
 #define ADB_REFUSED_LONG_READY_PAYLOAD 20  /* delayed: an OKAY over 4 bytes; as 5 */
 #define ADB_REFUSED_NEGATIVE_CREDIT 21     /* delayed: an OKAY whose credit is below 0; as 5 */
@@ -172,7 +176,7 @@ static inline uint64_t adb_answer_value(const uint8_t *answer, int i)
     return adb_le64(answer + ADB_ANSWER_VALUES + 8 * i);
 }
 
-/* adb_open, ADB_DONE: the channel's place and our number for it, by which the other calls name it. */
+/* adb_open, adb_accept, ADB_DONE: the channel's place and our number for it, by which the other calls name it. */
 static inline size_t adb_answer_slot(const uint8_t *answer)
 {
     return (size_t)adb_answer_value(answer, 0);
@@ -241,16 +245,19 @@ static inline size_t adb_answer_destination_len(const uint8_t *answer)
 
 #define ADB_STATE_CHANNELS 0            /* 8 */
 #define ADB_STATE_MAX_RX_PER_CHANNEL 8  /* 8 */
-#define ADB_STATE_PENDING_SLOT 16       /* 8: the pending open's place */
+#define ADB_STATE_PENDING_SLOT 16       /* 8: the place of the last open of ours */
 #define ADB_STATE_QUEUED 24             /* 8: how many opens of the device's are queued */
 #define ADB_STATE_MAX_PAYLOAD 32        /* 4: as configured */
 #define ADB_STATE_INITIAL_ACK_BYTES 36  /* 4 */
 #define ADB_STATE_DEVICE_MAX_PAYLOAD 40 /* 4: as negotiated */
 #define ADB_STATE_VERSION 44            /* 4: as negotiated */
 #define ADB_STATE_NEXT_LOCAL 48         /* 4 */
-#define ADB_STATE_PENDING_LOCAL 52      /* 4: the pending open's local number */
+#define ADB_STATE_PENDING_LOCAL 52      /* 4: its local number */
 #define ADB_STATE_DELAYED 56            /* 1: 1 in delayed mode */
-#define ADB_STATE_PENDING 57            /* 1: 1 while an open of ours is pending */
+#define ADB_STATE_PENDING 57            /* 1: what is pending */
+#define ADB_PENDING_NOTHING 0
+#define ADB_PENDING_OPEN 1  /* an open of ours */
+#define ADB_PENDING_OFFER 2 /* an open of the device's that was taken: its entry stands behind those that are queued */
 
 /* Slot i, 0 to 63, begins at ADB_STATE_SLOT(i); its fields count from there. */
 #define ADB_STATE_SLOTS 58
@@ -337,8 +344,8 @@ uint32_t adb_close(uint8_t *state, size_t state_len, const uint8_t *rx, size_t r
                    size_t slot, uint32_t local, uint8_t *out, size_t out_len, uint8_t *answer, size_t answer_len);
 
 /* Takes the device's OPEN that was queued first. ADB_DONE: remote number, credit, and where in `opens` its destination is,
- * which stays there until a later call receives another OPEN. The program answers the device itself: a refusal is a CLSE frame
- * with arg0 0 and arg1 the remote number. ADB_NONE: none is queued. */
+ * which stays there until a later call receives another OPEN. The open is offered then, until the next call: decide or let
+ * go before any other. ADB_NONE: none is queued. */
 uint32_t adb_take_front(uint8_t *state, size_t state_len, const uint8_t *rx, size_t rx_len, const uint8_t *opens,
                         size_t opens_len, uint8_t *answer, size_t answer_len);
 
@@ -346,6 +353,20 @@ uint32_t adb_take_front(uint8_t *state, size_t state_len, const uint8_t *rx, siz
  * it. Both: what our OKAYs allowed the device, bytes buffered, bytes unacknowledged, the send budget. */
 uint32_t adb_numbers(const uint8_t *state, size_t state_len, const uint8_t *rx, size_t rx_len, const uint8_t *opens, size_t opens_len,
                      size_t slot, uint32_t local, uint8_t *answer, size_t answer_len);
+
+/* Takes the channel that is offered: writes an OKAY, which carries our opening credit in delayed mode, and fills the lowest
+ * empty slot; the open's credit is what may be sent. ADB_DONE: slot and local number, as adb_open's.
+ * ADB_REFUSED_NO_FREE_CHANNELS: no slot is empty, a CLSE is written, and the open is gone. ADB_NONE: none is offered. */
+uint32_t adb_accept(uint8_t *state, size_t state_len, const uint8_t *rx, size_t rx_len, const uint8_t *opens, size_t opens_len,
+                    uint8_t *out, size_t out_len, uint8_t *answer, size_t answer_len);
+
+/* Refuses the open that is offered: writes a CLSE. ADB_NONE: none is offered. */
+uint32_t adb_reject(uint8_t *state, size_t state_len, const uint8_t *rx, size_t rx_len, const uint8_t *opens, size_t opens_len,
+                    uint8_t *out, size_t out_len, uint8_t *answer, size_t answer_len);
+
+/* Puts the open that is offered back to the head of the queue. ADB_NONE: none is offered. */
+uint32_t adb_let_go(uint8_t *state, size_t state_len, const uint8_t *rx, size_t rx_len, const uint8_t *opens, size_t opens_len,
+                    uint8_t *answer, size_t answer_len);
 
 #ifdef __cplusplus
 }

@@ -14,7 +14,8 @@ rm -rf "$work"; mkdir -p "$work"
 seed=$first
 while [ "$seed" -le "$last" ]; do
     budget=""; [ $((seed % 5)) -ne 0 ] || budget=--budget
-    "$bin/gen" "$seed" "$calls" $budget > "$work/$seed.txt"
+    verdicts=""; [ $((seed % 3)) -eq 0 ] || verdicts=--verdicts
+    "$bin/gen" "$seed" "$calls" $budget $verdicts > "$work/$seed.txt"
     "$bin/oracle" < "$work/$seed.txt" > "$work/$seed.out"
     "$bin/oracle" --keep < "$work/$seed.txt" > "$work/$seed.keep"
     if grep -n -E '^(panic|error)|DESYNC|HARNESS' "$work/$seed.out" "$work/$seed.keep"; then
@@ -49,7 +50,7 @@ for seed in range(first, last + 1):
 print(f"{n} calls in {last-first+1} scripts agree in both modes ({kept} while an open was kept)")
 for k, v in sorted(seen.items()): print(f"{v:7} ", *k)
 PY
-for list in marked findings ledger differences apart/credit apart/close; do
+for list in marked findings ledger differences verdicts apart/credit apart/close; do
     "$bin/oracle" < "$here/scripts/$list.txt" | cmp - "$here/scripts/$list.expected"
     echo "scripts/$list.txt as expected"
 done

@@ -93,13 +93,14 @@ static int is_whole(const uint8_t *s)
     if (adb_le32(s + ADB_STATE_INITIAL_ACK_BYTES) > ADB_MAX_INITIAL_ACK_BYTES) return 0;
     if (adb_le32(s + ADB_STATE_DEVICE_MAX_PAYLOAD) > ADB_MAX_PAYLOAD || adb_le32(s + ADB_STATE_VERSION) > 0x01000001) return 0;
     if (adb_le32(s + ADB_STATE_NEXT_LOCAL) == 0 || queued > channels) return 0;
-    if (s[ADB_STATE_DELAYED] > 1 || s[ADB_STATE_PENDING] > 1) return 0;
+    if (s[ADB_STATE_DELAYED] > 1 || s[ADB_STATE_PENDING] > ADB_PENDING_OFFER) return 0;
     for (size_t i = 0; i < ADB_MAX_CHANNELS; i++)
         if (!slot_is_whole(s, i)) return 0;
-    if (s[ADB_STATE_PENDING] &&
+    if (s[ADB_STATE_PENDING] == ADB_PENDING_OPEN &&
         (place >= channels || s[ADB_STATE_SLOT(place) + ADB_STATE_SLOT_TAG] & ADB_TAG_FILLED))
         return 0;
-    for (size_t i = 0; i < queued; i++) {
+    if (s[ADB_STATE_PENDING] == ADB_PENDING_OFFER && queued >= channels) return 0;
+    for (size_t i = 0; i < queued + (s[ADB_STATE_PENDING] == ADB_PENDING_OFFER); i++) {
         const uint8_t *p = s + ADB_STATE_QUEUED_OPEN(i);
         if (adb_le64(p + ADB_STATE_QUEUED_SHARE) >= channels || adb_le64(p + ADB_STATE_QUEUED_SIZE) > payload) return 0;
     }
@@ -119,7 +120,7 @@ static size_t opens_need(const uint8_t *s)
 
 /* ---- the calls */
 
-enum kind { OPEN, DISPATCH, SETTLE, TAKE, READ, WRITE, CLOSE, FRONT, NUMBERS };
+enum kind { OPEN, DISPATCH, SETTLE, TAKE, READ, WRITE, CLOSE, FRONT, ACCEPT, REJECT, LET_GO, NUMBERS };
 
 struct call {
     const char *name;
@@ -143,9 +144,9 @@ static void fault(const char *what, uint64_t a, uint64_t b)
     exit(1);
 }
 
-static int has_out(enum kind k) { return k != TAKE && k != FRONT && k != NUMBERS; }
+static int has_out(enum kind k) { return k != TAKE && k != FRONT && k != LET_GO && k != NUMBERS; }
 static int has_buf(enum kind k) { return k == TAKE || k == READ; }
-static int keeps_stores(enum kind k) { return k == SETTLE || k == TAKE || k == CLOSE || k == FRONT || k == NUMBERS; }
+static int keeps_stores(enum kind k) { return k == SETTLE || k == TAKE || k >= CLOSE; }
 
 #define OF(b) ptr(b), len[b]
 
@@ -163,6 +164,9 @@ static uint32_t make_call(const struct call *c)
     case CLOSE: return adb_close(OF(STATE), OF(RX), OF(OPENS), c->slot, c->local, OF(OUTGOING), OF(ANSWER));
     case FRONT: return adb_take_front(OF(STATE), OF(RX), OF(OPENS), OF(ANSWER));
     case NUMBERS: return adb_numbers(OF(STATE), OF(RX), OF(OPENS), c->slot, c->local, OF(ANSWER));
+    case ACCEPT: return adb_accept(OF(STATE), OF(RX), OF(OPENS), OF(OUTGOING), OF(ANSWER));
+    case REJECT: return adb_reject(OF(STATE), OF(RX), OF(OPENS), OF(OUTGOING), OF(ANSWER));
+    case LET_GO: return adb_let_go(OF(STATE), OF(RX), OF(OPENS), OF(ANSWER));
     }
     return NONE;
 }
@@ -334,8 +338,10 @@ static void build(int with_delayed, int waiting)
     step(with(add("dispatch", DISPATCH, 0, 0, 0), "WRTE", 13, 3, 7), ADB_DONE);
     step(with(add("dispatch", DISPATCH, 0, 0, 0), "CLSE", 13, 3, 0), ADB_DONE);
     step(add("write", WRITE, 3, 4, 50), ADB_DONE);
-    /* Three opens of the device's, one taken. */
+    /* Three opens of the device's, one taken, let go, taken again: it is offered, unless an open of ours then waits. */
     for (uint32_t i = 0; i < 3; i++) step(with(add("dispatch", DISPATCH, 0, 0, 0), "OPEN", 70 + i, 5 + i, 9 + i), ADB_DONE);
+    step(add("take_front", FRONT, 0, 0, 0), ADB_DONE);
+    step(add("let_go", LET_GO, 0, 0, 0), ADB_DONE);
     step(add("take_front", FRONT, 0, 0, 0), ADB_DONE);
     if (waiting) step(add("open", OPEN, 0, 0, 0), ADB_WAITING);
     call_count = 0;
@@ -364,6 +370,9 @@ static void build(int with_delayed, int waiting)
     add("take_front", FRONT, 0, 0, 0);
     add("numbers", NUMBERS, 0, 1, 0);
     add("numbers of a closed channel", NUMBERS, 2, 3, 0);
+    add("accept", ACCEPT, 0, 0, 0);
+    add("reject", REJECT, 0, 0, 0);
+    add("let_go", LET_GO, 0, 0, 0);
     if (call_count > MAX_CALLS) fault("calls", (uint64_t)call_count, 0);
 }
 
@@ -567,7 +576,7 @@ static void short_frames(void)
     c.kind = OPEN;
     for (size_t n = ADB_OUT_MIN - ADB_HEADER_LEN + 1; n <= PAYLOAD; n++)
         for (int enough = 0; enough < 2; enough++) {
-            const int waits = base_state[ADB_STATE_PENDING];
+            const int waits = base_state[ADB_STATE_PENDING] == ADB_PENDING_OPEN;
             lend_base(&c);
             lend(DESTINATION, destination, n);
             lend(OUTGOING, NULL, ADB_HEADER_LEN + n - !enough);

@@ -24,7 +24,7 @@ class Runner:
 
     def generated(self, seed, calls):
         # Every fifth script also sets budgets to the ends of their range.
-        words = [self.gen, str(seed), str(calls)] + (['--budget'] if seed % 5 == 0 else [])
+        words = [self.gen, str(seed), str(calls)] + (['--budget'] if seed % 5 == 0 else []) + (['--verdicts'] if seed % 3 else [])
         done = subprocess.run(words, check=True, capture_output=True, text=True)
         self.left_out += int(re.search(r'left out: (\d+)', done.stderr)[1])
         return done.stdout.splitlines()

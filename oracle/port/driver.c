@@ -160,7 +160,7 @@ static void print_state(void)
     print_slots();
     printf(" queue=");
     print_queue();
-    if (state.at[ADB_STATE_PENDING])
+    if (state.at[ADB_STATE_PENDING] == ADB_PENDING_OPEN)
         printf(" wait=%" PRIu64 ":%" PRIu32 "\n", size_at(ADB_STATE_PENDING_SLOT), word_at(ADB_STATE_PENDING_LOCAL));
     else printf(" wait=-\n");
 }
@@ -369,6 +369,19 @@ int main(void)
                 const uint64_t was = hash(&rx) ^ hash(&opens);
                 const uint32_t code = adb_take_front(LENT, OF(a));
                 line(code, "front", 4, &a, NULL, NULL);
+                if ((hash(&rx) ^ hash(&opens)) != was) fault("a store");
+            } else if (!strcmp(call, "accept") || !strcmp(call, "reject")) {
+                struct lent out = lend_out(0);
+                const uint64_t was = hash(&rx) ^ hash(&opens);
+                const int takes = !strcmp(call, "accept");
+                const uint32_t code = takes ? adb_accept(LENT, OF(out), OF(a)) : adb_reject(LENT, OF(out), OF(a));
+                line(code, takes ? "opened" : "rejected", takes ? 2 : 0, &a, &out, NULL);
+                if ((hash(&rx) ^ hash(&opens)) != was) fault("a store");
+                back(&out, "out");
+            } else if (!strcmp(call, "let_go")) {
+                const uint64_t was = hash(&rx) ^ hash(&opens);
+                const uint32_t code = adb_let_go(LENT, OF(a));
+                line(code, "let_go", 0, &a, NULL, NULL);
                 if ((hash(&rx) ^ hash(&opens)) != was) fault("a store");
             } else printf("error no such call: %s", call);
             back(&a, "answer");

@@ -20,10 +20,10 @@ use Rattle.table.specs.declared.ChannelId.{ChannelId}
 use Rattle.connection.specs.declared.Answer.{Answer}
 use Rattle.call.specs.declared.Reply.{Reply}
 use Rattle.connection.specs.Answer.{answerNumber, answerValues}
-use Rattle.connection.specs.Calls.{Outcome, writtenBy, openOutcome, dispatchOutcome, settleOutcome, takeOutcome, readOutcome, writeOutcome, closeOutcome, takeFrontOutcome, numbersOutcome}
+use Rattle.connection.specs.Calls.{Outcome, writtenBy, openOutcome, dispatchOutcome, settleOutcome, takeOutcome, readOutcome, writeOutcome, closeOutcome, takeFrontOutcome, numbersOutcome, acceptOutcome, rejectOutcome, letGoOutcome}
 use Rattle.call.specs.Promise.{lentOf, agreedIn, Leaves}
 use Rattle.call_make.specs.Make.{makeIn, Makes}
-use Rattle.history.specs.Run.{bytesIn, Call, openCall, dispatchCall, settleCall, takeCall, readCall, writeCall, closeCall, frontTaken, lookCall, numbersLook, lookOutcome, World, outcome, after}
+use Rattle.history.specs.Run.{bytesIn, Call, openCall, dispatchCall, settleCall, takeCall, readCall, writeCall, closeCall, frontTaken, lookCall, numbersLook, lookOutcome, acceptCall, rejectCall, letGoCall, World, outcome, after}
 use Rattle.adb.specs.declared.Values.{Values}
 use Rattle.adb.specs.Export.{worldOf, valuesIn, numbersOf, answerBytes, saidIn, isShort, Exported, called, exported, Does, isYes, MakesState}
 use Rattle.state.specs.State.{stateLen}
@@ -206,6 +206,18 @@ module _ (state rx store : List ℕ) where
   pub numbers-is : (ch : ChannelId) → numbersOutcome (isWhole state) (lentOf state rx store) ch ≡ outcome w (lookCall (numbersLook ch))
   unfolding outcome lookOutcome
   numbers-is ch = refl
+
+  pub accept-is : (out : List ℕ) → acceptOutcome (isWhole state) (lentOf state rx store) (length out) ≡ outcome w (acceptCall out)
+  unfolding outcome
+  accept-is out = refl
+
+  pub reject-is : (out : List ℕ) → rejectOutcome (isWhole state) (lentOf state rx store) (length out) ≡ outcome w (rejectCall out)
+  unfolding outcome
+  reject-is out = refl
+
+  pub let-go-is : letGoOutcome (isWhole state) (lentOf state rx store) ≡ outcome w letGoCall
+  unfolding outcome
+  let-go-is = refl
 
 -- ---- make
 

@@ -21,7 +21,7 @@ use Rattle.history.specs.NoLeak.{ReadOnly, EvenAt}
 use Rattle.history.specs.Never13.{Unbroken}
 use Rattle.history.specs.Numbers.{opensIn, givenBy, givenIn}
 use Rattle.history.specs.Queue.{Queues}
-use Rattle.history.specs.Run.{Call, openCall, dispatchCall, settleCall, takeCall, readCall, writeCall, closeCall, frontTaken, lookCall, outOf, bufOf, World, after, afterAll, made, Start, begins}
+use Rattle.history.specs.Run.{Call, openCall, dispatchCall, settleCall, takeCall, readCall, writeCall, closeCall, frontTaken, lookCall, acceptCall, rejectCall, letGoCall, outOf, bufOf, World, after, afterAll, made, Start, begins}
 use Rattle.history.specs.Seen.{Held, heldOf, Seen, Event, seenOf, eventsOf}
 use Rattle.history.proofs.Given.{numbers-apart}
 use Rattle.history.proofs.Heard.{nothing8, seen-eight}
@@ -88,6 +88,9 @@ given-eight (writeCall out ch bytes received) = refl
 given-eight (closeCall out ch) = refl
 given-eight frontTaken = refl
 given-eight (lookCall x) = refl
+given-eight (acceptCall out) = refl
+given-eight (rejectCall out) = refl
+given-eight letGoCall = refl
 
 pub record Same (p : RxPolicy) (w : World) (xs : List Step) : Type 0 where
   pub calls : List Call

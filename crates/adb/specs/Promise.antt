@@ -4,7 +4,7 @@ use Prim.Native.Nat.{ℕ}
 use Rattle.config.specs.declared.ConnectionConfig.{ConnectionConfig}
 use Rattle.table.specs.declared.ChannelId.{ChannelId}
 use Rattle.call_make.specs.Make.{makeIn, makeFrom}
-use Rattle.history.specs.Run.{openCall, dispatchCall, settleCall, takeCall, readCall, writeCall, closeCall, frontTaken, lookCall, numbersLook}
+use Rattle.history.specs.Run.{openCall, dispatchCall, settleCall, takeCall, readCall, writeCall, closeCall, frontTaken, lookCall, numbersLook, acceptCall, rejectCall, letGoCall}
 use Rattle.adb.specs.Export.{worldOf, exported, Does, isYes, MakesState}
 
 -- a channel, by its slot and its local number
@@ -65,6 +65,21 @@ AdbTakeFrontDoes state rx opens answer r state' answer' =
 abbrev pub AdbNumbersDoes : List ℕ → List ℕ → List ℕ → ℕ → ℕ → List ℕ → ℕ → List ℕ → Type 0
 AdbNumbersDoes state rx opens slot local answer r answer' =
     Does (exported (worldOf state rx opens) (lookCall (numbersLook (channelOf slot local))) [] [] answer) r state rx opens [] [] answer'
+
+-- what `adb_accept` promises
+abbrev pub AdbAcceptDoes : List ℕ → List ℕ → List ℕ → List ℕ → List ℕ → ℕ → List ℕ → List ℕ → List ℕ → Type 0
+AdbAcceptDoes state rx opens out answer r state' out' answer' =
+    Does (exported (worldOf state rx opens) (acceptCall out) out [] answer) r state' rx opens out' [] answer'
+
+-- what `adb_reject` promises
+abbrev pub AdbRejectDoes : List ℕ → List ℕ → List ℕ → List ℕ → List ℕ → ℕ → List ℕ → List ℕ → List ℕ → Type 0
+AdbRejectDoes state rx opens out answer r state' out' answer' =
+    Does (exported (worldOf state rx opens) (rejectCall out) out [] answer) r state' rx opens out' [] answer'
+
+-- what `adb_let_go` promises
+abbrev pub AdbLetGoDoes : List ℕ → List ℕ → List ℕ → List ℕ → ℕ → List ℕ → List ℕ → Type 0
+AdbLetGoDoes state rx opens answer r state' answer' =
+    Does (exported (worldOf state rx opens) letGoCall [] [] answer) r state' rx opens [] [] answer'
 
 -- what `adb_make` promises
 abbrev pub AdbMakeDoes : List ℕ → ℕ → ℕ → ℕ → ℕ → ℕ → ℕ → ℕ → ℕ → ℕ → List ℕ → Type 0

@@ -1,13 +1,16 @@
 // The C interface (include/adb.h). Every buffer comes as a pointer and its length. A state or an answer that is too short is
 // refused by 8 ahead of all else, and nothing is touched.
 use call::Reply;
+use call_accept::accept;
 use call_close::close;
 use call_dispatch::dispatch;
+use call_let_go::let_go;
 use call_make::make;
 use call_make::make_from;
 use call_numbers::numbers;
 use call_open::open;
 use call_read::read;
+use call_reject::reject;
 use call_settle::settle;
 use call_take::take;
 use call_take_front::take_front;
@@ -28,7 +31,7 @@ ghost use Rattle.connection.specs.Answer.{answerNumber, answerValues, ackLength
 ghost use Rattle.adb.specs.Export.{valuesIn, numbersOf, answerBytes, saidIn, isShort, isYes};
 ghost use Rattle.adb.specs.Promise.{AdbMakeFromCnxnDoes};
 ghost use Rattle.adb.specs.Promise.{AdbCloseDoes, AdbDispatchDoes, AdbMakeDoes, AdbOpenDoes, AdbReadDoes, AdbSettleDoes, AdbTakeDoes};
-ghost use Rattle.adb.specs.Promise.{AdbTakeFrontDoes, AdbNumbersDoes, AdbWriteDoes};
+ghost use Rattle.adb.specs.Promise.{AdbTakeFrontDoes, AdbNumbersDoes, AdbWriteDoes, AdbAcceptDoes, AdbRejectDoes, AdbLetGoDoes};
 
 // An answer's four values.
 pub struct Values {
@@ -360,6 +363,57 @@ pub extern "C" fn adb_numbers(
         local: LocalId(local),
     };
     let reply = numbers(state, rx, opens, ch);
+    answered(answer, reply)
+}
+
+// The verdicts on the open that was taken: its channel is taken.
+#[no_mangle]
+pub extern "C" fn adb_accept(
+    state: &mut [u8],
+    rx: &[u8],
+    opens: &[u8],
+    out: &mut [u8],
+    answer: &mut [u8],
+) -> u32
+    ensures { λ r. ⌜ AdbAcceptDoes (now (state .entry)) (now (rx .entry)) (now (opens .entry)) (now (out .entry)) (now (answer .entry)) r
+        (now (state .exit)) (now (out .exit)) (now (answer .exit)) ⌝ }
+{
+    if is_short(state.len(), answer.len()) {
+        return 8;
+    }
+    let reply = accept(state, rx, opens, out);
+    answered(answer, reply)
+}
+
+// It is refused.
+#[no_mangle]
+pub extern "C" fn adb_reject(
+    state: &mut [u8],
+    rx: &[u8],
+    opens: &[u8],
+    out: &mut [u8],
+    answer: &mut [u8],
+) -> u32
+    ensures { λ r. ⌜ AdbRejectDoes (now (state .entry)) (now (rx .entry)) (now (opens .entry)) (now (out .entry)) (now (answer .entry)) r
+        (now (state .exit)) (now (out .exit)) (now (answer .exit)) ⌝ }
+{
+    if is_short(state.len(), answer.len()) {
+        return 8;
+    }
+    let reply = reject(state, rx, opens, out);
+    answered(answer, reply)
+}
+
+// It is queued again, ahead of the others.
+#[no_mangle]
+pub extern "C" fn adb_let_go(state: &mut [u8], rx: &[u8], opens: &[u8], answer: &mut [u8]) -> u32
+    ensures { λ r. ⌜ AdbLetGoDoes (now (state .entry)) (now (rx .entry)) (now (opens .entry)) (now (answer .entry)) r
+        (now (state .exit)) (now (answer .exit)) ⌝ }
+{
+    if is_short(state.len(), answer.len()) {
+        return 8;
+    }
+    let reply = let_go(state, rx, opens);
     answered(answer, reply)
 }
 

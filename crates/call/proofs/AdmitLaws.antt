@@ -91,7 +91,7 @@ module _ (state rx store : List ℕ) (out : ℕ) (g : Admits state rx store out)
   unfolding isWhole
   admits-facts = whole-facts (stateOf state) (state-fits state (g .bytes)) (and-true (isState state) _ (g .is-whole) .1)
 
-  -- with no pending open
+  -- with nothing pending
   pub admits-dropped : Whole (agreedIn state) (dropped (stateOf state .header)) (stateOf state .slots) (stateOf state .queue)
   admits-dropped = drop-whole (agreedIn state) (stateOf state .header) (stateOf state) admits-facts
 

@@ -1,5 +1,5 @@
 -- What the calls' functions cite: the definition's case, and what the lent bytes are then. Assumes nothing.
-use mathlib.Core.Path.{_≡_, sym, ap, subst, _∙_}
+use mathlib.Core.Path.{_≡_, refl, sym, ap, subst, _∙_}
 use mathlib.Core.Bool.{Bool, _&&_}
 use mathlib.Core.List.{List, []}
 use Prim.Native.Nat.{ℕ, _+_, _≤_}
@@ -9,8 +9,10 @@ use lib.ListN.{length}
 use Rattle.config.specs.declared.negotiated.Negotiated.{Negotiated}
 use Rattle.protocol.specs.declared.packet.Packet.{Packet}
 use Rattle.protocol.specs.Packet.{decodeOf}
+use Rattle.slot.specs.declared.ChannelSlot.{ChannelSlot}
 use Rattle.state.specs.declared.Header.{Header}
 use Rattle.state.specs.State.{stateOf, putHeader}
+use Rattle.table.specs.Table.{allocated}
 use Rattle.connection.specs.declared.Answer.{Answer}
 use Rattle.connection.specs.declared.Answer.the-variants.{Done}
 use Rattle.connection.specs.declared.Received.{Received}
@@ -36,7 +38,12 @@ received-is state rx store h i received r e = e ∙ ap (λ (x : Negotiated). rec
 pub own-is : (t r c : Bool) (a b : ℕ) → t ≡ c → r ≡ (t && eqb a b) → r ≡ (c && eqb a b)
 own-is t r c a b e f = f ∙ ap (λ (x : Bool). x && eqb a b) e
 
--- ---- a call that drops the pending open
+-- what is pending has no part in finding an empty slot
+pub allocated-dropped : (h : Header) (ss : List ChannelSlot) → allocated (dropped h) ss ≡ allocated h ss
+unfolding allocated
+allocated-dropped h ss = refl
+
+-- ---- a call that drops what is pending
 
 module _ (state rx store out : List ℕ) (h : Header) (i : h ≡ dropped (stateOf state .header)) where
   abbrev lent : Lent

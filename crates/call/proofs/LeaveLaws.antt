@@ -290,7 +290,7 @@ module _ (state rx store : List ℕ) (out : ℕ) where
   pub goes-admits : (h : Header) → Goes h → Bytes state → Admits state rx store out
   goes-admits h g y = record { state-fits = whole-long state (g .is-whole); bytes = y; is-whole = g .is-whole; stores = g .stores; room = g .room }
 
-  -- with the pending open dropped
+  -- with what is pending dropped
   pub begins-is : (h k : Header) (a : Admitted) → a ≡ admitted state (length rx) (length store) out → a ≡ Yes h → Bytes state → k ≡ dropped h → Begins state rx store out k
   begins-is h k a e f y i = let g = admitted-goes h a e f in (goes-admits h g y, i ∙ ap dropped (g .header))
 

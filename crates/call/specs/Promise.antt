@@ -68,7 +68,7 @@ pub record Admits (state rx store : List ℕ) (out : ℕ) : Type 0 where
   pub stores : storesFit (agreedIn state .config) (length rx) (length store) ≡ true
   pub room : 56 ≤ out
 
--- a step's start: the call is admitted, and no open of ours is pending in the header that it stores
+-- a step's start: the call is admitted, and nothing is pending in the header that it stores
 abbrev pub Begins : List ℕ → List ℕ → List ℕ → ℕ → Header → Type 0
 Begins state rx store out h = Admits state rx store out × (h ≡ dropped (stateOf state .header))
 

@@ -4,6 +4,7 @@ use connection::Answer;
 use connection::Refusal;
 use slot::ChannelSlot;
 use state::Header;
+use state::Pending;
 use state::PendingOpen;
 use state::header_of;
 use state::slot_at;
@@ -47,14 +48,14 @@ pub fn admit(state: &[u8], rx: usize, store: usize, out: usize) -> Admitted
     Admitted::No(Refusal::BrokenState)
 }
 
-// A pending open is so no more.
+// Nothing is pending any more: neither an open of ours nor an offer.
 pub fn drop_pending(h: Header) -> Header
     ensures { λ r. ⌜ r ≡ dropped h ⌝ }
 {
     let pending = h.pending;
     let local = pending.local;
     let gone = PendingOpen {
-        on: false,
+        what: Pending::Nothing,
         slot: pending.slot,
         local,
     };

@@ -14,7 +14,7 @@ use Rattle.config.specs.declared.ConnectionConfig.{ConnectionConfig}
 use Rattle.config.specs.declared.negotiated.Negotiated.{Negotiated}
 use Rattle.config.specs.Config.{withinLimits}
 use Rattle.config.specs.Negotiated.{negotiatedOf}
-use Rattle.incoming.specs.Incoming.{noneQueued}
+use Rattle.state.specs.State.{noneQueued}
 use Rattle.slot.specs.declared.ChannelSlot.{ChannelSlot}
 use Rattle.slot.specs.Slot.{emptySlot}
 use Rattle.slot.proofs.Laws.{cond-true, cond-false}

@@ -7,7 +7,7 @@ use lib.Dec.{ltb}
 use lib.ListN.{length, replicate}
 use Rattle.config.specs.declared.ConnectionConfig.{ConnectionConfig}
 use Rattle.features.specs.Features.{hasFeature}
-use Rattle.incoming.specs.Incoming.{noneQueued}
+use Rattle.state.specs.State.{noneQueued}
 use Rattle.slot.specs.Slot.{emptySlot}
 use Rattle.le.specs.Rows.{flat}
 use Rattle.state.specs.State.{stateLen, slotBytes, queuedBytes}

@@ -8,6 +8,7 @@ use slot::ChannelSlot;
 use slot::ids::LocalId;
 use slot::ids::RemoteId;
 use state::Header;
+use state::Pending;
 use state::PendingOpen;
 use state::QueuedOpen;
 use state::STATE_LEN;
@@ -18,7 +19,7 @@ ghost use mathlib.Core.Path.{_≡_};
 ghost use Prim.Native.Nat.{_≤_};
 ghost use lib.ListN.{length};
 ghost use Rattle.le.specs.Le.{put};
-ghost use Rattle.incoming.specs.Incoming.{noneQueued};
+ghost use Rattle.state.specs.State.{noneQueued};
 ghost use Rattle.connection.specs.Calls.{fresh};
 ghost use Rattle.call_make.specs.Make.{emptySlots, emptyQueue, makeIn, makeFrom, Makes};
 ghost use Rattle.state.specs.State.{headerLen, queueAt, stateLen};
@@ -63,7 +64,7 @@ fn fresh_header(negotiated: Negotiated) -> Header
     ensures { λ r. ⌜ r ≡ fresh negotiated .header ⌝ }
 {
     let pending = PendingOpen {
-        on: false,
+        what: Pending::Nothing,
         slot: 0,
         local: LocalId(0),
     };

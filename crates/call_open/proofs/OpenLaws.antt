@@ -25,7 +25,7 @@ use Rattle.slot.specs.declared.ids.LocalId.{LocalId}
 use Rattle.slot.specs.Slot.{openingSlot, openedOf}
 use Rattle.slot.proofs.Laws.{cond-true, cond-false}
 use Rattle.state.specs.declared.Header.{Header}
-use Rattle.state.specs.State.{stateLen, stateOf, putSlot, putHeader}
+use Rattle.state.specs.State.{stateLen, isOurs, stateOf, putSlot, putHeader}
 use Rattle.state_whole.proofs.WholeLaws.{Whole}
 use Rattle.table.specs.declared.Allocated.{Allocated}
 use Rattle.table.specs.declared.Allocated.the-variants.{Channel, NoFree}
@@ -44,7 +44,7 @@ use Rattle.connection.specs.Frames.{Frame, closeFrame, openFrame, frameBytes}
 use Rattle.call.specs.Promise.{lentOf, agreedIn, pendingChannel, Leaves, Admits, ActRoom, ActsOn}
 use Rattle.call.proofs.AdmitLaws.{act-room, admits-facts, admits-stores}
 use Rattle.connection.proofs.Decoding.{PacketRoom, packet-room}
-use Rattle.call.proofs.CallLaws.{received-is, own-is as test-is}
+use Rattle.call.proofs.CallLaws.{received-is, allocated-dropped, own-is as test-is}
 use Rattle.call.proofs.FrameLaws.{close-short, one-frame, puts-one}
 use Rattle.call.proofs.LeaveLaws.{Did, did-begun, did-slot, did-frames, did-acted, did-stops, stops-leaves, untouched-leaves}
 use Rattle.connection.proofs.WholeWork.{Long}
@@ -54,33 +54,43 @@ open-long : (n : Negotiated) (local : LocalId) (credit : ℕ) (destination : Lis
 unfolding frameBytes
 open-long n local credit destination = frame-length Open (local .0) credit destination (checkFor (policyFor (n .«protocol_version»)) destination)
 
-module _ (state rx store out : List ℕ) (h : Header) (i : h ≡ stateOf state .header) where
-  abbrev lent : Lent
-  lent = lentOf state rx store
-
-  abbrev head : Header
-  head = stateOf state .header
-
-  -- a frame is written, and a header stored
-  writes : (o : Outcome) (x y : Header) (f : Frame) (a : Answer) (used : ℕ) (r : Reply) (end : ℕ) (out' state' : List ℕ) → o ≡ ends (then (begun x lent) [] (f ∷ [])) a used []
+-- a frame is written, and a header stored
+module _ (state rx store out : List ℕ) (h : Header) (i : h .negotiated ≡ agreedIn state) where
+  writes : (o : Outcome) (x y : Header) (f : Frame) (a : Answer) (used : ℕ) (r : Reply) (end : ℕ) (out' state' : List ℕ) → o ≡ ends (then (begun x (lentOf state rx store)) [] (f ∷ [])) a used []
       → Puts out 0 (frameBytes (h .negotiated) f) end out' → length (frameBytes (agreedIn state) f) ≤ length out → y ≡ x → state' ≡ putHeader state y
       → r ≡ record { answer = a; used = used; written = end } → Leaves (agreedIn state) o 0 state out [] r state' rx store out' []
   writes o x y f a used r end out' state' e p k j s q =
       let n = agreedIn state in
-      let p₁ : Puts out 0 (frameBytes n f) end out' = subst (λ (z : Header). Puts out 0 (frameBytes (z .negotiated) f) end out') i p in
+      let p₁ : Puts out 0 (frameBytes n f) end out' = subst (λ (z : Negotiated). Puts out 0 (frameBytes z f) end out') i p in
       let l = ap (λ (z : List ℕ). length z) (one-frame n f) in
-      let w = did-begun n 0 state out x lent (omega arith) in
+      let w = did-begun n 0 state out x (lentOf state rx store) (omega arith) in
       let w₁ = did-frames n 0 state out _ _ _ _ _ _ w (f ∷ []) out' end (puts-one n f out out' 0 end p₁) (omega arith) in
       subst (λ (v : Outcome). Leaves n v 0 state out [] r state' rx store out' []) (sym e) (did-stops n 0 state out _ _ _ _ _ _ w₁ [] state' y a used r j s q)
 
-  -- ---- an open begins
+-- ---- an open begins
+
+module _ (state rx store out : List ℕ) (h : Header) (i : h ≡ dropped (stateOf state .header)) where
+  abbrev lent₀ : Lent
+  lent₀ = lentOf state rx store
+
+  abbrev head₀ : Header
+  head₀ = dropped (stateOf state .header)
+
+  pub begin-limits : Admits state rx store (length out) → Within (h .negotiated .config)
+  begin-limits g = subst (λ (x : Header). Within (x .negotiated .config)) (sym i) (admits-facts state rx store (length out) g .limits .within)
+
+  -- what looking for a slot asks
+  pub begin-looks : Admits state rx store (length out) → (h .negotiated .config .channels ≤ 64) × (stateLen ≤ length state)
+  begin-looks g = (begin-limits g .most-channels, g .state-fits)
 
   module _ (destination : List ℕ) (found : Allocated) (e : found ≡ allocated h (stateOf state .slots)) where
     abbrev began : Outcome
-    began = openOn lent (length out) destination (allocated head (stateOf state .slots))
+    began = openOn lent₀ (length out) destination (allocated (stateOf state .header) (stateOf state .slots))
 
-    found-is : (x : Allocated) → found ≡ x → began ≡ openOn lent (length out) destination x
-    found-is x f = ap (openOn lent (length out) destination) (sym (ap (λ (y : Header). allocated y (stateOf state .slots)) i) ∙ sym e ∙ f)
+    found-is : (x : Allocated) → found ≡ x → began ≡ openOn lent₀ (length out) destination x
+    found-is x f =
+        ap (openOn lent₀ (length out) destination)
+        (sym (allocated-dropped (stateOf state .header) (stateOf state .slots)) ∙ sym (ap (λ (y : Header). allocated y (stateOf state .slots)) i) ∙ sym e ∙ f)
 
     pub open-none : (r : Reply) (state' : List ℕ) → found ≡ NoFree → state' ≡ putHeader state h → r ≡ record { answer = Refused NoFreeChannels; used = 0; written = 0 }
         → Leaves (agreedIn state) began 0 state out [] r state' rx store out []
@@ -105,7 +115,7 @@ module _ (state rx store out : List ℕ) (h : Header) (i : h ≡ stateOf state .
         open-short r u q =
             subst (λ (v : Outcome). Leaves (agreedIn state) v 0 state out [] r state rx store out [])
             (sym (found-is (Channel ch) f ∙ cond-false (ltb maxPayload (length destination)) _ _ small ∙ cond-true (ltb (length out) (24 + length destination)) _ _ (lt-ltb (length out) (24 + length destination) u)))
-            (untouched-leaves (agreedIn state) lent OutShort state out [] r q)
+            (untouched-leaves (agreedIn state) lent₀ OutShort state out [] r q)
 
         pub open-sends : (moved later : Header) (r : Reply) (end : ℕ) (out' state' : List ℕ) → 24 + length destination ≤ length out
             → Puts out 0 (frameBytes (h .negotiated) (openFrame (ch .local) (offeredCredit (h .negotiated)) destination)) end out' → moved ≡ numbered h → later ≡ pendingFor moved ch
@@ -113,10 +123,17 @@ module _ (state rx store out : List ℕ) (h : Header) (i : h ≡ stateOf state .
         unfolding openOn
         open-sends moved later r end out' state' u p m n s q =
             let z = open-long (agreedIn state) (ch .local) (offeredCredit (agreedIn state)) destination in
-            writes _ (pendingFor (numbered head) ch) later (openFrame (ch .local) (offeredCredit (agreedIn state)) destination) Waiting 0 r end out' state'
+            writes state rx store out h (ap (λ (x : Header). x .negotiated) i) _ (pendingFor (numbered head₀) ch) later (openFrame (ch .local) (offeredCredit (agreedIn state)) destination) Waiting 0 r end out' state'
             (found-is (Channel ch) f ∙ cond-false (ltb maxPayload (length destination)) _ _ small ∙ cond-false (ltb (length out) (24 + length destination)) _ _ (le-ltb (length out) (24 + length destination) u))
             (subst (λ (y : Header). Puts out 0 (frameBytes (h .negotiated) (openFrame (ch .local) (offeredCredit (y .negotiated)) destination)) end out') i p) (omega arith)
             (n ∙ ap (λ (y : Header). pendingFor y ch) (m ∙ ap numbered i)) s q
+
+module _ (state rx store out : List ℕ) (h : Header) (i : h ≡ stateOf state .header) where
+  abbrev lent : Lent
+  lent = lentOf state rx store
+
+  abbrev head : Header
+  head = stateOf state .header
 
   -- ---- what its steps are asked
 
@@ -134,12 +151,8 @@ module _ (state rx store out : List ℕ) (h : Header) (i : h ≡ stateOf state .
     pub open-limits : Within (h .negotiated .config)
     open-limits = facts .limits .within
 
-    -- what looking for a slot asks
-    pub open-looks : (h .negotiated .config .channels ≤ 64) × (stateLen ≤ length state)
-    open-looks = (open-limits .most-channels, g .state-fits)
-
     -- and filling the pending one
-    pub open-place : h .pending .on ≡ true → (h .pending .slot < 64) × (stateLen ≤ length state)
+    pub open-place : isOurs (h .pending .what) ≡ true → (h .pending .slot < 64) × (stateLen ≤ length state)
     open-place e =
         let m = open-limits .most-channels in
         let p = facts .pending-open e .place in
@@ -192,7 +205,7 @@ module _ (state rx store out : List ℕ) (h : Header) (i : h ≡ stateOf state .
     unfolding openReadied
     ready-bad b r end out' state' u f w s q =
         let z = close-short (agreedIn state) (record { local = h .pending .local; remote = record { 0 = p .arg0 } }) in
-        writes _ (dropped head) (dropped h) (closeFrame (record { local = h .pending .local; remote = record { 0 = p .arg0 } })) (Refused (BadCredit b)) (frameLen p) r end out' state'
+        writes state rx store out h (ap (λ (x : Header). x .negotiated) i) _ (dropped head) (dropped h) (closeFrame (record { local = h .pending .local; remote = record { 0 = p .arg0 } })) (Refused (BadCredit b)) (frameLen p) r end out' state'
         (readied-is (Bad b) f) w (omega arith) (ap dropped i) s q
 
   -- ---- any other packet
@@ -253,7 +266,7 @@ module _ (state rx store out : List ℕ) (h : Header) (i : h ≡ stateOf state .
     unfolding openBy
     packet-early r end out' state' k t u w s q =
         let z = close-short (agreedIn state) (record { local = h .pending .local; remote = record { 0 = p .arg0 } }) in
-        writes _ (dropped head) (dropped h) (closeFrame (record { local = h .pending .local; remote = record { 0 = p .arg0 } })) (Refused UnexpectedCommand) (frameLen p) r end out' state'
+        writes state rx store out h (ap (λ (x : Header). x .negotiated) i) _ (dropped head) (dropped h) (closeFrame (record { local = h .pending .local; remote = record { 0 = p .arg0 } })) (Refused UnexpectedCommand) (frameLen p) r end out' state'
         (cond-false (mine (isReady (p .command))) _ _ t ∙ cond-true (mine (isWrite (p .command))) _ _ u) w (omega arith) (ap dropped i) s q
 
     -- a CLSE
@@ -286,16 +299,16 @@ module _ (state rx store out : List ℕ) (h : Header) (i : h ≡ stateOf state .
   -- ---- the step
 
   module _ (destination received : List ℕ) (r : Reply) (state' rx' store' out' : List ℕ) where
-    pub step-waits : h .pending .on ≡ true → Leaves (agreedIn state) (openBy lent (pendingChannel h) received (receivedOf lent received)) 0 state out [] r state' rx' store' out' []
+    pub step-waits : isOurs (h .pending .what) ≡ true → Leaves (agreedIn state) (openBy lent (pendingChannel h) received (receivedOf lent received)) 0 state out [] r state' rx' store' out' []
         → Leaves (agreedIn state) (openStep lent (length out) destination received) 0 state out [] r state' rx' store' out' []
     unfolding openStep
     step-waits t g =
         subst (λ (x : Outcome). Leaves (agreedIn state) x 0 state out [] r state' rx' store' out' [])
-        (sym (cond-true (head .pending .on) _ _ (sym (ap (λ (x : Header). x .pending .on) i) ∙ t) ∙ sym (ap (λ (x : Header). openBy lent (pendingChannel x) received (receivedOf lent received)) i))) g
+        (sym (cond-true (isOurs (head .pending .what)) _ _ (sym (ap (λ (x : Header). isOurs (x .pending .what)) i) ∙ t) ∙ sym (ap (λ (x : Header). openBy lent (pendingChannel x) received (receivedOf lent received)) i))) g
 
-    pub step-begins : h .pending .on ≡ false → Leaves (agreedIn state) (openOn lent (length out) destination (allocated head (stateOf state .slots))) 0 state out [] r state' rx' store' out' []
+    pub step-begins : isOurs (h .pending .what) ≡ false → Leaves (agreedIn state) (openOn lent (length out) destination (allocated head (stateOf state .slots))) 0 state out [] r state' rx' store' out' []
         → Leaves (agreedIn state) (openStep lent (length out) destination received) 0 state out [] r state' rx' store' out' []
     unfolding openStep
     step-begins t g =
         subst (λ (x : Outcome). Leaves (agreedIn state) x 0 state out [] r state' rx' store' out' [])
-        (sym (cond-false (head .pending .on) _ _ (sym (ap (λ (x : Header). x .pending .on) i) ∙ t))) g
+        (sym (cond-false (isOurs (head .pending .what)) _ _ (sym (ap (λ (x : Header). isOurs (x .pending .what)) i) ∙ t))) g

@@ -6,7 +6,7 @@ use lib.ListN.{length}
 use Prim.Native.Nat.{ℕ}
 use Rattle.protocol.specs.Packet.{Puts}
 use Rattle.slot.specs.Slot.{openingSlot, openedOf}
-use Rattle.state.specs.State.{stateOf, putHeader}
+use Rattle.state.specs.State.{isOurs, stateOf, putHeader}
 use Rattle.state_whole.specs.Whole.{isWhole}
 use Rattle.table.specs.Table.{allocated}
 use Rattle.connection.specs.declared.Received.the-variants.{Packet as PacketIs}
@@ -27,7 +27,7 @@ CloseOpenLeaves state out h arg0 r state' out' =
 -- what `open_packet` and `open_ready` ask
 abbrev pub OpenPacketAsks : List ℕ → List ℕ → List ℕ → List ℕ → List ℕ → Header → Packet → Type 0
 OpenPacketAsks state rx store received out h packet =
-    Admits state rx store (length out) × (h ≡ stateOf state .header) × (h .pending .on ≡ true) ×
+    Admits state rx store (length out) × (h ≡ stateOf state .header) × (isOurs (h .pending .what) ≡ true) ×
     (receivedOf (lentOf state rx store) received ≡ PacketIs packet)
 
 -- what `open_ready` promises
@@ -57,7 +57,7 @@ OpenPacketLeaves state rx store received out h packet r state' rx' store' out' =
 
 -- what `await_open_ack` asks
 abbrev pub AwaitOpenAckAsks : List ℕ → List ℕ → List ℕ → List ℕ → Header → Type 0
-AwaitOpenAckAsks state rx store out h = Admits state rx store (length out) × (h ≡ stateOf state .header) × (h .pending .on ≡ true)
+AwaitOpenAckAsks state rx store out h = Admits state rx store (length out) × (h ≡ stateOf state .header) × (isOurs (h .pending .what) ≡ true)
 
 -- what `await_open_ack` promises
 abbrev pub AwaitOpenAckLeaves : List ℕ → List ℕ → List ℕ → List ℕ → List ℕ → Header → Reply → List ℕ → List ℕ → List ℕ → List ℕ → Type 0

@@ -20,6 +20,7 @@ use slot::Readied;
 use slot::ids::ChannelIds;
 use slot::ids::RemoteId;
 use state::Header;
+use state::Pending;
 use state::PendingOpen;
 use state::put_header;
 use table::Allocated;
@@ -31,7 +32,7 @@ ghost use Prim.Native.Nat.{_≤_};
 ghost use lib.ListN.{length};
 ghost use Rattle.state.specs.State.{stateLen, stateOf};
 ghost use Rattle.connection.specs.Calls.{pendingFor, stillPending};
-ghost use Rattle.call.specs.Promise.{pendingChannel, Admits};
+ghost use Rattle.call.specs.Promise.{pendingChannel, Admits, Begins};
 ghost use Rattle.protocol.specs.Message.{messageSize};
 ghost use Rattle.call_open.specs.Promise.{AwaitOpenAckAsks, AwaitOpenAckLeaves, CloseOpenLeaves, OpenActAsks, OpenActLeaves, OpenChannelLeaves};
 ghost use Rattle.call_open.specs.Promise.{OpenLeaves, OpenPacketAsks, OpenPacketLeaves, OpenReadyLeaves, OpenStepLeaves};
@@ -42,7 +43,7 @@ fn pending_for(h: Header, ch: ChannelId) -> Header
 {
     let local = ch.local;
     let pending = PendingOpen {
-        on: true,
+        what: Pending::Opening,
         slot: ch.slot,
         local,
     };
@@ -235,7 +236,7 @@ fn await_open_ack(
     }
 }
 
-// An open begins: its OPEN is written, and it is pending.
+// An open begins: its OPEN is written, and it is pending. Nothing is in the header that it gets.
 fn open_channel(
     state: &mut [u8],
     rx: &[u8],
@@ -244,7 +245,7 @@ fn open_channel(
     out: &mut [u8],
     h: Header,
 ) -> Reply
-    requires { ⌜ Admits (now state) (now rx) (now store) (length (now out)) × (h ≡ stateOf (now state) .header) ⌝ }
+    requires { ⌜ Begins (now state) (now rx) (now store) (length (now out)) h ⌝ }
     ensures { λ r. ⌜ OpenChannelLeaves (now (state .entry)) (now (rx .entry)) (now (store .entry)) (now (destination .entry))
         (now (out .entry)) r (now (state .exit)) (now (out .exit)) ⌝ }
 {
@@ -290,10 +291,11 @@ fn open_step(
         (now (received .entry)) (now (out .entry)) r (now (state .exit)) (now (rx .exit)) (now (store .exit)) (now (out .exit)) ⌝ }
 {
     let pending = h.pending;
-    if pending.on {
+    let what = pending.what;
+    if what.is_ours() {
         return await_open_ack(state, rx, store, received, out, h);
     }
-    open_channel(state, rx, store, destination, out, h)
+    open_channel(state, rx, store, destination, out, drop_pending(h))
 }
 
 // A channel to the destination: the first call writes the OPEN, and those after it each take a packet until one answers it.

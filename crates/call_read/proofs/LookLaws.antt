@@ -23,7 +23,7 @@ use Rattle.slot.proofs.Laws.{cond-true, cond-false}
 use Rattle.state.specs.declared.Header.{Header}
 use Rattle.state.specs.Change.{Change, slotTo, headerTo, changedAll, putAll}
 use Rattle.le.specs.Rows.{flat}
-use Rattle.state.specs.State.{stateLen, Connection, stateOf, slotAt, putSlot, putHeader, isState, withSlot, withHeader}
+use Rattle.state.specs.State.{isOffer, stateLen, Connection, stateOf, slotAt, putSlot, putHeader, isState, withSlot, withHeader}
 use Rattle.state_whole.specs.Whole.{isWhole}
 use Rattle.state.proofs.ChangeLaws.{rows-after}
 use Rattle.state_whole.proofs.LiveLaws.{settled-live}
@@ -171,7 +171,8 @@ module _ (state rx store out : List ℕ) (h : Header) (ch : ChannelId) (s : Chan
     A = actOn h (set (stateOf state .slots) i s) (stateOf state .queue) rx store p payload
 
     keeps : ActedKeeps (h .negotiated) (withSlot (stateOf state) i s) (length rx) (length store) A
-    keeps = acted-keeps h (withSlot (stateOf state) i s) rx store facts₁ (stores₁ .rx-long) (stores₁ .store-long) p payload fits
+    keeps =
+        acted-keeps h (withSlot (stateOf state) i s) rx store facts₁ (ap (λ (x : Header). isOffer (x .pending .what)) (k .header-is)) (stores₁ .rx-long) (stores₁ .store-long) p payload fits
 
     abbrev w₂ : Work
     w₂ = thenActed w₁ A

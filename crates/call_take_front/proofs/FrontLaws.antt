@@ -11,13 +11,13 @@ use borrow.Author.Tests.{ltb-true, eqb-false}
 use Rattle.config.proofs.Laws.{and-true}
 use Rattle.incoming.specs.declared.Front.{Front}
 use Rattle.incoming.specs.declared.Front.the-variants.{Open as FrontOpen, Nothing as NoFront}
-use Rattle.incoming.specs.Incoming.{noneQueued, popped, QueueOk}
+use Rattle.incoming.specs.Incoming.{popped, QueueOk}
 use Rattle.slot.proofs.Kept.{pick}
 use Rattle.state.specs.declared.Header.{Header}
 use Rattle.state.specs.declared.QueuedOpen.{QueuedOpen}
 use Rattle.state.specs.Change.{putAll, Step, Steps}
 use Rattle.le.specs.Rows.{flat}
-use Rattle.state.specs.State.{stateOf, putHeader}
+use Rattle.state.specs.State.{noneQueued, stateOf, putHeader}
 use Rattle.state_whole.specs.Whole.{queuedFine, queueFine}
 use Rattle.state_whole.proofs.WholeLaws.{Whole}
 use Rattle.connection.specs.declared.Answer.the-variants.{Nothing, Front as FrontIs}

@@ -260,7 +260,7 @@ module _ (state rx store out received bytes : List ℕ) (ch : ChannelId) (h : He
         keeps : ActedKeeps values (stateOf state) (length rx) (length store) act
         keeps =
             let a = admits-stores state rx store (length out) (k .finds .admits) in
-            acted-keeps (dropped (stateOf state .header)) (stateOf state) rx store (admits-dropped state rx store (length out) (k .finds .admits)) (a .rx-long) (a .store-long) p (bodyOf received p) fits
+            acted-keeps (dropped (stateOf state .header)) (stateOf state) rx store (admits-dropped state rx store (length out) (k .finds .admits)) refl (a .rx-long) (a .store-long) p (bodyOf received p) fits
 
         -- the slot that the loop's next turn looks at
         abbrev after : ChannelSlot

@@ -23,7 +23,7 @@ use Rattle.credit.specs.Credit.{creditOf, atLeastZero, creditFaultNumber}
 use Rattle.slot.specs.Slot.{emptiedSlot, totalWith, openingSlot, emptySlot, isOpening, isClosed, isFailed, errorOf, openedBy, openedOf, readyBy, readyOf, heldOf, acksNow, bufferedWith, wroteOf, someLen, deliveredOf, ackLenOf, hasData, settledBy, settledSome, settledOf, takeLen, tookOf, takenOf, someBudget, budgetOf, spentOf, closedSlot, slotOk}
 use Rattle.wire.specs.Wire.{creditBytes, okayBytes, closeBytes}
 use Rattle.le.specs.Rows.{flat}
-use Rattle.state_whole.specs.Whole.{filledOk, slotFine, slotsFine, queuedFine, queueFine, pendingFine, headerFine, filledAt, whole}
+use Rattle.state_whole.specs.Whole.{filledOk, slotFine, slotsFine, queuedFine, queueFine, pendingFine, offerFine, opensFine, headerFine, filledAt, whole}
 use Rattle.table.specs.Table.{first, wantedBy, placeOf, nextLocal, allocated, slotIn}
 use Rattle.table_dispatch.specs.Dispatch.{namedPlace, remotePlace, closedAt, closeOf, readiedOf, granted, readyAt, strayOf, grantOf, wroteBy, wroteAt, writeOf, routeOf, dispatchOf}
 use Rattle.incoming.specs.Incoming.{queuedAs, queuedOpens, named, freeFrom, freeShare, staysBy, kept, withdrawal, popped, nextShare, pushed}
@@ -181,5 +181,5 @@ liveSteps =
 
 pub agrees : given (start delayed) delayedSteps ++ given (start classic) classicSteps ++ given (start delayed) liveSteps
     ≡ map (λ (s : Step). s .said) (delayedSteps ++ classicSteps ++ liveSteps)
-unfolding numOf bytesOf signed part put clamp satSum positivePart slid fitsBehind appendedHead appended takenHead withinLimits capOf ceilingOf watermarkOf openingCredit rxStoreLen openStoreLen storesFit both negotiatedOf policyOf creditOf-config total sumOf policyFor checkFor lettersOf wordOf magicOf commands amongOf commandOf messageOf headerBytes payloadOf checkPasses packetOf knownOf namedOf decodeOf messageFor frameBytes-protocol isClose namedBy closedBy creditOf atLeastZero creditFaultNumber openingSlot emptySlot emptiedSlot totalWith isOpening isClosed isFailed errorOf openedBy openedOf readyBy readyOf heldOf acksNow bufferedWith wroteOf someLen deliveredOf ackLenOf hasData settledBy settledSome settledOf takeLen tookOf takenOf someBudget budgetOf spentOf closedSlot slotOk creditBytes okayBytes closeBytes flat filledOk slotFine slotsFine queuedFine queueFine pendingFine headerFine filledAt whole first wantedBy placeOf nextLocal allocated slotIn namedPlace remotePlace closedAt closeOf readiedOf granted readyAt strayOf grantOf shareOf bufferedIn wroteBy wroteAt writeOf routeOf dispatchOf queuedAs queuedOpens named freeFrom freeShare staysBy kept withdrawal popped nextShare pushed frameBytes framesBytes pushedBy actedBy tableOf actOn refusalNumber answerNumber ackLength refusalWord answerValues ends checked checkedOut isThere slotFor ackFrames faultRefusal errorRefusal unlessFault receivedBy receivedOf isWrite isReady fresh dispatchBy dispatchStep settledAs settleStep frontOf takenBy takeStep reread readSettled readActed isDirect readDirect readBy readTaken readFirst readStep sendLen sendSome sendBy sendAgain writeReadied writeActed writeAct writeBy writeFirst writeOn writeStep closeStep takeFrontBy takeFrontStep openOn stillPending openReadied openActed openBy openStep openOutcome dispatchOutcome settleOutcome takeOutcome readOutcome writeOutcome closeOutcome takeFrontOutcome isThe
+unfolding numOf bytesOf signed part put clamp satSum positivePart slid fitsBehind appendedHead appended takenHead withinLimits capOf ceilingOf watermarkOf openingCredit rxStoreLen openStoreLen storesFit both negotiatedOf policyOf creditOf-config total sumOf policyFor checkFor lettersOf wordOf magicOf commands amongOf commandOf messageOf headerBytes payloadOf checkPasses packetOf knownOf namedOf decodeOf messageFor frameBytes-protocol isClose namedBy closedBy creditOf atLeastZero creditFaultNumber openingSlot emptySlot emptiedSlot totalWith isOpening isClosed isFailed errorOf openedBy openedOf readyBy readyOf heldOf acksNow bufferedWith wroteOf someLen deliveredOf ackLenOf hasData settledBy settledSome settledOf takeLen tookOf takenOf someBudget budgetOf spentOf closedSlot slotOk creditBytes okayBytes closeBytes flat filledOk slotFine slotsFine queuedFine queueFine pendingFine offerFine opensFine headerFine filledAt whole first wantedBy placeOf nextLocal allocated slotIn namedPlace remotePlace closedAt closeOf readiedOf granted readyAt strayOf grantOf shareOf bufferedIn wroteBy wroteAt writeOf routeOf dispatchOf queuedAs queuedOpens named freeFrom freeShare staysBy kept withdrawal popped nextShare pushed frameBytes framesBytes pushedBy actedBy tableOf actOn refusalNumber answerNumber ackLength refusalWord answerValues ends checked checkedOut isThere slotFor ackFrames faultRefusal errorRefusal unlessFault receivedBy receivedOf isWrite isReady fresh dispatchBy dispatchStep settledAs settleStep frontOf takenBy takeStep reread readSettled readActed isDirect readDirect readBy readTaken readFirst readStep sendLen sendSome sendBy sendAgain writeReadied writeActed writeAct writeBy writeFirst writeOn writeStep closeStep takeFrontBy takeFrontStep openOn stillPending openReadied openActed openBy openStep openOutcome dispatchOutcome settleOutcome takeOutcome readOutcome writeOutcome closeOutcome takeFrontOutcome isThe
 agrees = refl

@@ -26,7 +26,7 @@ use Rattle.connection.specs.Act.{Acted, tabled, pushedBy, actedBy, table
 use Rattle.connection.specs.Frames.{Frame}
 use Rattle.state_whole.proofs.WholeLaws.{Whole}
 use Rattle.table_dispatch.proofs.KeepLaws.{AnswerFits, TableKeeps, dispatch-keeps}
-use Rattle.incoming.proofs.QueueLaws.{QueueKeeps, PushedAs, push-keeps, withdraw-keeps}
+use Rattle.incoming.proofs.QueueLaws.{QueueKeeps, NoOffer, PushedAs, push-keeps, withdraw-keeps}
 
 -- what a packet leaves: a whole state once its header is stored, channels in their places, both stores' lengths
 pub record ActedKeeps (n : Negotiated) (c : Connection) (rx store : ℕ) (a : Acted) : Type 0 where
@@ -36,7 +36,7 @@ pub record ActedKeeps (n : Negotiated) (c : Connection) (rx store : ℕ) (a : Ac
   pub rx-length : length (a .rx) ≡ rx
   pub store-length : length (a .store) ≡ store
 
-module _ (h : Header) (c : Connection) (rx store : List ℕ) (g : Whole (h .negotiated) h (c .slots) (c .queue)) where
+module _ (h : Header) (c : Connection) (rx store : List ℕ) (g : Whole (h .negotiated) h (c .slots) (c .queue)) (no : NoOffer h) where
   tabled-keeps : (fault : Failed) (d : Dispatched) (fs : List Frame) → TableKeeps (h .negotiated) h c rx d
       → ActedKeeps (h .negotiated) c (length rx) (length store) (tabled fault h store d fs)
   tabled-keeps fault d fs t =
@@ -65,7 +65,7 @@ module _ (h : Header) (c : Connection) (rx store : List ℕ) (g : Whole (h .nego
           store-length = e;
         }
 
-    pushed-keeps : (remote : RemoteId) (o : PushOutcome) (r : Pushed) → PushedAs h (changedAll c (d .step .changes) .slots) (c .queue) (t .facts) (length store) o r
+    pushed-keeps : (remote : RemoteId) (o : PushOutcome) (r : Pushed) → PushedAs h (changedAll c (d .step .changes) .slots) (c .queue) (t .facts) no (length store) o r
         → ActedKeeps (h .negotiated) c (length rx) (length store) (pushedBy h store d remote o r)
     unfolding pushedBy
     pushed-keeps remote o (Queued more) q = queued-keeps more (o .changes) (o .store) (q .0) (q .1)
@@ -80,10 +80,10 @@ module _ (h : Header) (c : Connection) (rx store : List ℕ) (g : Whole (h .nego
     acted-by payload k long (DataBuffered i) f = tabled-keeps No d _ t
     acted-by payload k long (IncomingOpen remote credit) f =
         pushed-keeps remote (pushed h (c .queue) remote credit payload store) (pushed h (c .queue) remote credit payload store .result)
-        (push-keeps h (changedAll c (d .step .changes) .slots) (c .queue) (t .facts) remote credit payload store (f .0) (f .1) k long)
+        (push-keeps h (changedAll c (d .step .changes) .slots) (c .queue) (t .facts) no remote credit payload store (f .0) (f .1) k long)
     acted-by payload k long (CancelQueuedOpen remote) f =
         queued-keeps (withdrawal h (c .queue) remote .result) (withdrawal h (c .queue) remote .changes) store
-        (withdraw-keeps h (changedAll c (d .step .changes) .slots) (c .queue) (t .facts) remote) refl
+        (withdraw-keeps h (changedAll c (d .step .changes) .slots) (c .queue) (t .facts) no remote) refl
     acted-by payload k long (StrayReady ids) f = tabled-keeps No d _ t
     acted-by payload k long (ChannelFault i ids opening e) f = tabled-keeps (By e) d _ t
     acted-by payload k long Unmatched f = tabled-keeps No d _ t

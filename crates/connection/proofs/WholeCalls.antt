@@ -34,7 +34,8 @@ use Rattle.slot.specs.Slot.{emptiedSlot, isClosed, readyOf, takenOf, budgetOf, 
 use Rattle.slot.proofs.Kept.{pick}
 use Rattle.state.specs.declared.Header.{Header}
 use Rattle.state.specs.Change.{Change, slotTo, changedAll}
-use Rattle.state.specs.State.{Connection, withSlot}
+use Rattle.state.specs.State.{isOurs, noneQueued, Connection, withSlot}
+use Rattle.state.proofs.StateLaws.{OpenFits}
 use Rattle.le.proofs.RowLaws.{never}
 use Rattle.table.specs.declared.Allocated.{Allocated}
 use Rattle.table.specs.declared.Allocated.the-variants.{Channel, NoFree}
@@ -48,12 +49,12 @@ use Rattle.connection.specs.declared.Received.the-variants.{Packet as Pa
 use Rattle.connection.specs.declared.Refusal.the-variants.{PayloadTooLarge, BadCredit, UnexpectedCommand, OutShort, ChannelClosed, NoFreeChannels}
 use Rattle.connection.specs.Answer.{refusalNumber, answerNumber}
 use Rattle.connection.specs.Act.{Acted, actOn, PacketFits}
-use Rattle.connection.specs.Calls.{looked, numbersIn, numbersFor, Lent, Work, begun, then, thenActed, ends, dropped, pendingFor, policy, idsIn, isThere, slotFor, ackFrames, faultRefusal, errorRefusal, unlessFault, receivedOf, bodyOf, frameLen, dispatchBy, dispatchStep, settledAs, settleStep, takenBy, takeStep, reread, readSettled, readActed, isDirect, readDirect, readBy, readTaken, readFirst, readStep, sendLen, sendSome, sendBy, sendAgain, writeReadied, writeActed, writeAct, writeBy, writeFirst, writeOn, writeStep, closeStep, takeFrontBy, takeFrontStep, openOn, stillPending, openReadied, openActed, openBy, openStep}
+use Rattle.connection.specs.Calls.{looked, numbersIn, numbersFor, Lent, Work, begun, then, thenActed, ends, dropped, pendingFor, policy, idsIn, isThere, slotFor, ackFrames, faultRefusal, errorRefusal, unlessFault, receivedOf, bodyOf, frameLen, dispatchBy, dispatchStep, settledAs, settleStep, takenBy, takeStep, reread, readSettled, readActed, isDirect, readDirect, readBy, readTaken, readFirst, readStep, sendLen, sendSome, sendBy, sendAgain, writeReadied, writeActed, writeAct, writeBy, writeFirst, writeOn, writeStep, closeStep, takeFrontBy, takeFrontStep, openOn, stillPending, openReadied, openActed, openBy, openStep, offerIn, isOffered, rejectOn, acceptOn, acceptStep, rejectStep, letGoStep}
 use Rattle.connection.specs.Frames.{Frame, framesBytes}
 use Rattle.state_whole.proofs.WholeLaws.{Live, Whole, live-whole, emptied-whole}
-use Rattle.state_whole.proofs.LiveLaws.{ReadiedLive, ready-live, opened-live, TakenLive, taken-live, settled-live, delivered-live, spent-live, closed-live}
+use Rattle.state_whole.proofs.LiveLaws.{ReadiedLive, ready-live, opened-live, accepted-live, TakenLive, taken-live, settled-live, delivered-live, spent-live, closed-live}
 use Rattle.table_dispatch.proofs.KeepLaws.{place-found}
-use Rattle.incoming.proofs.QueueLaws.{QueueKeeps, FrontAs, pop-keeps}
+use Rattle.incoming.proofs.QueueLaws.{QueueKeeps, NoOffer, ours-alone, every-getD, FrontAs, pop-keeps, return-keeps}
 use Rattle.connection.proofs.WholeAct.{ActedKeeps, acted-keeps}
 use Rattle.connection.proofs.Decoding.{Admitted, fault-fine, error-fine, unless-fine, ReceivedFits, received-fits}
 use Rattle.connection.proofs.WholeWork.{looked-kept, negotiated, Kept, WorkWhole, At, drop-whole, begun-whole, frames-whole, slot-whole, act-whole, ends-kept, at-frames, at-slot, at-act, at-ends, untouched-kept, dropped-whole, there-live, there-at, Long, long}
@@ -178,14 +179,122 @@ module _ (l : Lent) (g : Whole (negotiated l) (l .state .header) (l .state .slot
         store-length = refl;
       }
 
-  front-by : (xs : List Change) (f : Front) → FrontAs (dropped (l .state .header)) (l .state .slots) (l .state .queue) gd xs f → Kept l (takeFrontBy l (dropped (l .state .header)) xs f)
+  front-by : (xs : List Change) (f : Front) → FrontAs (dropped (l .state .header)) (l .state .slots) (l .state .queue) gd refl xs f → Kept l (takeFrontBy l (dropped (l .state .header)) xs f)
   unfolding takeFrontBy
   front-by xs (FrontOpen q less) k = ends-kept l _ (queue-work less xs k) _ 0 [] (front-fine _ _ _ _)
   front-by xs NoFront k = ends-kept l _ (dropped-whole l g) Nothing 0 [] nothing-fine
 
   pub front-kept : Kept l (takeFrontStep l)
   unfolding takeFrontStep
-  front-kept = front-by _ _ (pop-keeps (dropped (l .state .header)) (l .state .slots) (l .state .queue) gd)
+  front-kept = front-by _ _ (pop-keeps (dropped (l .state .header)) (l .state .slots) (l .state .queue) gd refl)
+
+  -- ---- an empty place and the next number
+
+  next-fits : (n : ℕ) → (1 ≤ nextLocal n) × (nextLocal n < 2 ^ 32)
+  unfolding nextLocal
+  next-fits n = (omega arith, omega arith)
+
+  numbered-whole : Whole (negotiated l) (numbered (dropped (l .state .header))) (l .state .slots) (l .state .queue)
+  numbered-whole =
+      let k = next-fits (l .state .header .«next_local») in
+      record {
+        limits = g .limits;
+        header =
+            record {
+              negotiated = refl;
+              next-some = k .0;
+              next-fits = k .1;
+              place-fits = g .header .place-fits;
+              local-fits = g .header .local-fits;
+              queue-fits = g .header .queue-fits;
+            };
+        slots = g .slots;
+        pending-open = λ e. never e;
+        queue = g .queue;
+        offer = λ e. never e;
+      }
+
+  -- a place that was allocated is below channels and empty, and its number is of 32 bits
+  pub record Free (ch : ChannelId) : Type 0 where
+    pub place : ch .slot < negotiated l .config .channels
+    pub empty : slotIn (l .state .slots) (ch .slot) .filled ≡ false
+    pub local : ch .local .0 < 2 ^ 32
+
+  abbrev AllocatedFree : Allocated → Type 0
+  AllocatedFree (Channel ch) = Free ch
+  AllocatedFree NoFree = Unit {0}
+
+  not-filled : (s : ChannelSlot) → wantedBy Empty s ≡ true → s .filled ≡ false
+  unfolding wantedBy
+  not-filled s e = not-true (s .filled) e
+    where
+      not-true : (b : Bool) → not b ≡ true → b ≡ false
+      not-true true f = never f
+      not-true false f = refl
+
+  allocated-free : AllocatedFree (allocated (l .state .header) (l .state .slots))
+  unfolding allocated
+  allocated-free =
+      let n = negotiated l .config .channels in
+      let i = placeOf Empty n (l .state .slots) in
+      let most = g .limits .within .most-channels in
+      let full = g .slots .full in
+      pick AllocatedFree (ltb i n)
+      (λ t. let h = ltb-true i n t in
+      record { place = h; empty = not-filled _ (place-found Empty n (l .state .slots) (omega arith) h); local = g .header .next-fits })
+      (λ t. tt)
+
+  -- ---- accept, reject, let go
+
+  cap-small : policyOf (negotiated l) .«rx_cap» ≤ 16777216
+  unfolding policyOf
+  cap-small = sound (negotiated l .config) (g .limits .within) .cap-small
+
+  not-offered : Kept l (ends (begun (dropped (l .state .header)) l) Nothing 0 [])
+  not-offered = ends-kept l _ (dropped-whole l g) Nothing 0 [] nothing-fine
+
+  reject-on : (remote : RemoteId) (a : Answer) → Admitted a → Kept l (rejectOn l (dropped (l .state .header)) remote a)
+  unfolding rejectOn
+  reject-on remote a k = ends-kept l _ (frames-whole l _ (dropped-whole l g) _) a 0 [] k
+
+  -- the entry of an offer
+  offer-fits : isOffered l ≡ true → OpenFits (offerIn l)
+  offer-fits t =
+      let o = g .offer t in
+      let most = g .limits .within .most-channels in
+      let room = o .room in
+      let full = g .queue .full in
+      every-getD OpenFits (l .state .queue) (l .state .header .queued) noneQueued (omega arith) (g .queue .fits)
+
+  accept-on : (remote : RemoteId) (credit : ℕ) → remote .0 < 2 ^ 32 → credit < 2 ^ 32 → (r : Allocated) → AllocatedFree r
+      → Kept l (acceptOn l (dropped (l .state .header)) remote credit r)
+  unfolding acceptOn
+  accept-on remote credit h f NoFree k = reject-on remote (Refused NoFreeChannels) free-fine
+  accept-on remote credit h f (Channel ch) k =
+      let most = g .limits .within .most-channels in
+      let p = k .place in
+      ends-kept l _
+      (slot-whole l _ (begun-whole l _ numbered-whole) (ch .slot) _ _ (omega arith) (λ e. never e)
+      (live-whole (negotiated l) (ch .slot) _ (accepted-live (negotiated l) (ch .slot) (ch .local) remote p cap-small (k .local) h credit f))) (Opened ch) 0 [] (opened-fine ch)
+
+  pub accept-kept : Kept l (acceptStep l)
+  unfolding acceptStep
+  accept-kept =
+      pick (Kept l) (isOffered l)
+      (λ t. let o = offer-fits t in accept-on (offerIn l .remote) (offerIn l .credit) (o .remote) (o .credit) (allocated (l .state .header) (l .state .slots)) allocated-free)
+      (λ t. not-offered)
+
+  pub reject-kept : Kept l (rejectStep l)
+  unfolding rejectStep
+  reject-kept = pick (Kept l) (isOffered l) (λ t. reject-on (offerIn l .remote) Done done-fine) (λ t. not-offered)
+
+  pub let-go-kept : Kept l (letGoStep l)
+  unfolding letGoStep
+  let-go-kept =
+      pick (Kept l) (isOffered l)
+      (λ t. ends-kept l _
+      (queue-work _ _ (return-keeps (dropped (l .state .header)) (l .state .slots) (l .state .queue) gd refl (offerIn l) (g .offer t .room) (offer-fits t) (g .offer t .fine))) Done 0 [] done-fine)
+      (λ t. not-offered)
 
   -- ---- numbers
 
@@ -203,7 +312,7 @@ module _ (l : Lent) (g : Whole (negotiated l) (l .state .header) (l .state .slot
     -- what acting on it leaves, with the state as it was lent, the pending open dropped
     acted : (p : Packet) → PacketFits (negotiated l) p (bodyOf received p) → ActedKeeps (negotiated l) (l .state) (length (l .rx)) (length (l .store))
         (actOn (dropped (l .state .header)) (l .state .slots) (l .state .queue) (l .rx) (l .store) p (bodyOf received p))
-    acted p k = acted-keeps (dropped (l .state .header)) (l .state) (l .rx) (l .store) gd (long .rx-long) (long .store-long) p (bodyOf received p) k
+    acted p k = acted-keeps (dropped (l .state .header)) (l .state) (l .rx) (l .store) gd refl (long .rx-long) (long .store-long) p (bodyOf received p) k
 
     -- ---- dispatch
 
@@ -248,7 +357,7 @@ module _ (l : Lent) (g : Whole (negotiated l) (l .state .header) (l .state .slot
         acted-stored : (p : Packet) → PacketFits (negotiated l) p (bodyOf received p) → ActedKeeps (negotiated l) (withSlot (l .state) (ch .slot) s) (length (l .rx)) (length (l .store))
             (actOn (dropped (l .state .header)) (set (l .state .slots) (ch .slot) s) (l .state .queue) (l .rx) (l .store) p (bodyOf received p))
         acted-stored p k =
-            acted-keeps (dropped (l .state .header)) (withSlot (l .state) (ch .slot) s) (l .rx) (l .store) (stored .work .facts) (long .rx-long) (long .store-long) p (bodyOf received p) k
+            acted-keeps (dropped (l .state .header)) (withSlot (l .state) (ch .slot) s) (l .rx) (l .store) (stored .work .facts) refl (long .rx-long) (long .store-long) p (bodyOf received p) k
 
         read-by : (r : Received) → ReceivedFits (negotiated l) received r → Kept l (readBy l ch room (then (begun (dropped (l .state .header)) l) [] fs) s received r)
         unfolding readBy readDirect
@@ -368,17 +477,13 @@ module _ (l : Lent) (g : Whole (negotiated l) (l .state .header) (l .state .slot
         })
         (unlessFault (a .fault) Waiting) used [] (unless-fine (a .fault) Waiting pending-fine)
 
-    module _ (ch : ChannelId) (place : ch .slot < negotiated l .config .channels) (local : ch .local .0 < 2 ^ 32) where
+    module _ (no : NoOffer (l .state .header)) (ch : ChannelId) (place : ch .slot < negotiated l .config .channels) (local : ch .local .0 < 2 ^ 32) where
       open-readied : (remote used : ℕ) (r : Readied) → ReadiedLive (negotiated l) (ch .slot) r → Kept l (openReadied l ch remote used r)
       unfolding openReadied
       open-readied remote used (Slot t) v =
           let most = g .limits .within .most-channels in
           ends-kept l _ (slot-whole l _ (dropped-whole l g) (ch .slot) t [] (omega arith) (λ e. never e) (live-whole (negotiated l) (ch .slot) t v)) (Opened ch) used [] (opened-fine ch)
       open-readied remote used (Bad f) v = ends-kept l _ (frames-whole l _ (dropped-whole l g) _) (Refused (BadCredit f)) used [] (bad-fine f)
-
-      cap-small : policyOf (negotiated l) .«rx_cap» ≤ 16777216
-      unfolding policyOf
-      cap-small = sound (negotiated l .config) (g .limits .within) .cap-small
 
       open-by : (r : Received) → ReceivedFits (negotiated l) received r → Kept l (openBy l ch received r)
       unfolding openBy
@@ -392,64 +497,11 @@ module _ (l : Lent) (g : Whole (negotiated l) (l .state .header) (l .state .slot
           (λ u. pick (Kept l) (isClose (p .command) && eqb (p .arg1) (ch .local .0))
           (λ w. ends-kept l _ (dropped-whole l g) (Refused ChannelClosed) (frameLen p) [] closed-fine)
           (λ w. open-acted (frameLen p) _
-          (acted-keeps (l .state .header) (l .state) (l .rx) (l .store) g (long .rx-long) (long .store-long) p (bodyOf received p) k))))
+          (acted-keeps (l .state .header) (l .state) (l .rx) (l .store) g no (long .rx-long) (long .store-long) p (bodyOf received p) k))))
 
     -- ---- an open begins
 
-    next-fits : (n : ℕ) → (1 ≤ nextLocal n) × (nextLocal n < 2 ^ 32)
-    unfolding nextLocal
-    next-fits n = (omega arith, omega arith)
-
-    numbered-whole : Whole (negotiated l) (numbered (l .state .header)) (l .state .slots) (l .state .queue)
-    numbered-whole =
-        let k = next-fits (l .state .header .«next_local») in
-        record {
-          limits = g .limits;
-          header =
-              record {
-                negotiated = refl;
-                next-some = k .0;
-                next-fits = k .1;
-                place-fits = g .header .place-fits;
-                local-fits = g .header .local-fits;
-                queue-fits = g .header .queue-fits;
-              };
-          slots = g .slots;
-          pending-open = g .pending-open;
-          queue = g .queue;
-        }
-
-    -- a place that was allocated is below channels and empty, and its number is of 32 bits
-    pub record Free (ch : ChannelId) : Type 0 where
-      pub place : ch .slot < negotiated l .config .channels
-      pub empty : slotIn (l .state .slots) (ch .slot) .filled ≡ false
-      pub local : ch .local .0 < 2 ^ 32
-
-    abbrev AllocatedFree : Allocated → Type 0
-    AllocatedFree (Channel ch) = Free ch
-    AllocatedFree NoFree = Unit {0}
-
-    not-filled : (s : ChannelSlot) → wantedBy Empty s ≡ true → s .filled ≡ false
-    unfolding wantedBy
-    not-filled s e = not-true (s .filled) e
-      where
-        not-true : (b : Bool) → not b ≡ true → b ≡ false
-        not-true true f = never f
-        not-true false f = refl
-
-    allocated-free : AllocatedFree (allocated (l .state .header) (l .state .slots))
-    unfolding allocated
-    allocated-free =
-        let n = negotiated l .config .channels in
-        let i = placeOf Empty n (l .state .slots) in
-        let most = g .limits .within .most-channels in
-        let full = g .slots .full in
-        pick AllocatedFree (ltb i n)
-        (λ t. let h = ltb-true i n t in
-        record { place = h; empty = not-filled _ (place-found Empty n (l .state .slots) (omega arith) h); local = g .header .next-fits })
-        (λ t. tt)
-
-    waits-whole : (ch : ChannelId) → Free ch → Whole (negotiated l) (pendingFor (numbered (l .state .header)) ch) (l .state .slots) (l .state .queue)
+    waits-whole : (ch : ChannelId) → Free ch → Whole (negotiated l) (pendingFor (numbered (dropped (l .state .header))) ch) (l .state .slots) (l .state .queue)
     unfolding slotIn
     waits-whole ch f =
         let k = next-fits (l .state .header .«next_local») in
@@ -469,11 +521,12 @@ module _ (l : Lent) (g : Whole (negotiated l) (l .state .header) (l .state .slot
           slots = g .slots;
           pending-open = λ e. record { place = p; empty = f .empty };
           queue = g .queue;
+          offer = λ e. never e;
         }
 
     open-on : (out : ℕ) (destination : List ℕ) (r : Allocated) → AllocatedFree r → Kept l (openOn l out destination r)
     unfolding openOn
-    open-on out destination NoFree k = ends-kept l _ (begun-whole l (l .state .header) g) (Refused NoFreeChannels) 0 [] free-fine
+    open-on out destination NoFree k = ends-kept l _ (dropped-whole l g) (Refused NoFreeChannels) 0 [] free-fine
     open-on out destination (Channel ch) k =
         pick (Kept l) (ltb maxPayload (length destination)) (λ t. ends-kept l _ (begun-whole l _ numbered-whole) (Refused PayloadTooLarge) 0 [] large-fine)
         (λ t. pick (Kept l) (ltb out (24 + length destination)) (λ u. untouched-kept l g OutShort out-fine)
@@ -482,7 +535,7 @@ module _ (l : Lent) (g : Whole (negotiated l) (l .state .header) (l .state .slot
     pub open-kept : (out : ℕ) (destination : List ℕ) → Bytes received → Kept l (openStep l out destination received)
     unfolding openStep
     open-kept out destination y =
-        pick (Kept l) (l .state .header .pending .on)
-        (λ t. open-by (record { slot = l .state .header .pending .slot; local = l .state .header .pending .local }) (g .pending-open t .place) (g .header .local-fits)
+        pick (Kept l) (isOurs (l .state .header .pending .what))
+        (λ t. open-by (ours-alone (l .state .header .pending .what) t) (record { slot = l .state .header .pending .slot; local = l .state .header .pending .local }) (g .pending-open t .place) (g .header .local-fits)
         (receivedOf l received) (received-fits l received y))
         (λ t. open-on out destination (allocated (l .state .header) (l .state .slots)) allocated-free)

@@ -17,7 +17,7 @@ use Rattle.slot.specs.Slot.{emptySlot}
 use Rattle.slot.proofs.Kept.{pick}
 use Rattle.state.specs.declared.Header.{Header}
 use Rattle.state.specs.Change.{slotTo, headerTo, changedAll, InPlace}
-use Rattle.state.specs.State.{Connection}
+use Rattle.state.specs.State.{Connection, isOurs}
 use Rattle.le.proofs.RowLaws.{Every, every-append, never}
 use Rattle.state.proofs.ChangeLaws.{changes-append}
 use Rattle.table.specs.declared.ChannelId.{ChannelId}
@@ -76,6 +76,7 @@ drop-whole n h c g =
       slots = g .slots;
       pending-open = λ e. never e;
       queue = g .queue;
+      offer = λ e. never e;
     }
 
 pub begun-whole : (l : Lent) (h : Header) → Whole (negotiated l) h (l .state .slots) (l .state .queue) → WorkWhole l (begun h l)
@@ -97,7 +98,7 @@ module _ (l : Lent) (w : Work) (k : WorkWhole l w) where
       }
 
   -- a slot is stored
-  pub slot-whole : (i : ℕ) (t : ChannelSlot) (fs : List Frame) → i < 64 → (w .header .pending .on ≡ true → w .header .pending .slot ≡ i → ⊥) → SlotWhole (negotiated l) i t
+  pub slot-whole : (i : ℕ) (t : ChannelSlot) (fs : List Frame) → i < 64 → (isOurs (w .header .pending .what) ≡ true → w .header .pending .slot ≡ i → ⊥) → SlotWhole (negotiated l) i t
       → WorkWhole l (then w (slotTo i t ∷ []) fs)
   slot-whole i t fs h f s =
       record {

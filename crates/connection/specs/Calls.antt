@@ -1,10 +1,10 @@
 -- The calls (docs/SCOPE.md, 5 and 6; connection.rs), each as a function of what
 -- its caller lends and hands in. Assumes nothing.
 use Prim.Native.Nat.{ℕ, _+_, _*_, min, max}
-use mathlib.Core.Bool.{Bool, true, false, cond, _&&_}
+use mathlib.Core.Bool.{Bool, cond, _&&_}
 use mathlib.Core.List.{List, [], _∷_, _++_}
 use lib.Dec.{eqb, ltb, leb}
-use lib.ListN.{length, take, set, replicate}
+use lib.ListN.{length, take, getD, set, replicate}
 use Rattle.le.specs.Le.{unsigned, put}
 use Rattle.config.specs.declared.ConnectionConfig.{ConnectionConfig}
 use Rattle.config.specs.declared.negotiated.Negotiated.{Negotiated}
@@ -13,7 +13,7 @@ use Rattle.config.specs.Config.{withinLimits, storesFit}
 use Rattle.config.specs.Negotiated.{negotiatedOf, policyOf, offeredCredit}
 use Rattle.incoming.specs.declared.Front.{Front}
 use Rattle.incoming.specs.declared.Front.the-variants.{Open as FrontOpen, Nothing as NoFront}
-use Rattle.incoming.specs.Incoming.{noneQueued, popped}
+use Rattle.incoming.specs.Incoming.{popped, returned}
 use Rattle.protocol.specs.declared.packet.Packet.{Packet}
 use Rattle.protocol.specs.declared.packet.Decoded.{Decoded}
 use Rattle.protocol.specs.declared.packet.Decoded.the-variants.{Waiting as FrameWaiting, InvalidCommand as WordInvalid, InvalidMagic as MagicInvalid, PayloadTooLarge as LengthTooLarge, InvalidChecksum as SumInvalid, Accepted}
@@ -36,12 +36,15 @@ use Rattle.slot.specs.declared.Settled.{Settled as SettledSlot}
 use Rattle.slot.specs.declared.Taken.{Taken}
 use Rattle.slot.specs.declared.Taken.the-variants.{Data, Nothing as NothingTaken, Closed as ClosedTaken}
 use Rattle.slot.specs.declared.ids.ChannelIds.{ChannelIds}
+use Rattle.slot.specs.declared.ids.RemoteId.{RemoteId}
 use Rattle.slot.specs.Ids.{closedBy}
-use Rattle.slot.specs.Slot.{emptySlot, emptiedSlot, openingSlot, isClosed, openedOf, readyOf, deliveredOf, settledOf, takenOf, budgetOf, spentOf, closedSlot}
+use Rattle.slot.specs.Slot.{emptySlot, emptiedSlot, openingSlot, acceptedSlot, isClosed, openedOf, readyOf, deliveredOf, settledOf, takenOf, budgetOf, spentOf, closedSlot}
 use Rattle.state.specs.declared.Header.{Header}
+use Rattle.state.specs.declared.Pending.the-variants.{Nothing as NothingPending, Opening as OursPending}
 use Rattle.state.specs.declared.PendingOpen.{PendingOpen}
+use Rattle.state.specs.declared.QueuedOpen.{QueuedOpen}
 use Rattle.state.specs.Change.{Change, slotTo, headerTo, changedAll}
-use Rattle.state.specs.State.{Connection, layout}
+use Rattle.state.specs.State.{Connection, isOurs, isOffer, noneQueued, layout}
 use Rattle.table.specs.declared.Allocated.{Allocated}
 use Rattle.table.specs.declared.Allocated.the-variants.{Channel, NoFree}
 use Rattle.table.specs.declared.ChannelId.{ChannelId}
@@ -134,17 +137,17 @@ checkedOut whole l out o = checked whole l (cond (ltb out 56) (untouched l OutSh
 
 -- ---- small parts
 
--- a pending open is so no more
+-- nothing is pending any more: neither an open of ours nor an offer
 abbrev pub notPending : PendingOpen → PendingOpen
-notPending w = record { on = false; slot = w .slot; local = w .local }
+notPending w = record { what = NothingPending; slot = w .slot; local = w .local }
 
--- a header with no open of ours pending
+-- a header with nothing pending
 abbrev pub dropped : Header → Header
 dropped h = record { negotiated = h .negotiated; «next_local» = h .«next_local»; pending = notPending (h .pending); queued = h .queued }
 
--- a header with a pending open
+-- a header with an open of ours pending
 abbrev pub pendingFor : Header → ChannelId → Header
-pendingFor h ch = record { negotiated = h .negotiated; «next_local» = h .«next_local»; pending = record { on = true; slot = ch .slot; local = ch .local }; queued = h .queued }
+pendingFor h ch = record { negotiated = h .negotiated; «next_local» = h .«next_local»; pending = record { what = OursPending; slot = ch .slot; local = ch .local }; queued = h .queued }
 
 -- the receive policy, the same for every channel
 abbrev pub policy : Lent → RxPolicy
@@ -214,7 +217,7 @@ frameLen p = messageSize + p .«data_length»
 unfoldable pub fresh : Negotiated → Connection
 fresh n =
     record {
-      header = record { negotiated = n; «next_local» = 1; pending = record { on = false; slot = 0; local = record { 0 = 0 } }; queued = 0 };
+      header = record { negotiated = n; «next_local» = 1; pending = record { what = NothingPending; slot = 0; local = record { 0 = 0 } }; queued = 0 };
       slots = replicate 64 emptySlot;
       queue = replicate 64 noneQueued;
     }
@@ -240,7 +243,7 @@ dispatchBy l h received (PacketIs p) =
     let a = actOn h (l .state .slots) (l .state .queue) (l .rx) (l .store) p (bodyOf received p) in
     ends (thenActed (begun h l) a) (unlessFault (a .fault) Done) (frameLen p) []
 
--- a pending open is dropped, then one packet is looked at
+-- what is pending is dropped, then one packet is looked at
 unfoldable pub dispatchStep : Lent → List ℕ → Outcome
 dispatchStep l received = dispatchBy l (dropped (l .state .header)) received (receivedOf l received)
 
@@ -407,7 +410,7 @@ takeFrontBy l h xs (FrontOpen q less) =
     ends (then (begun less l) xs []) (FrontIs (q .remote) (q .credit) (q .share * h .negotiated .config .«max_payload») (q .length)) 0 []
 takeFrontBy l h xs NoFront = ends (begun h l) Nothing 0 []
 
--- a pending open is dropped, then the first is taken off the queue
+-- what is pending is dropped, then the first is taken off the queue, and stands as an offer
 unfoldable pub takeFrontStep : Lent → Outcome
 takeFrontStep l =
     let h = dropped (l .state .header) in
@@ -427,9 +430,9 @@ numbersFor l ch = cond (isThere l ch) (numbersIn (slotFor l ch)) (Refused Channe
 
 -- the OPEN that an open call begins with: 12, then 3 with the next number moved on, then 9 with nothing changed
 unfoldable pub openOn : Lent → ℕ → List ℕ → Allocated → Outcome
-openOn l out destination NoFree = ends (begun (l .state .header) l) (Refused NoFreeChannels) 0 []
+openOn l out destination NoFree = ends (begun (dropped (l .state .header)) l) (Refused NoFreeChannels) 0 []
 openOn l out destination (Channel ch) =
-    let h = l .state .header in
+    let h = dropped (l .state .header) in
     cond (ltb maxPayload (length destination)) (ends (begun (numbered h) l) (Refused PayloadTooLarge) 0 [])
     (cond (ltb out (messageSize + length destination)) (untouched l OutShort)
     (ends (then (begun (pendingFor (numbered h) ch) l) [] (openFrame (ch .local) (offeredCredit (h .negotiated)) destination ∷ [])) Waiting 0 []))
@@ -471,12 +474,55 @@ openBy l ch received (PacketIs p) =
     (cond (isClose (p .command) && mine) (ends (begun (dropped (l .state .header)) l) (Refused ChannelClosed) (frameLen p) [])
     (openActed l (frameLen p) (actOn (l .state .header) (l .state .slots) (l .state .queue) (l .rx) (l .store) p (bodyOf received p)))))
 
--- while an open is pending, it goes on; else one begins
+-- while an open of ours is pending, it goes on; else one begins, and an offer ends
 unfoldable pub openStep : Lent → ℕ → List ℕ → List ℕ → Outcome
 openStep l out destination received =
     let h = l .state .header in
-    cond (h .pending .on) (openBy l (record { slot = h .pending .slot; local = h .pending .local }) received (receivedOf l received))
+    cond (isOurs (h .pending .what)) (openBy l (record { slot = h .pending .slot; local = h .pending .local }) received (receivedOf l received))
     (openOn l out destination (allocated h (l .state .slots)))
+
+-- ---- accept, reject, let go (accept.rs): the verdict on an open of the device's
+
+-- the open that is offered: its entry stands behind those that are queued
+abbrev pub offerIn : Lent → QueuedOpen
+offerIn l = getD (l .state .queue) (l .state .header .queued) noneQueued
+
+-- whether one is offered
+abbrev pub isOffered : Lent → Bool
+isOffered l = isOffer (l .state .header .pending .what)
+
+-- none is
+abbrev pub notOffered : Lent → Outcome
+notOffered l = ends (begun (dropped (l .state .header)) l) Nothing 0 []
+
+-- `Packet::refuse`: a CLSE that leaves our number out, and nothing else
+unfoldable pub rejectOn : Lent → Header → RemoteId → Answer → Outcome
+rejectOn l h remote answer = ends (then (begun h l) [] (closeFrame (record { local = record { 0 = 0 }; remote = remote }) ∷ [])) answer 0 []
+
+-- `accept`: the slot is filled and an OKAY is written, which carries our opening credit in delayed mode; with no slot empty the
+-- open is rejected, and 12 answered
+unfoldable pub acceptOn : Lent → Header → RemoteId → ℕ → Allocated → Outcome
+acceptOn l h remote credit NoFree = rejectOn l h remote (Refused NoFreeChannels)
+acceptOn l h remote credit (Channel ch) =
+    let ids : ChannelIds = record { local = ch .local; remote = remote } in
+    ends (then (begun (numbered h) l) (slotTo (ch .slot) (acceptedSlot ids credit (policy l)) ∷ []) (okayFrame ids (offeredCredit (h .negotiated)) ∷ [])) (Opened ch) 0 []
+
+-- the offer is taken
+unfoldable pub acceptStep : Lent → Outcome
+acceptStep l =
+    cond (isOffered l)
+    (acceptOn l (dropped (l .state .header)) (offerIn l .remote) (offerIn l .credit) (allocated (l .state .header) (l .state .slots)))
+    (notOffered l)
+
+-- it is refused
+unfoldable pub rejectStep : Lent → Outcome
+rejectStep l = cond (isOffered l) (rejectOn l (dropped (l .state .header)) (offerIn l .remote) Done) (notOffered l)
+
+-- it goes back to the head of the queue (`Drop`)
+unfoldable pub letGoStep : Lent → Outcome
+letGoStep l =
+    let back = returned (dropped (l .state .header)) (l .state .queue) (offerIn l) in
+    cond (isOffered l) (ends (then (begun (back .result) l) (back .changes) []) Done 0 []) (notOffered l)
 
 -- ---- the calls, with the refusals ahead of them
 
@@ -515,3 +561,15 @@ takeFrontOutcome whole l = checked whole l (takeFrontStep l)
 -- numbers: it is lent no outgoing buffer
 unfoldable pub numbersOutcome : Bool → Lent → ChannelId → Outcome
 numbersOutcome whole l ch = checked whole l (looked l (numbersFor l ch))
+
+-- accept
+unfoldable pub acceptOutcome : Bool → Lent → ℕ → Outcome
+acceptOutcome whole l out = checkedOut whole l out (acceptStep l)
+
+-- reject
+unfoldable pub rejectOutcome : Bool → Lent → ℕ → Outcome
+rejectOutcome whole l out = checkedOut whole l out (rejectStep l)
+
+-- let go: it is lent no outgoing buffer
+unfoldable pub letGoOutcome : Bool → Lent → Outcome
+letGoOutcome whole l = checked whole l (letGoStep l)

@@ -33,7 +33,7 @@ pub enum Answer {
     Done,
     // The frame is not all there, or one packet was handled and the call's end has not come.
     Waiting,
-    // take: nothing is buffered; take_front: none is queued.
+    // take: nothing is buffered; take_front: none is queued; accept, reject, let go: none is offered.
     Nothing,
     Opened(ChannelId),
     Settled(PendingAck),

@@ -39,7 +39,7 @@ use Rattle.state.specs.declared.Header.{Header}
 use Rattle.state.specs.Change.{changedAll, Step, Change, slotTo}
 use Rattle.incoming.specs.declared.Front.{Front}
 use Rattle.incoming.specs.declared.Front.the-variants.{Open as FrontOpen, Nothing as NoFront}
-use Rattle.incoming.specs.Incoming.{popped}
+use Rattle.incoming.specs.Incoming.{popped, returned}
 use Rattle.connection.specs.Frames.{Frame, closeFrame, writeFrame, framesBytes, Sent}
 use Rattle.table.specs.Table.{slotIn, first, wantedBy}
 use Rattle.rx_store.specs.RxStore.{shareOf, frontOf}
@@ -52,7 +52,7 @@ use Rattle.connection.specs.Act.{Acted, actOn}
 use Rattle.connection.specs.Answer.{refusalNumber, answerNumber}
 use Rattle.table.specs.declared.ChannelId.{ChannelId}
 use Rattle.table_dispatch.specs.Dispatch.{namedPlace}
-use Rattle.connection.specs.Calls.{looked, untouched, sendLen, sendSome, sendBy, sendAgain, writeReadied, writeActed, writeAct, writeBy, writeFirst, writeOn, writeStep, faultRefusal, readDirect, readActed, readSettled, reread, isDirect, readBy, readTaken, readFirst, readStep, idsIn, closeStep, takeFrontBy, takeFrontStep, errorRefusal, takenBy, takeStep, ackFrames, settledAs, settleStep, isThere, slotFor, Lent, Outcome, Work, begun, then, thenActed, ends, dropped, policy, bodyOf, frameLen, receivedOf, unlessFault, dispatchBy, dispatchStep}
+use Rattle.connection.specs.Calls.{looked, untouched, sendLen, sendSome, sendBy, sendAgain, writeReadied, writeActed, writeAct, writeBy, writeFirst, writeOn, writeStep, faultRefusal, readDirect, readActed, readSettled, reread, isDirect, readBy, readTaken, readFirst, readStep, idsIn, closeStep, takeFrontBy, takeFrontStep, errorRefusal, takenBy, takeStep, ackFrames, settledAs, settleStep, isThere, slotFor, Lent, Outcome, Work, begun, then, thenActed, ends, dropped, policy, bodyOf, frameLen, receivedOf, unlessFault, dispatchBy, dispatchStep, offerIn, isOffered, rejectOn, rejectStep, letGoStep}
 use Rattle.history.specs.Book.{writeB, isClse, namedIn, endsOther, ownEnd, acceptedB, sentB, closedB, damagedB, isWrte, payloadAt, readB, readUsedB, isRefused, handedB, isEarly, settleB, isOn, Book, ackedB, acksOf, packetB, frameB, headerAt, never}
 use Rattle.history.specs.Demand3.{runOf}
 use Rattle.history.proofs.Acts.{frame-none, at-keeps, at-stays, at-named, at-sound, at-fits, at-live, acted-length, acks-own, acks-other, acksIn, acks-append, mineOf, endsOf, acted-acks, acted-at, Tells, good-by}
@@ -61,6 +61,7 @@ use Rattle.history.proofs.Packets.{Stops, Got, stopped, packet, got, Ma
 use Rattle.connection.proofs.Slots.{slots-by, slots-append, slots-length, slotsBy, slot-set-same, slot-set-other}
 use Rattle.history.proofs.Places.{closed-run, ready-run, At, SameRun, TableOk}
 use Rattle.history.proofs.Steps.{fault-apart, unless-is, waiting-four, spent-run, late-error, late-unless, four-error, over-told, table-set, delivered-same, damaged-good, nil-of, settled-run, acted-good, saw, sawOf, stop-good, packet-good, not-four, tells-fault, Fine, ends-fine, bad-four}
+use Rattle.slot.specs.declared.ids.RemoteId.{RemoteId}
 
 module _ (l : Lent) (credit : Terms) (ok : TableOk (policy l) (l .state .header .negotiated .config .channels) (l .state .slots) (l .rx))
     (lim : Limits (policy l) credit (l .state .header .negotiated .config .«max_payload»)) (i : ℕ) (there : slotIn (l .state .slots) i .filled ≡ true)
@@ -353,6 +354,22 @@ module _ (l : Lent) (credit : Terms) (ok : TableOk (policy l) (l .state .header 
       let h = dropped (l .state .header) in
       front-by h (popped h (l .state .queue) .changes) (popped h (l .state .queue) .result)
       (pick (λ (x : Step Front). slotsBy ss (x .changes) ≡ ss) (eqb (h .queued) 0) (λ t. refl) (λ t. refl))
+
+  -- ---- reject, let go
+
+  reject-on : (remote : RemoteId) (a : Answer) → Fine p credit ss i (rejectOn l (dropped (l .state .header)) remote a) b
+  unfolding rejectOn
+  reject-on remote a = ends-fine p credit ss i (then (begun (dropped (l .state .header)) l) [] (closeFrame (record { local = record { 0 = 0 }; remote = remote }) ∷ [])) a 0 [] b g
+
+  pub reject-call : Fine p credit ss i (rejectStep l) b
+  unfolding rejectStep
+  reject-call = pick (λ (x : Outcome). Fine p credit ss i x b) (isOffered l) (λ t. reject-on (offerIn l .remote) Done) (λ t. none-fine Nothing b g)
+
+  pub let-go-call : Fine p credit ss i (letGoStep l) b
+  unfolding letGoStep returned
+  let-go-call =
+      let back = returned (dropped (l .state .header)) (l .state .queue) (offerIn l) in
+      pick (λ (x : Outcome). Fine p credit ss i x b) (isOffered l) (λ t. ends-fine p credit ss i (then (begun (back .result) l) (back .changes) []) Done 0 [] b g) (λ t. none-fine Nothing b g)
 
   -- ---- read, on this channel
 

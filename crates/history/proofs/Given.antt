@@ -17,38 +17,40 @@ use Rattle.protocol.specs.declared.command.Command.the-variants.{Open}
 use Rattle.protocol.specs.Packet.{maxPayload}
 use Rattle.protocol.specs.Command.{lettersOf, wordOf, isThe, isOpen}
 use Rattle.slot.specs.declared.ChannelSlot.{ChannelSlot}
-use Rattle.slot.specs.Slot.{emptySlot, emptiedSlot}
+use Rattle.slot.specs.Slot.{emptySlot, emptiedSlot, acceptedSlot, openingSlot}
 use Rattle.slot.proofs.Kept.{pick}
 use Rattle.slot.proofs.Laws.{cond-true, cond-false}
 use Rattle.state.specs.declared.Header.{Header}
 use Rattle.state.specs.Change.{Change, changedAll}
-use Rattle.state.specs.State.{stateLen, Connection, stateOf}
+use Rattle.state.specs.State.{isOurs, stateLen, Connection, stateOf}
 use Rattle.state_whole.specs.Whole.{isWhole}
 use Rattle.table.specs.declared.Allocated.{Allocated}
 use Rattle.table.specs.declared.Allocated.the-variants.{Channel, NoFree}
 use Rattle.table.specs.declared.ChannelId.{ChannelId}
 use Rattle.table.specs.declared.Want.the-variants.{Empty}
 use Rattle.table.specs.Table.{placeOf, nextLocal, allocated, slotIn}
-use Rattle.connection.specs.declared.Answer.the-variants.{Refused}
+use Rattle.connection.specs.declared.Answer.the-variants.{Refused, Opened}
 use Rattle.connection.specs.declared.Refusal.the-variants.{StoreShort, OutShort, PayloadTooLarge, BrokenState}
 use Rattle.connection.specs.Answer.{refusalNumber, answerNumber}
-use Rattle.connection.specs.Calls.{numbersOutcome, Lent, Outcome, ends, checked, checkedOut, untouched, bodyOf, isThere, slotFor, dispatchStep, settleStep, takeStep, readStep, writeStep, closeStep, takeFrontStep, fresh, openOutcome, dispatchOutcome, settleOutcome, takeOutcome, readOutcome, writeOutcome, closeOutcome, takeFrontOutcome}
+use Rattle.connection.specs.Calls.{numbersOutcome, Lent, Outcome, ends, checked, checkedOut, untouched, bodyOf, isThere, slotFor, dispatchStep, settleStep, takeStep, readStep, writeStep, closeStep, takeFrontStep, fresh, openOutcome, dispatchOutcome, settleOutcome, takeOutcome, readOutcome, writeOutcome, closeOutcome, takeFrontOutcome, acceptOutcome, rejectOutcome, letGoOutcome, rejectStep, letGoStep}
 use Rattle.connection.specs.Frames.{Frame, Sent}
 use Rattle.connection.proofs.Slots.{slotsBy, slots-by, slot-set-same, slot-set-other}
 use Rattle.connection.proofs.Sending.{sentOf}
-use Rattle.history.specs.Run.{lookOutcome, bytesIn, Call, openCall, dispatchCall, settleCall, takeCall, readCall, writeCall, closeCall, frontTaken, lookCall, numbersLook, World, lent, outcome, after, begins, agreedIn}
+use Rattle.history.specs.Run.{lookOutcome, bytesIn, Call, openCall, dispatchCall, settleCall, takeCall, readCall, writeCall, closeCall, frontTaken, lookCall, numbersLook, acceptCall, rejectCall, letGoCall, World, lent, outcome, after, begins, agreedIn}
 use Rattle.history.specs.Seen.{heldOf, Seen, Event, seenOf, eventsOf}
 use Rattle.history.specs.Demand3.{Distinct, Apart}
 use Rattle.history.specs.Numbers.{opensIn, givenBy, givenIn, NumbersApart, Demand3Free}
 use Rattle.history.proofs.Good.{Good, Leaves, new-good}
-use Rattle.history.proofs.Heads.{Heads, Numbers, keeps, asks, skips, moves}
-use Rattle.history.proofs.Marks.{Mark, Tame, tame-at, dispatch-tame, settle-tame, take-tame, read-tame, write-tame, front-tame}
+use Rattle.history.proofs.Heads.{Heads, Numbers, keeps, asks, skips, moves, Grants, declines as held, grants}
+use Rattle.history.proofs.Marks.{Mark, Tame, tame-at, dispatch-tame, settle-tame, take-tame, read-tame, write-tame, front-tame, reject-tame, let-go-tame}
 use Rattle.history.proofs.Never13.{Holds, state-after, holds-after, starts, always-8}
 use Rattle.history.proofs.Opens.{refused-some, Opens, fills, leaves, opens}
 use Rattle.history.proofs.Places.{TableOk}
 use Rattle.history.proofs.Theorem.{table, fits-long, fresh-start, fresh-far, no-slot, after-8, demand-3}
 use Rattle.history.proofs.Told.{or-true}
 use Rattle.history.proofs.Written.{seen-is}
+use Rattle.history.proofs.Accepts.{Accepts, takes, declines, allocated-below, allocated-local, accepts, accepts-out}
+use Rattle.connection.specs.declared.Answer.{Answer}
 
 open-told : isOpen Open ≡ true
 unfolding isOpen isThe wordOf lettersOf numOf
@@ -60,9 +62,9 @@ record Given (g : ℕ) (c : Connection) : Type 0 where
   k : ℕ
   le : k ≤ g
   below : (i : ℕ) → slotIn (c .slots) i .filled ≡ true → slotIn (c .slots) i .local .0 ≤ k
-  pending-open : c .header .pending .on ≡ true → c .header .pending .local .0 ≤ k
+  pending-open : isOurs (c .header .pending .what) ≡ true → c .header .pending .local .0 ≤ k
   -- the number of the pending open is no channel's
-  away : c .header .pending .on ≡ true → (i : ℕ) → slotIn (c .slots) i .filled ≡ true → slotIn (c .slots) i .local .0 ≡ c .header .pending .local .0 → ⊥
+  away : isOurs (c .header .pending .what) ≡ true → (i : ℕ) → slotIn (c .slots) i .filled ≡ true → slotIn (c .slots) i .local .0 ≡ c .header .pending .local .0 → ⊥
   apart : (i j : ℕ) → slotIn (c .slots) i .filled ≡ true → slotIn (c .slots) j .filled ≡ true → slotIn (c .slots) i .local .0 ≡ slotIn (c .slots) j .local .0 → i ≡ j
   next : k < 2 ^ 32 - 1 → c .header .«next_local» ≡ suc k
 
@@ -71,12 +73,12 @@ unfoldable Shrinks : List ChannelSlot → List ChannelSlot → Type 0
 Shrinks ss ts = (i : ℕ) → slotIn ts i .filled ≡ true → (slotIn ss i .filled ≡ true) × (slotIn ts i .local .0 ≡ slotIn ss i .local .0)
 
 -- no number is given out
-given-keeps : (g g' : ℕ) (c d : Connection) → g ≤ g' → Shrinks (c .slots) (d .slots) → d .header .«next_local» ≡ c .header .«next_local» → (d .header .pending .on ≡ true → d .header .pending ≡ c .header .pending)
+given-keeps : (g g' : ℕ) (c d : Connection) → g ≤ g' → Shrinks (c .slots) (d .slots) → d .header .«next_local» ≡ c .header .«next_local» → (isOurs (d .header .pending .what) ≡ true → d .header .pending ≡ c .header .pending)
     → Given g c → Given g' d
 unfolding Shrinks
 given-keeps g g' c d h sh en ew v =
-    let on : d .header .pending .on ≡ true → c .header .pending .on ≡ true = λ t. sym (ap (λ x. x .on) (ew t)) ∙ t in
-    let wl : d .header .pending .on ≡ true → d .header .pending .local .0 ≡ c .header .pending .local .0 = λ t. ap (λ x. x .local .0) (ew t) in
+    let on : isOurs (d .header .pending .what) ≡ true → isOurs (c .header .pending .what) ≡ true = λ t. sym (ap (λ x. isOurs (x .what)) (ew t)) ∙ t in
+    let wl : isOurs (d .header .pending .what) ≡ true → d .header .pending .local .0 ≡ c .header .pending .local .0 = λ t. ap (λ x. x .local .0) (ew t) in
     record {
       k = v .k;
       le = let a = v .le in omega arith;
@@ -89,12 +91,12 @@ given-keeps g g' c d h sh en ew v =
 
 -- the next number is given out, to the pending open or to none
 given-next : (g : ℕ) (c d : Connection) → suc g < 2 ^ 32 → Shrinks (c .slots) (d .slots) → d .header .«next_local» ≡ nextLocal (c .header .«next_local»)
-    → (d .header .pending .on ≡ true → d .header .pending .local .0 ≡ c .header .«next_local») → Given g c → Given (suc g) d
+    → (isOurs (d .header .pending .what) ≡ true → d .header .pending .local .0 ≡ c .header .«next_local») → Given g c → Given (suc g) d
 unfolding Shrinks nextLocal
 given-next g c d small sh en ew v =
     let a = v .le in
     let e : c .header .«next_local» ≡ suc (v .k) = v .next (omega arith) in
-    let w : d .header .pending .on ≡ true → d .header .pending .local .0 ≡ suc (v .k) = λ t. ew t ∙ e in
+    let w : isOurs (d .header .pending .what) ≡ true → d .header .pending .local .0 ≡ suc (v .k) = λ t. ew t ∙ e in
     record {
       k = suc (v .k);
       le = omega arith;
@@ -105,9 +107,38 @@ given-next g c d small sh en ew v =
       next = λ lt. en ∙ ap (λ (x : ℕ). max ((x + 1) % 0x1_0000_0000) 1) e ∙ (let q : max ((suc (v .k) + 1) % 0x1_0000_0000) 1 ≡ suc (suc (v .k)) = omega arith in q);
     }
 
+-- the next number is given out to a slot that is filled with it, and nothing is pending
+given-takes : (g : ℕ) (c d : Connection) (j : ℕ) (t : ChannelSlot) → suc g < 2 ^ 32 → j < length (c .slots) → d .slots ≡ set (c .slots) j t → t .local .0 ≡ c .header .«next_local»
+    → d .header .«next_local» ≡ nextLocal (c .header .«next_local») → isOurs (d .header .pending .what) ≡ false → Given g c → Given (suc g) d
+unfolding nextLocal
+given-takes g c d j t small inside es el en off v =
+    let a = v .le in
+    let e : c .header .«next_local» ≡ suc (v .k) = v .next (omega arith) in
+    let own : (i : ℕ) → i ≡ j → slotIn (d .slots) i .local .0 ≡ suc (v .k) =
+    λ i q. ap (λ (x : List ChannelSlot). slotIn x i .local .0) es ∙ ap (λ (x : ℕ). slotIn (set (c .slots) j t) x .local .0) q ∙ ap (λ (x : ChannelSlot). x .local .0) (slot-set-same (c .slots) j t inside) ∙ el ∙ e in
+    let far : (i : ℕ) → (i ≡ j → ⊥) → slotIn (d .slots) i ≡ slotIn (c .slots) i = λ i q. ap (λ (x : List ChannelSlot). slotIn x i) es ∙ slot-set-other (c .slots) j i t q in
+    let was : (i : ℕ) → (i ≡ j → ⊥) → slotIn (d .slots) i .filled ≡ true → slotIn (c .slots) i .filled ≡ true = λ i q f. sym (ap (λ (x : ChannelSlot). x .filled) (far i q)) ∙ f in
+    let same : (i : ℕ) → (i ≡ j → ⊥) → slotIn (d .slots) i .local .0 ≡ slotIn (c .slots) i .local .0 = λ i q. ap (λ (x : ChannelSlot). x .local .0) (far i q) in
+    let low : (i : ℕ) → (i ≡ j → ⊥) → slotIn (d .slots) i .filled ≡ true → slotIn (d .slots) i .local .0 ≤ v .k = λ i q f. subst (λ (x : ℕ). x ≤ v .k) (sym (same i q)) (v .below i (was i q f)) in
+    record {
+      k = suc (v .k);
+      le = omega arith;
+      below = λ i f. by-test (eqb i j) (λ u. let q = own i (eqb-true i j u) in omega arith) (λ u. let q = low i (eqb-false i j u) f in omega arith);
+      pending-open = λ w. absurd (true≢false (sym w ∙ off));
+      away = λ w. absurd (true≢false (sym w ∙ off));
+      apart = λ x y f q z.
+          by-test (eqb x j)
+          (λ u. let ex = eqb-true x j u in
+          by-test (eqb y j) (λ r. ex ∙ sym (eqb-true y j r)) (λ r. let b = low y (eqb-false y j r) q in let o = own x ex in absurd (omega arith)))
+          (λ u. let nx = eqb-false x j u in
+          by-test (eqb y j) (λ r. let b = low x nx f in let o = own y (eqb-true y j r) in absurd (omega arith))
+          (λ r. let ny = eqb-false y j r in v .apart x y (was x nx f) (was y ny q) (sym (same x nx) ∙ z ∙ same y ny)));
+      next = λ lt. en ∙ ap (λ (x : ℕ). max ((x + 1) % 0x1_0000_0000) 1) e ∙ (let q : max ((suc (v .k) + 1) % 0x1_0000_0000) 1 ≡ suc (suc (v .k)) = omega arith in q);
+    }
+
 -- the pending open fills its slot, and is pending no more
 given-fills : (g g' : ℕ) (c d : Connection) (j : ℕ) (t : ChannelSlot) → g ≤ g' → j < length (c .slots) → d .slots ≡ set (c .slots) j t → t .local .0 ≡ c .header .pending .local .0
-    → d .header .«next_local» ≡ c .header .«next_local» → c .header .pending .on ≡ true → d .header .pending .on ≡ false → Given g c → Given g' d
+    → d .header .«next_local» ≡ c .header .«next_local» → isOurs (c .header .pending .what) ≡ true → isOurs (d .header .pending .what) ≡ false → Given g c → Given g' d
 given-fills g g' c d j t h inside es el en on off v =
     let at : (i : ℕ) → i ≡ j → slotIn (d .slots) i ≡ t = λ i e. ap (λ (x : List ChannelSlot). slotIn x i) es ∙ ap (slotIn (set (c .slots) j t)) e ∙ slot-set-same (c .slots) j t inside in
     let far : (i : ℕ) → (i ≡ j → ⊥) → slotIn (d .slots) i ≡ slotIn (c .slots) i = λ i e. ap (λ (x : List ChannelSlot). slotIn x i) es ∙ slot-set-other (c .slots) j i t e in
@@ -249,7 +280,7 @@ module _ (w : World) (r : List ℕ) (rx store : ℕ) where
         (λ t. absurd (true≢false (ap isSome (sym e ∙ cond-false (ltb (placeOf Empty (m .config .channels) (c .slots)) (m .config .channels)) _ NoFree t))))
 
     next-given : (x : Outcome) (d : ℕ) → d ≡ 1 → g + d < 2 ^ 32 → S x → to x .header .«next_local» ≡ nextLocal (c .header .«next_local»)
-        → (to x .header .pending .on ≡ true → to x .header .pending .local .0 ≡ c .header .«next_local») → Given (g + d) (to x)
+        → (isOurs (to x .header .pending .what) ≡ true → to x .header .pending .local .0 ≡ c .header .«next_local») → Given (g + d) (to x)
     next-given x d e small s en ew =
         let q : suc g ≡ g + d = omega arith in
         subst (λ (k : ℕ). Given k (to x)) q (given-next g c (to x) (omega arith) (after-slots x s) en ew v)
@@ -257,43 +288,68 @@ module _ (w : World) (r : List ℕ) (rx store : ℕ) where
     open-given : (out destination received : List ℕ) → let x = openCall out destination received in g + givenBy x (seenOf (event x)) < 2 ^ 32
         → (o : Outcome) → o ≡ outcome w x → Numbers l (bytesIn destination) o → Opens l (bytesIn received) o → Given (g + givenBy x (seenOf (event x))) (to o)
     unfolding answerNumber
-    open-given out destination received small o z (keeps a) (leaves o1 e t) = heads-given o _ a (tame-shrinks (c .slots) (o .changes) t)
+    open-given out destination received small o z (keeps a) (leaves o1 e t) = heads-given o _ (a .heads) (tame-shrinks (c .slots) (o .changes) t)
     open-given out destination received small o z (keeps a) (fills o1 t k sy e1 e2 e3 e5 on off e4) =
         let ng = subst (Leaves (λ (u : ChannelSlot). Good (policyOf m) (record { credit = 0; reads = false }) u [] _)) e4
         (new-good (policyOf m) (record { credit = 0; reads = false }) 0 (c .header .pending .local) (record { 0 = k .arg0 }) (λ d. refl) (bodyOf (bytesIn received) k)) in
         let p = h .facts .pending-open on .place in
         let q = h .facts .limits .within .most-channels in
         let y = ok .size in
-        given-fills g _ c (to o) (c .header .pending .slot) t (omega arith) (omega arith) (slots-by c (o .changes) ∙ e2) (sym (ng .loc)) (a .next) on off v
+        given-fills g _ c (to o) (c .header .pending .slot) t (omega arith) (omega arith) (slots-by c (o .changes) ∙ e2) (sym (ng .loc)) (a .heads .next) on off v
     open-given out destination received small o z (asks ch q e f fr) (leaves o1 e1 t) =
         next-given o _ (open-one out destination received _ (ap (λ (x : Outcome). x .frames) (sym z) ∙ fr) open-told) small (tame-shrinks (c .slots) (o .changes) t)
         (ap (λ (x : Header). x .«next_local») f) (λ u. ap (λ (x : Header). x .pending .local .0) f ∙ begun-local ch e)
     open-given out destination received small o z (asks ch q e f fr) (fills o1 t k sy e1 e2 e3 e5 on off e4) = absurd (true≢false (sym on ∙ q))
     open-given out destination received small o z (skips q f a lt) (leaves o1 e1 t) =
         next-given o _ (skip-one out destination received (ap (λ (x : Outcome). x .answer) (sym z) ∙ a) lt) small (tame-shrinks (c .slots) (o .changes) t)
-        (ap (λ (x : Header). x .«next_local») f) (λ u. absurd (true≢false (sym u ∙ ap (λ (x : Header). x .pending .on) f ∙ q)))
+        (ap (λ (x : Header). x .«next_local») f) (λ u. absurd (true≢false (sym u ∙ ap (λ (x : Header). isOurs (x .pending .what)) f)))
     open-given out destination received small o z (skips q f a lt) (fills o1 t k sy e1 e2 e3 e5 on off e4) = absurd (true≢false (sym on ∙ q))
+
+    -- an accept that is done
+    accept-one : (out : List ℕ) (ch : ChannelId) → outcome w (acceptCall out) .answer ≡ Opened ch → givenBy (acceptCall out) (seenOf (event (acceptCall out))) ≡ 1
+    unfolding givenBy answerNumber
+    accept-one out ch e = ap (λ (k : ℕ). cond (eqb k 0) 1 0) (number-seen (acceptCall out) ∙ ap answerNumber e)
+
+    accept-given : (out : List ℕ) → let x = acceptCall out in g + givenBy x (seenOf (event x)) < 2 ^ 32
+        → (o : Outcome) → o ≡ outcome w x → Grants l o → Accepts l o → Given (g + givenBy x (seenOf (event x))) (to o)
+    unfolding answerNumber acceptedSlot openingSlot
+    accept-given out small o z (held a) (declines o1 e t es er) = heads-given o _ (a .heads) (tame-shrinks (c .slots) (o .changes) t)
+    accept-given out small o z (grants ch0 e f a) (declines o1 e1 t es er) = absurd (true≢false (sym (ap (λ (x : Answer). eqb (answerNumber x) 0) a) ∙ e1))
+    accept-given out small o z m (takes o1 ch remote cr e0 e1 e2 er e5 eh) =
+        let p = allocated-below (c .header) (c .slots) ch e0 in
+        let q = h .facts .limits .within .most-channels in
+        let y = ok .size in
+        let d = accept-one out ch (ap (λ (x : Outcome). x .answer) (sym z) ∙ e1) in
+        let k : suc g ≡ g + givenBy (acceptCall out) (seenOf (event (acceptCall out))) = omega arith in
+        subst (λ (x : ℕ). Given x (to o)) k
+        (given-takes g c (to o) (ch .slot) _ (omega arith) (omega arith) (slots-by c (o .changes) ∙ e2) (allocated-local (c .header) (c .slots) ch e0)
+        (ap (λ (x : Header). x .«next_local») eh) (ap (λ (x : Header). isOurs (x .pending .what)) eh) v)
 
     -- each call
     call-given : (x : Call) → g + givenBy x (seenOf (event x)) < 2 ^ 32 → Given (g + givenBy x (seenOf (event x))) (to (outcome w x))
-    unfolding outcome openOutcome dispatchOutcome settleOutcome takeOutcome readOutcome writeOutcome closeOutcome takeFrontOutcome lookOutcome numbersOutcome
+    unfolding outcome openOutcome dispatchOutcome settleOutcome takeOutcome readOutcome writeOutcome closeOutcome takeFrontOutcome lookOutcome numbersOutcome acceptOutcome rejectOutcome letGoOutcome
     call-given (openCall out destination received) small =
         open-given out destination received small _ refl (moves w (openCall out destination received)) (opens-out (bytesIn received) (isWhole (w .state)) (length out) _ (opens l ok (bytesIn received) (length out) (bytesIn destination)))
     call-given (dispatchCall out received) small =
-        heads-given _ _ (moves w (dispatchCall out received)) (shrinks-out (isWhole (w .state)) (length out) _ (tame-shrinks (c .slots) (dispatchStep l (bytesIn received) .changes) (dispatch-tame l ok (bytesIn received))))
+        heads-given _ _ (moves w (dispatchCall out received) .heads) (shrinks-out (isWhole (w .state)) (length out) _ (tame-shrinks (c .slots) (dispatchStep l (bytesIn received) .changes) (dispatch-tame l ok (bytesIn received))))
     call-given (settleCall out ch want) small =
-        heads-given _ _ (moves w (settleCall out ch want)) (shrinks-out (isWhole (w .state)) (length out) _ (tame-shrinks (c .slots) (settleStep l ch want .changes) (settle-tame l ok ch want)))
+        heads-given _ _ (moves w (settleCall out ch want) .heads) (shrinks-out (isWhole (w .state)) (length out) _ (tame-shrinks (c .slots) (settleStep l ch want .changes) (settle-tame l ok ch want)))
     call-given (takeCall ch buf) small =
-        heads-given _ _ (moves w (takeCall ch buf)) (shrinks-checked (isWhole (w .state)) _ (tame-shrinks (c .slots) (takeStep l ch (length buf) .changes) (take-tame l ok ch (length buf))))
+        heads-given _ _ (moves w (takeCall ch buf) .heads) (shrinks-checked (isWhole (w .state)) _ (tame-shrinks (c .slots) (takeStep l ch (length buf) .changes) (take-tame l ok ch (length buf))))
     call-given (readCall out ch buf received) small =
-        heads-given _ _ (moves w (readCall out ch buf received)) (shrinks-out (isWhole (w .state)) (length out) _ (tame-shrinks (c .slots) (readStep l ch (length buf) (bytesIn received) .changes) (read-tame l ok ch (length buf) (bytesIn received))))
+        heads-given _ _ (moves w (readCall out ch buf received) .heads) (shrinks-out (isWhole (w .state)) (length out) _ (tame-shrinks (c .slots) (readStep l ch (length buf) (bytesIn received) .changes) (read-tame l ok ch (length buf) (bytesIn received))))
     call-given (writeCall out ch bytes received) small =
-        heads-given _ _ (moves w (writeCall out ch bytes received)) (shrinks-out (isWhole (w .state)) (length out) _ (tame-shrinks (c .slots) (writeStep l ch (length out) (bytesIn bytes) (bytesIn received) .changes) (write-tame l ok ch (length out) (bytesIn bytes) (bytesIn received))))
+        heads-given _ _ (moves w (writeCall out ch bytes received) .heads) (shrinks-out (isWhole (w .state)) (length out) _ (tame-shrinks (c .slots) (writeStep l ch (length out) (bytesIn bytes) (bytesIn received) .changes) (write-tame l ok ch (length out) (bytesIn bytes) (bytesIn received))))
     call-given (closeCall out ch) small =
-        heads-given _ _ (moves w (closeCall out ch)) (shrinks-out (isWhole (w .state)) (length out) _ (close-shrinks ch))
+        heads-given _ _ (moves w (closeCall out ch) .heads) (shrinks-out (isWhole (w .state)) (length out) _ (close-shrinks ch))
     call-given frontTaken small =
         heads-given _ _ (moves w frontTaken) (shrinks-checked (isWhole (w .state)) _ (tame-shrinks (c .slots) (takeFrontStep l .changes) (front-tame l ok)))
-    call-given (lookCall (numbersLook ch)) small = heads-given _ _ (moves w (lookCall (numbersLook ch))) (shrinks-checked (isWhole (w .state)) _ none-shrinks)
+    call-given (lookCall (numbersLook ch)) small = heads-given _ _ (moves w (lookCall (numbersLook ch)) .heads) (shrinks-checked (isWhole (w .state)) _ none-shrinks)
+    call-given (acceptCall out) small = accept-given out small _ refl (moves w (acceptCall out)) (accepts-out l ok (isWhole (w .state)) (length out) _ (accepts l ok))
+    call-given (rejectCall out) small =
+        heads-given _ _ (moves w (rejectCall out) .heads) (shrinks-out (isWhole (w .state)) (length out) _ (tame-shrinks (c .slots) (rejectStep l .changes) (reject-tame l ok)))
+    call-given letGoCall small =
+        heads-given _ _ (moves w letGoCall .heads) (shrinks-checked (isWhole (w .state)) _ (tame-shrinks (c .slots) (letGoStep l .changes) (let-go-tame l ok)))
 
     after-given : (x : Call) → g + givenBy x (seenOf (event x)) < 2 ^ 32 → Given (g + givenBy x (seenOf (event x))) (stateOf (after w x .state))
     after-given x small = subst (Given (g + givenBy x (seenOf (event x)))) (sym (state-after m r rx store w h x)) (call-given x small)
@@ -318,7 +374,7 @@ fresh-given : (n : Negotiated) (w : World) → stateOf (w .state) ≡ fresh n �
 unfolding fresh
 fresh-given n w e =
     let f = no-slot n w e in
-    let off : stateOf (w .state) .header .pending .on ≡ false = ap (λ (d : Connection). d .header .pending .on) e in
+    let off : isOurs (stateOf (w .state) .header .pending .what) ≡ false = ap (λ (d : Connection). isOurs (d .header .pending .what)) e in
     record {
       k = 0;
       le = omega arith;

@@ -584,7 +584,7 @@ module _ (p : RxPolicy) (credit : Terms) (s : ChannelSlot) (q : List ℕ) (b : B
 
 -- ---- a new channel
 
-new-numbers : (p : RxPolicy) (credit : Terms) (asked : ℕ) (s : ChannelSlot) (l r : ℕ) → (p .delayed ≡ true → asked ≡ credit .credit) → s .filled ≡ true → s .«has_remote» ≡ true
+pub new-numbers : (p : RxPolicy) (credit : Terms) (asked : ℕ) (s : ChannelSlot) (l r : ℕ) → (p .delayed ≡ true → asked ≡ credit .credit) → s .filled ≡ true → s .«has_remote» ≡ true
     → l ≡ s .local .0 → r ≡ s .remote .0 → 0 ≡ s .buffered → 0 ≡ s .settled → 0 ≡ s .unacked → false ≡ isClosed (s .state) → 0 ≡ s .«acked_total» → Good p credit s [] (newBook l r asked)
 new-numbers p credit asked s l r h f k e1 e2 e3 e4 e5 e6 e7 =
     record {

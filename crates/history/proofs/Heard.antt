@@ -33,7 +33,7 @@ use Rattle.connection.specs.Calls.{Lent, Outcome, writtenBy, untouched}
 use Rattle.connection.specs.Frames.{Frame, okayFrame, closeFrame, openFrame, writeFrame, frameBytes, framesBytes, Sent}
 use Rattle.connection.proofs.Sending.{sentOf, SentFits, FrameFits}
 use Rattle.history.specs.Book.{creditIn, acksOf, lastOpen}
-use Rattle.history.specs.Run.{Call, openCall, dispatchCall, settleCall, takeCall, readCall, writeCall, closeCall, frontTaken, lookCall, outOf, bufOf}
+use Rattle.history.specs.Run.{Call, openCall, dispatchCall, settleCall, takeCall, readCall, writeCall, closeCall, frontTaken, lookCall, acceptCall, rejectCall, letGoCall, outOf, bufOf}
 use Rattle.history.specs.Seen.{heldBy, saidBy, countOf, Seen, Event, seenOf, sentBy, sentIn, seenIn}
 use Rattle.history.proofs.Acts.{acksIn}
 use Rattle.history.proofs.Steps.{sawOf}
@@ -95,7 +95,7 @@ taken-back buf h e = part-put-same buf 0 h (omega arith)
 -- ---- the credit that is read
 
 -- an OKAY's payload as credit
-credit-back : (delayed : Bool) (len : ℕ) → (delayed ≡ true → len < 2 ^ 31) → creditIn (creditBytes delayed len) ≡ cond delayed len 0
+pub credit-back : (delayed : Bool) (len : ℕ) → (delayed ≡ true → len < 2 ^ 31) → creditIn (creditBytes delayed len) ≡ cond delayed len 0
 unfolding creditIn creditBytes bytesOf part
 credit-back true len h = let k = h refl in write-read 4 len (omega arith)
 credit-back false len h = refl
@@ -172,6 +172,9 @@ count-eight (writeCall out ch bytes received) = refl
 count-eight (closeCall out ch) = refl
 count-eight frontTaken = refl
 count-eight (lookCall x) = refl
+count-eight (acceptCall out) = refl
+count-eight (rejectCall out) = refl
+count-eight letGoCall = refl
 
 -- what is seen of one: nothing
 abbrev pub nothing8 : Seen

@@ -1,3 +1,4 @@
+pub mod Accepts
 pub mod Acts
 pub mod Bytes
 pub mod Entries

@@ -15,7 +15,7 @@ use Rattle.incoming.specs.declared.Front.{Front}
 use Rattle.incoming.specs.declared.Front.the-variants.{Open as FrontOpen, Nothing as NoFront}
 use Rattle.incoming.specs.declared.Pushed.{Pushed}
 use Rattle.incoming.specs.declared.Pushed.the-variants.{Queued, Full}
-use Rattle.incoming.specs.Incoming.{PushOutcome, pushed, withdrawal, popped}
+use Rattle.incoming.specs.Incoming.{PushOutcome, pushed, withdrawal, popped, returned}
 use Rattle.protocol.specs.declared.command.Command.{Command}
 use Rattle.protocol.specs.declared.packet.Packet.{Packet}
 use Rattle.protocol.specs.Command.{isReady}
@@ -49,12 +49,12 @@ use Rattle.table.specs.Table.{wantedBy, placeOf, slotIn}
 use Rattle.table_dispatch.specs.Dispatch.{remotePlace, closedAt, closeOf, readiedOf, granted, readyAt, grantOf, Dispatched, wroteBy, wroteAt, writeOf, routeOf, dispatchOf}
 use Rattle.table_dispatch.proofs.RouteLaws.{by-route}
 use Rattle.connection.specs.declared.Answer.{Answer}
-use Rattle.connection.specs.declared.Answer.the-variants.{Written}
+use Rattle.connection.specs.declared.Answer.the-variants.{Written, Done}
 use Rattle.connection.specs.declared.Received.{Received}
 use Rattle.connection.specs.declared.Received.the-variants.{Packet as PacketIs, Stop}
 use Rattle.connection.specs.Act.{Acted, pushedBy, actedBy, tableOf, actOn}
-use Rattle.connection.specs.Calls.{Lent, Outcome, Work, begun, then, thenActed, ends, dropped, policy, bodyOf, frameLen, isThere, slotFor, ackFrames, receivedOf, dispatchBy, dispatchStep, settledAs, settleStep, takenBy, takeStep, reread, readSettled, readActed, isDirect, readDirect, readBy, readTaken, readFirst, readStep, sendSome, sendBy, sendAgain, writeReadied, writeActed, writeAct, writeBy, writeFirst, writeOn, writeStep, takeFrontBy, takeFrontStep, idsIn}
-use Rattle.connection.specs.Frames.{Frame, writeFrame, framesBytes}
+use Rattle.connection.specs.Calls.{Lent, Outcome, Work, begun, then, thenActed, ends, dropped, policy, bodyOf, frameLen, isThere, slotFor, ackFrames, receivedOf, dispatchBy, dispatchStep, settledAs, settleStep, takenBy, takeStep, reread, readSettled, readActed, isDirect, readDirect, readBy, readTaken, readFirst, readStep, sendSome, sendBy, sendAgain, writeReadied, writeActed, writeAct, writeBy, writeFirst, writeOn, writeStep, takeFrontBy, takeFrontStep, idsIn, offerIn, isOffered, rejectOn, rejectStep, letGoStep}
+use Rattle.connection.specs.Frames.{Frame, writeFrame, framesBytes, closeFrame}
 use Rattle.history.proofs.Acts.{NoSlot, pushed-slots, withdrawn-slots}
 use Rattle.connection.proofs.Slots.{slotsBy, slots-by}
 use Rattle.history.proofs.Places.{TableOk, found-filled}
@@ -273,6 +273,22 @@ module _ (l : Lent) (ok : TableOk (policy l) (l .state .header .negotiated .conf
   front-tame =
       front-tame-by h0 (popped h0 (l .state .queue) .changes) (popped h0 (l .state .queue) .result)
       (pick (λ (x : Step Front). Tame ss (x .changes)) (eqb (h0 .queued) 0) (λ t. tt) (λ t. tt))
+
+  -- ---- reject, let go
+
+  pub reject-tame-on : (h : Header) (remote : RemoteId) (a : Answer) → tame (rejectOn l h remote a)
+  unfolding rejectOn
+  reject-tame-on h remote a = tame-ends ss (then (begun h l) [] (closeFrame (record { local = record { 0 = 0 }; remote = remote }) ∷ [])) a 0 [] tt
+
+  pub reject-tame : tame (rejectStep l)
+  unfolding rejectStep
+  reject-tame = pick tame (isOffered l) (λ t. reject-tame-on h0 (offerIn l .remote) Done) (λ t. tame-plain h0 _ 0 [])
+
+  pub let-go-tame : tame (letGoStep l)
+  unfolding letGoStep returned
+  let-go-tame =
+      let back = returned h0 (l .state .queue) (offerIn l) in
+      pick tame (isOffered l) (λ t. tame-ends ss (then (begun (back .result) l) (back .changes) []) Done 0 [] tt) (λ t. tame-plain h0 _ 0 [])
 
   -- ---- read
 

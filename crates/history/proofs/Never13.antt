@@ -11,7 +11,7 @@ use Rattle.config.specs.declared.negotiated.Negotiated.{Negotiated}
 use Rattle.config.specs.Config.{withinLimits, storesFit}
 use Rattle.config.specs.Negotiated.{negotiatedOf}
 use Rattle.config.proofs.Laws.{and-true, within}
-use Rattle.incoming.specs.Incoming.{noneQueued}
+use Rattle.state.specs.State.{noneQueued}
 use Rattle.slot.specs.Slot.{emptySlot}
 use Rattle.slot.proofs.Laws.{cond-true, cond-false}
 use Rattle.state.specs.Change.{changedAll, putAll}
@@ -22,20 +22,20 @@ use Rattle.state.proofs.StateLaws.{OpenFits, state-split, state-forth, state-fi
 use Rattle.state.proofs.ChangeLaws.{changes-layout}
 use Rattle.connection.specs.declared.Refusal.the-variants.{StoreShort}
 use Rattle.connection.specs.Answer.{refusalNumber, answerNumber}
-use Rattle.connection.specs.Calls.{looked, numbersFor, numbersOutcome, Outcome, untouched, checked, checkedOut, openOutcome, dispatchOutcome, settleOutcome, takeOutcome, readOutcome, writeOutcome, closeOutcome, takeFrontOutcome, openStep, dispatchStep, settleStep, takeStep, readStep, writeStep, closeStep, takeFrontStep, fresh, Made, makeOf}
-use Rattle.history.specs.Run.{lookOutcome, bytesIn, Call, openCall, dispatchCall, settleCall, takeCall, readCall, writeCall, closeCall, frontTaken, lookCall, numbersLook, World, lent, outcome, after, afterAll, made, Start, begins, agreedIn}
+use Rattle.connection.specs.Calls.{looked, numbersFor, numbersOutcome, Outcome, untouched, checked, checkedOut, openOutcome, dispatchOutcome, settleOutcome, takeOutcome, readOutcome, writeOutcome, closeOutcome, takeFrontOutcome, acceptOutcome, rejectOutcome, letGoOutcome, openStep, dispatchStep, settleStep, takeStep, readStep, writeStep, closeStep, takeFrontStep, acceptStep, rejectStep, letGoStep, fresh, Made, makeOf}
+use Rattle.history.specs.Run.{lookOutcome, bytesIn, Call, openCall, dispatchCall, settleCall, takeCall, readCall, writeCall, closeCall, frontTaken, lookCall, numbersLook, acceptCall, rejectCall, letGoCall, World, lent, outcome, after, afterAll, made, Start, begins, agreedIn}
 use Rattle.history.specs.Never13.{Unbroken, Never13, StaysWhole, Always8}
 use Rattle.state_whole.proofs.WholeLaws.{length-layout, Bounds, SlotWhole, Whole, whole-own, whole-true, whole-full, whole-fits, empty-whole, whole-facts}
 use Rattle.history.proofs.Bytes.{bytes-in}
 use Rattle.connection.proofs.WholeWork.{negotiated, Kept, checked-kept, checked-out-kept, long}
-use Rattle.connection.proofs.WholeCalls.{settle-kept, take-kept, close-kept, front-kept, numbers-kept, dispatch-kept, read-kept, write-kept, open-kept}
+use Rattle.connection.proofs.WholeCalls.{settle-kept, take-kept, close-kept, front-kept, numbers-kept, accept-kept, reject-kept, let-go-kept, dispatch-kept, read-kept, write-kept, open-kept}
 
 -- ---- one call
 
 module _ (w : World) (is : isWhole (w .state) ≡ true)
     (g : Whole (negotiated (lent w)) (lent w .state .header) (lent w .state .slots) (lent w .state .queue)) where
   pub call-kept : (x : Call) → Kept (lent w) (outcome w x)
-  unfolding outcome openOutcome dispatchOutcome settleOutcome takeOutcome readOutcome writeOutcome closeOutcome takeFrontOutcome lookOutcome numbersOutcome
+  unfolding outcome openOutcome dispatchOutcome settleOutcome takeOutcome readOutcome writeOutcome closeOutcome takeFrontOutcome lookOutcome numbersOutcome acceptOutcome rejectOutcome letGoOutcome
   call-kept (openCall out destination received) =
       subst (λ (t : Bool). Kept (lent w) (checkedOut t (lent w) (length out) (openStep (lent w) (length out) (bytesIn destination) (bytesIn received)))) (sym is)
       (checked-out-kept (lent w) g (length out) _
@@ -63,6 +63,12 @@ module _ (w : World) (is : isWhole (w .state) ≡ true)
       subst (λ (t : Bool). Kept (lent w) (checked t (lent w) (takeFrontStep (lent w)))) (sym is) (checked-kept (lent w) g _ (λ t. front-kept (lent w) g))
   call-kept (lookCall (numbersLook ch)) =
       subst (λ (t : Bool). Kept (lent w) (checked t (lent w) (looked (lent w) (numbersFor (lent w) ch)))) (sym is) (checked-kept (lent w) g _ (λ t. numbers-kept (lent w) g ch))
+  call-kept (acceptCall out) =
+      subst (λ (t : Bool). Kept (lent w) (checkedOut t (lent w) (length out) (acceptStep (lent w)))) (sym is) (checked-out-kept (lent w) g (length out) _ (λ t. accept-kept (lent w) g))
+  call-kept (rejectCall out) =
+      subst (λ (t : Bool). Kept (lent w) (checkedOut t (lent w) (length out) (rejectStep (lent w)))) (sym is) (checked-out-kept (lent w) g (length out) _ (λ t. reject-kept (lent w) g))
+  call-kept letGoCall =
+      subst (λ (t : Bool). Kept (lent w) (checked t (lent w) (letGoStep (lent w)))) (sym is) (checked-kept (lent w) g _ (λ t. let-go-kept (lent w) g))
 
 -- ---- a list of calls
 
@@ -161,6 +167,7 @@ fresh-whole n k =
             fits = every-replicate OpenFits 64 noneQueued (record { remote = omega arith; credit = omega arith; share = omega arith; length = omega arith });
             fine = refl;
           };
+      offer = λ e. never e;
     }
 
 put-start : (state l : List ℕ) → length l ≡ stateLen → put state 0 l ≡ l ++ drop stateLen state
@@ -243,7 +250,7 @@ module _ (w : World) (is : isWhole (w .state) ≡ true)
   checked-8 t o e = cond-true t _ _ e ∙ cond-false (storesFit (negotiated (lent w) .config) (length (w .rx)) (length (w .store))) o _ short
 
   call-8 : (x : Call) → outcome w x ≡ untouched (lent w) StoreShort
-  unfolding outcome openOutcome dispatchOutcome settleOutcome takeOutcome readOutcome writeOutcome closeOutcome takeFrontOutcome lookOutcome numbersOutcome checkedOut
+  unfolding outcome openOutcome dispatchOutcome settleOutcome takeOutcome readOutcome writeOutcome closeOutcome takeFrontOutcome lookOutcome numbersOutcome acceptOutcome rejectOutcome letGoOutcome checkedOut
   call-8 (openCall out destination received) = checked-8 (isWhole (w .state)) _ is
   call-8 (dispatchCall out received) = checked-8 (isWhole (w .state)) _ is
   call-8 (settleCall out ch want) = checked-8 (isWhole (w .state)) _ is
@@ -253,6 +260,9 @@ module _ (w : World) (is : isWhole (w .state) ≡ true)
   call-8 (closeCall out ch) = checked-8 (isWhole (w .state)) _ is
   call-8 frontTaken = checked-8 (isWhole (w .state)) _ is
   call-8 (lookCall (numbersLook ch)) = checked-8 (isWhole (w .state)) _ is
+  call-8 (acceptCall out) = checked-8 (isWhole (w .state)) _ is
+  call-8 (rejectCall out) = checked-8 (isWhole (w .state)) _ is
+  call-8 letGoCall = checked-8 (isWhole (w .state)) _ is
 
   after-8 : (x : Call) → after w x ≡ w
   unfolding after

@@ -27,6 +27,7 @@ use Rattle.slot.proofs.Kept.{pick}
 use Rattle.slot.proofs.Laws.{cond-true, cond-false}
 use Rattle.state.specs.declared.Header.{Header}
 use Rattle.state.specs.Change.{slotTo, changedAll}
+use Rattle.state.specs.State.{isOurs}
 use Rattle.table.specs.declared.Allocated.{Allocated}
 use Rattle.table.specs.declared.Allocated.the-variants.{Channel, NoFree}
 use Rattle.table.specs.declared.ChannelId.{ChannelId}
@@ -91,12 +92,12 @@ module _ (l : Lent) (credit : Terms) (ok : TableOk (policy l) (l .state .header 
 
   on-fine : (out : ℕ) (destination : List ℕ) (a : Allocated) → open-fine (openOn l out destination a)
   unfolding openOn
-  on-fine out destination NoFree = open-ends (begun h l) (Refused NoFreeChannels) 0 refl refl refl (unused (Refused NoFreeChannels))
+  on-fine out destination NoFree = open-ends (begun (dropped h) l) (Refused NoFreeChannels) 0 refl refl refl (unused (Refused NoFreeChannels))
   on-fine out destination (Channel ch) =
-      pick open-fine (ltb maxPayload (length destination)) (λ t. open-ends (begun (numbered h) l) (Refused PayloadTooLarge) 0 refl refl refl (unused (Refused PayloadTooLarge)))
+      pick open-fine (ltb maxPayload (length destination)) (λ t. open-ends (begun (numbered (dropped h)) l) (Refused PayloadTooLarge) 0 refl refl refl (unused (Refused PayloadTooLarge)))
       (λ t. pick open-fine (ltb out (24 + length destination))
       (λ u e. acked-none p credit _ _ _ (unused (Refused OutShort)) (acksOf (b .local) fs) e)
-      (λ u. open-ends (then (begun (pendingFor (numbered h) ch) l) [] (openFrame (ch .local) (offeredCredit (h .negotiated)) destination ∷ [])) Waiting 0 refl refl refl (unused Waiting)))
+      (λ u. open-ends (then (begun (pendingFor (numbered (dropped h)) ch) l) [] (openFrame (ch .local) (offeredCredit (h .negotiated)) destination ∷ [])) Waiting 0 refl refl refl (unused Waiting)))
 
   -- the pending open, at another place
   module _ (ch : ChannelId) (away : i ≡ ch .slot → ⊥) where
@@ -186,12 +187,12 @@ module _ (l : Lent) (credit : Terms) (ok : TableOk (policy l) (l .state .header 
     by-fine r (packet k sy) = packet-fine k sy
 
   -- an open beside the book of a channel that is in the table
-  pub open-call : (out : ℕ) (destination : List ℕ) → (h .pending .on ≡ true → i ≡ h .pending .slot → ⊥) → open-fine (openStep l out destination received)
+  pub open-call : (out : ℕ) (destination : List ℕ) → (isOurs (h .pending .what) ≡ true → i ≡ h .pending .slot → ⊥) → open-fine (openStep l out destination received)
   unfolding openStep
   open-call out destination away =
-      by-test (h .pending .on)
-      (λ t. subst open-fine (sym (cond-true (h .pending .on) _ _ t)) (by-fine (record { slot = h .pending .slot; local = h .pending .local }) (away t) (receivedOf l received) (got l received)))
-      (λ t. subst open-fine (sym (cond-false (h .pending .on) _ _ t)) (on-fine out destination (allocated h ss)))
+      by-test (isOurs (h .pending .what))
+      (λ t. subst open-fine (sym (cond-true (isOurs (h .pending .what)) _ _ t)) (by-fine (record { slot = h .pending .slot; local = h .pending .local }) (away t) (receivedOf l received) (got l received)))
+      (λ t. subst open-fine (sym (cond-false (isOurs (h .pending .what)) _ _ t)) (on-fine out destination (allocated h ss)))
 
 -- ---- the slot that an open fills
 
@@ -220,8 +221,8 @@ refused-some r = not-true (eqb (refusalNumber r) 0) (and-true (not (eqb (refusal
 pub data Opens (l : Lent) (received : List ℕ) : Outcome → Type 0 where
   fills : (x : Outcome) (t : ChannelSlot) (k : Packet) → Says received (l .state .header .negotiated .config .«max_payload») k
       → x .answer ≡ Opened (record { slot = l .state .header .pending .slot; local = l .state .header .pending .local })
-      → slotsBy (l .state .slots) (x .changes) ≡ set (l .state .slots) (l .state .header .pending .slot) t → x .rx ≡ l .rx → x .frames ≡ [] → l .state .header .pending .on ≡ true
-      → changedAll (l .state) (x .changes) .header .pending .on ≡ false
+      → slotsBy (l .state .slots) (x .changes) ≡ set (l .state .slots) (l .state .header .pending .slot) t → x .rx ≡ l .rx → x .frames ≡ [] → isOurs (l .state .header .pending .what) ≡ true
+      → isOurs (changedAll (l .state) (x .changes) .header .pending .what) ≡ false
       → openedOf (openingSlot (l .state .header .pending .local)) (record { 0 = k .arg0 }) (bodyOf received k) (policy l) ≡ Slot t → Opens l received x
   leaves : (x : Outcome) → eqb (answerNumber (x .answer)) 0 ≡ false → Tame (l .state .slots) (x .changes) → Opens l received x
 
@@ -238,16 +239,16 @@ module _ (l : Lent) (ok : TableOk (policy l) (l .state .header .negotiated .conf
 
   opens-on : (out : ℕ) (destination : List ℕ) (a : Allocated) → Opens l received (openOn l out destination a)
   unfolding openOn answerNumber refusalNumber
-  opens-on out destination NoFree = plain (begun hh l) (Refused NoFreeChannels) 0 refl tt
+  opens-on out destination NoFree = plain (begun (dropped hh) l) (Refused NoFreeChannels) 0 refl tt
   opens-on out destination (Channel ch) =
-      pick (Opens l received) (ltb maxPayload (length destination)) (λ t. plain (begun (numbered hh) l) (Refused PayloadTooLarge) 0 refl tt)
+      pick (Opens l received) (ltb maxPayload (length destination)) (λ t. plain (begun (numbered (dropped hh)) l) (Refused PayloadTooLarge) 0 refl tt)
       (λ t. pick (Opens l received) (ltb out (24 + length destination)) (λ u. leaves (untouched l OutShort) refl tt)
-      (λ u. plain (then (begun (pendingFor (numbered hh) ch) l) [] (openFrame (ch .local) (offeredCredit (hh .negotiated)) destination ∷ [])) Waiting 0 refl tt))
+      (λ u. plain (then (begun (pendingFor (numbered (dropped hh)) ch) l) [] (openFrame (ch .local) (offeredCredit (hh .negotiated)) destination ∷ [])) Waiting 0 refl tt))
 
   abbrev wch : ChannelId
   wch = record { slot = hh .pending .slot; local = hh .pending .local }
 
-  opens-readied : hh .pending .on ≡ true → (k : Packet) → Says received (hh .negotiated .config .«max_payload») k → (r : Readied)
+  opens-readied : isOurs (hh .pending .what) ≡ true → (k : Packet) → Says received (hh .negotiated .config .«max_payload») k → (r : Readied)
       → openedOf (openingSlot (hh .pending .local)) (record { 0 = k .arg0 }) (bodyOf received k) (policy l) ≡ r → Opens l received (openReadied l wch (k .arg0) (frameLen k) r)
   unfolding openReadied ends answerNumber refusalNumber
   opens-readied on k sy (Slot t) e = fills _ t k sy refl refl refl refl on refl e
@@ -265,7 +266,7 @@ module _ (l : Lent) (ok : TableOk (policy l) (l .state .header .negotiated .conf
       let a = unlessFault (b .fault) Waiting in
       plain (storing (thenActed (begun hh l) b) (stillPending a (b .header))) a (frameLen k) (not-opened (b .fault)) (tame-act hh ws (l .state .queue) (l .rx) (l .store) k (bodyOf received k) ok)
 
-  opens-by : hh .pending .on ≡ true → (r : Received) → Got received (hh .negotiated .config .«max_payload») r → Opens l received (openBy l wch received r)
+  opens-by : isOurs (hh .pending .what) ≡ true → (r : Received) → Got received (hh .negotiated .config .«max_payload») r → Opens l received (openBy l wch received r)
   unfolding openBy answerNumber refusalNumber
   opens-by on r (stopped a used st) = plain (begun (stillPending a hh) l) a used (st .undone) tt
   opens-by on r (packet k sy) =
@@ -278,6 +279,6 @@ module _ (l : Lent) (ok : TableOk (policy l) (l .state .header .negotiated .conf
   pub opens : (out : ℕ) (destination : List ℕ) → Opens l received (openStep l out destination received)
   unfolding openStep
   opens out destination =
-      by-test (hh .pending .on)
-      (λ t. subst (Opens l received) (sym (cond-true (hh .pending .on) _ _ t)) (opens-by t (receivedOf l received) (got l received)))
-      (λ t. subst (Opens l received) (sym (cond-false (hh .pending .on) _ _ t)) (opens-on out destination (allocated hh ws)))
+      by-test (isOurs (hh .pending .what))
+      (λ t. subst (Opens l received) (sym (cond-true (isOurs (hh .pending .what)) _ _ t)) (opens-by t (receivedOf l received) (got l received)))
+      (λ t. subst (Opens l received) (sym (cond-false (isOurs (hh .pending .what)) _ _ t)) (opens-on out destination (allocated hh ws)))

@@ -38,6 +38,7 @@ use Rattle.slot.proofs.Kept.{pick, settled-sound}
 use Rattle.slot.proofs.Stays.{settled-stays}
 use Rattle.state.specs.declared.Header.{Header}
 use Rattle.state.specs.Change.{Step, Change, slotTo, changedAll}
+use Rattle.state.specs.State.{isOurs}
 use Rattle.table.specs.declared.Allocated.{Allocated}
 use Rattle.table.specs.declared.Allocated.the-variants.{Channel, NoFree}
 use Rattle.table.specs.declared.ChannelId.{ChannelId}
@@ -54,7 +55,7 @@ use Rattle.connection.specs.declared.Received.the-variants.{Packet as PacketIs}
 use Rattle.connection.specs.declared.Refusal.the-variants.{ChannelClosed, NoFreeChannels, PayloadTooLarge, BadCredit as CreditRefused, UnexpectedCommand}
 use Rattle.connection.specs.Act.{Acted, tableOf, actOn}
 use Rattle.connection.specs.Answer.{refusalNumber, answerNumber}
-use Rattle.connection.specs.Calls.{looked, numbersFor, numbersIn, Lent, Outcome, Work, begun, then, thenActed, ends, dropped, pendingFor, policy, idsIn, isThere, slotFor, faultRefusal, errorRefusal, unlessFault, receivedOf, bodyOf, frameLen, isDirect, dispatchBy, dispatchStep, settledAs, settleStep, takenBy, takeStep, reread, readSettled, readActed, readDirect, readBy, readTaken, readFirst, readStep, sendSome, sendBy, sendAgain, writeReadied, writeActed, writeAct, writeBy, writeFirst, writeOn, writeStep, closeStep, takeFrontBy, takeFrontStep, openOn, stillPending, openReadied, openActed, openBy, openStep}
+use Rattle.connection.specs.Calls.{looked, numbersFor, numbersIn, Lent, Outcome, Work, begun, then, thenActed, ends, dropped, pendingFor, policy, idsIn, isThere, slotFor, faultRefusal, errorRefusal, unlessFault, receivedOf, bodyOf, frameLen, isDirect, dispatchBy, dispatchStep, settledAs, settleStep, takenBy, takeStep, reread, readSettled, readActed, readDirect, readBy, readTaken, readFirst, readStep, sendSome, sendBy, sendAgain, writeReadied, writeActed, writeAct, writeBy, writeFirst, writeOn, writeStep, closeStep, takeFrontBy, takeFrontStep, openOn, stillPending, openReadied, openActed, openBy, openStep, offerIn, isOffered, rejectOn, acceptOn, acceptStep, rejectStep, letGoStep}
 use Rattle.connection.specs.Frames.{openFrame, writeFrame, framesBytes}
 use Rattle.connection.proofs.Slots.{slotsBy, slots-by, slot-set-same}
 use Rattle.history.proofs.Acts.{acted-fault, acted-at, at-named}
@@ -204,6 +205,23 @@ module _ (l : Lent) (ok : TableOk (policy l) (l .state .header .negotiated .conf
       let N : ℕ → Type 0 = λ n. n ≡ 11 → ⊥ in
       pick (λ (a : Answer). N (answerNumber a)) (isThere l ch)
       (λ t. pick N (isClosed (slotFor l ch .state)) (λ c e. omega arith) (λ c e. omega arith)) (λ t e. omega arith)
+
+  pub reject-never : Never (rejectStep l)
+  unfolding rejectStep rejectOn ends answerNumber
+  reject-never = pick Never (isOffered l) (λ t e. omega arith) (λ t e. omega arith)
+
+  pub let-go-never : Never (letGoStep l)
+  unfolding letGoStep ends answerNumber
+  let-go-never = pick Never (isOffered l) (λ t e. omega arith) (λ t e. omega arith)
+
+  accept-on : (remote : RemoteId) (credit : ℕ) (x : Allocated) → Never (acceptOn l h0 remote credit x)
+  unfolding acceptOn rejectOn ends answerNumber refusalNumber
+  accept-on remote credit NoFree e = omega arith
+  accept-on remote credit (Channel ch) e = omega arith
+
+  pub accept-never : Never (acceptStep l)
+  unfolding acceptStep ends answerNumber
+  accept-never = pick Never (isOffered l) (λ t. accept-on (offerIn l .remote) (offerIn l .credit) (allocated (l .state .header) ss)) (λ t e. omega arith)
 
   -- ---- calls that are handed received bytes
 
@@ -379,11 +397,11 @@ module _ (l : Lent) (ok : TableOk (policy l) (l .state .header .negotiated .conf
 
     on-notes : (out : ℕ) (destination : List ℕ) (a : Allocated) → E (openOn l out destination a)
     unfolding openOn answerNumber refusalNumber
-    on-notes out destination NoFree = other (begun (l .state .header) l) (Refused NoFreeChannels) 0 [] (λ e. omega arith)
+    on-notes out destination NoFree = other (begun h0 l) (Refused NoFreeChannels) 0 [] (λ e. omega arith)
     on-notes out destination (Channel ch) =
-        pick E (ltb maxPayload (length destination)) (λ t. other (begun (numbered (l .state .header)) l) (Refused PayloadTooLarge) 0 [] (λ e. omega arith))
+        pick E (ltb maxPayload (length destination)) (λ t. other (begun (numbered h0) l) (Refused PayloadTooLarge) 0 [] (λ e. omega arith))
         (λ t. pick E (ltb out (24 + length destination)) (λ u e. absurd (omega arith))
-        (λ u. other (then (begun (pendingFor (numbered (l .state .header)) ch) l) [] (openFrame (ch .local) (offeredCredit (l .state .header .negotiated)) destination ∷ [])) Waiting 0 [] (λ e. omega arith)))
+        (λ u. other (then (begun (pendingFor (numbered h0) ch) l) [] (openFrame (ch .local) (offeredCredit (l .state .header .negotiated)) destination ∷ [])) Waiting 0 [] (λ e. omega arith)))
 
     open-readied-notes : (ch : ChannelId) (remote used : ℕ) (r : Readied) → E (openReadied l ch remote used r)
     unfolding openReadied answerNumber refusalNumber
@@ -403,4 +421,4 @@ module _ (l : Lent) (ok : TableOk (policy l) (l .state .header .negotiated .conf
     pub open-notes : (out : ℕ) (destination : List ℕ) → E (openStep l out destination received)
     unfolding openStep
     open-notes out destination =
-        pick E (l .state .header .pending .on) (λ t. open-received-notes _ (receivedOf l received) (got l received)) (λ t. on-notes out destination (allocated (l .state .header) ss))
+        pick E (isOurs (l .state .header .pending .what)) (λ t. open-received-notes _ (receivedOf l received) (got l received)) (λ t. on-notes out destination (allocated (l .state .header) ss))

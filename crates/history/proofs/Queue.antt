@@ -17,8 +17,8 @@ use Rattle.config.proofs.Laws.{and-true}
 use Rattle.rx_store.proofs.Laws.{share-before}
 use Rattle.incoming.specs.declared.Front.{Front}
 use Rattle.incoming.specs.declared.Front.the-variants.{Open as FrontOpen, Nothing as NoFront}
-use Rattle.incoming.specs.Incoming.{Incoming, queuedAs, queuedOpens, withdrawn, withQueued, noneQueued, PushOutcome, nextShare, pushed, withdrawal, popped}
-use Rattle.incoming.proofs.ListLaws.{push-waits, withdrawal-waits, popped-waits}
+use Rattle.incoming.specs.Incoming.{Incoming, queuedAs, queuedOpens, withdrawn, withQueued, offering, PushOutcome, nextShare, pushed, withdrawal, popped, returned}
+use Rattle.incoming.proofs.ListLaws.{push-waits, withdrawal-waits, popped-waits, popped-offers, returned-waits}
 use Rattle.protocol.specs.declared.command.Command.{Command}
 use Rattle.protocol.specs.declared.command.Command.the-variants.{Sync, Connect, Open, Ready, Close, Write, Auth, StartTls}
 use Rattle.protocol.specs.declared.packet.Packet.{Packet}
@@ -44,8 +44,8 @@ use Rattle.slot.proofs.Laws.{cond-true, cond-false}
 use Rattle.slot.proofs.Stays.{Stays, settled-stays}
 use Rattle.state.specs.declared.Header.{Header}
 use Rattle.state.specs.declared.QueuedOpen.{QueuedOpen}
-use Rattle.state.specs.Change.{Step, slotTo, headerTo, queuedTo, changedAll}
-use Rattle.state.specs.State.{stateLen, Connection, stateOf, withSlot}
+use Rattle.state.specs.Change.{Step, slotTo, headerTo, queuedTo, changedAll, Change}
+use Rattle.state.specs.State.{isOurs, noneQueued, stateLen, Connection, stateOf, withSlot, isOffer}
 use Rattle.state_whole.specs.Whole.{queuedFine, queueFine, isWhole}
 use Rattle.le.proofs.RowLaws.{walk-here, never}
 use Rattle.state.proofs.ChangeLaws.{changes-append}
@@ -57,7 +57,7 @@ use Rattle.table.specs.declared.ChannelId.{ChannelId}
 use Rattle.table_dispatch.specs.declared.DispatchOutcome.{DispatchOutcome}
 use Rattle.table_dispatch.specs.declared.DispatchOutcome.the-variants.{AckWrite, CreditGranted, SlotClosed, DataBuffered, IncomingOpen, CancelQueuedOpen, StrayReady, ChannelFault, Unmatched}
 use Rattle.table.specs.declared.Want.the-variants.{Local, Remote}
-use Rattle.table.specs.Table.{first, wantedBy, placeOf, slotIn}
+use Rattle.table.specs.Table.{first, wantedBy, placeOf, slotIn, allocated}
 use Rattle.table_dispatch.specs.Dispatch.{namedPlace, remotePlace, closedAt, closeOf as tableClose, granted, readyAt, strayOf, grantOf, Dispatched, wroteBy, wroteAt, writeOf as tableWrite, routeOf, dispatchOf as tableDispatch}
 use Rattle.table_dispatch.proofs.DispatchLaws.{named-found}
 use Rattle.table_dispatch.proofs.KeepLaws.{dispatch-keeps}
@@ -68,14 +68,15 @@ use Rattle.connection.specs.declared.Received.the-variants.{Packet as PacketIs,
 use Rattle.connection.specs.declared.Refusal.{Refusal}
 use Rattle.connection.specs.Frames.{Frame, framesBytes}
 use Rattle.connection.specs.declared.Refusal.the-variants.{StoreShort, OutShort, ChannelClosed, BrokenState}
-use Rattle.connection.specs.Calls.{looked, numbersFor, numbersOutcome, Lent, Outcome, Work, begun, then, thenActed, ends, dropped, untouched, checked, checkedOut, policy, idsIn, isThere, slotFor, ackFrames, unlessFault, receivedOf, bodyOf, frameLen, dispatchBy, dispatchStep, settledAs, settleStep, takenBy, takeStep, reread, readSettled, readActed, isDirect, readDirect, readBy, readTaken, readFirst, readStep, sendLen, sendSome, sendBy, sendAgain, writeReadied, writeActed, writeAct, writeBy, writeFirst, writeOn, writeStep, closeStep, takeFrontBy, takeFrontStep, openOn, stillPending, openReadied, openActed, openBy, openStep, fresh, openOutcome, dispatchOutcome, settleOutcome, takeOutcome, readOutcome, writeOutcome, closeOutcome, takeFrontOutcome}
+use Rattle.connection.specs.Calls.{looked, numbersFor, numbersOutcome, Lent, Outcome, Work, begun, then, thenActed, ends, dropped, untouched, checked, checkedOut, policy, idsIn, isThere, slotFor, ackFrames, unlessFault, receivedOf, bodyOf, frameLen, dispatchBy, dispatchStep, settledAs, settleStep, takenBy, takeStep, reread, readSettled, readActed, isDirect, readDirect, readBy, readTaken, readFirst, readStep, sendLen, sendSome, sendBy, sendAgain, writeReadied, writeActed, writeAct, writeBy, writeFirst, writeOn, writeStep, closeStep, takeFrontBy, takeFrontStep, openOn, stillPending, openReadied, openActed, openBy, openStep, fresh, openOutcome, dispatchOutcome, settleOutcome, takeOutcome, readOutcome, writeOutcome, closeOutcome, takeFrontOutcome, acceptOutcome, rejectOutcome, letGoOutcome, offerIn, isOffered, rejectOn, acceptOn, acceptStep, rejectStep, letGoStep}
 use Rattle.connection.specs.Act.{Acted, pushedBy, actedBy, tableOf, actOn, PacketFits}
-use Rattle.history.specs.Queue.{QueueMove, stays, pushes, withdraws, pops, moved, commandMove, usedMove, queueOf, packetMove, Hands, takesNone, openTakes, readTakes, writeTakes, moveOf, queueIn, Queues, QueueIsRusts}
-use Rattle.history.specs.Run.{lookOutcome, bytesIn, Call, openCall, dispatchCall, settleCall, takeCall, readCall, writeCall, closeCall, frontTaken, lookCall, numbersLook, World, lent, outcome, after, afterAll, Start, begins, agreedIn}
+use Rattle.history.specs.Queue.{QueueMove, stays, pushes, withdraws, pops, moved, commandMove, usedMove, queueOf, packetMove, Hands, takesNone, openTakes, readTakes, writeTakes, moveOf, queueIn, Queues, QueueIsRusts, backMove, offerOf, offeredIn}
+use Rattle.history.specs.Run.{lookOutcome, bytesIn, Call, openCall, dispatchCall, settleCall, takeCall, readCall, writeCall, closeCall, frontTaken, lookCall, numbersLook, acceptCall, rejectCall, letGoCall, World, lent, outcome, after, afterAll, Start, begins, agreedIn}
 use Rattle.connection.proofs.WholeWork.{negotiated, At, at-frames, at-slot, there-live, there-at, Long, long, drop-whole}
 use Rattle.history.proofs.Bytes.{bytes-in}
 use Rattle.connection.proofs.Decoding.{ReceivedFits, received-fits}
-use Rattle.history.proofs.Never13.{Holds, holds-whole, holds-kept, holds-all, state-after, made-state, starts}
+use Rattle.history.proofs.Never13.{Holds, holds-whole, holds-kept, holds-all, state-after, made-state, starts, holds-after}
+use Rattle.history.proofs.Heads.{call-offer}
 
 length-waits : (payload : ℕ) (store : List ℕ) (qs : List QueuedOpen) → length (queuedOpens payload store qs) ≡ length qs
 unfolding queuedOpens
@@ -386,6 +387,42 @@ module _ (l : Lent) (g : Whole (negotiated l) (l .state .header) (l .state .slot
   unfolding closeStep
   close-moves m ch = pick (Moves l m) (isThere l ch && slotFor l ch .«has_remote») (λ t. ends-left l m _ _ 0 [] (left-none l m b0 still0)) (λ t. gone-moves m)
 
+  -- ---- so do accept and reject
+
+  reject-on : (m : QueueMove) (remote : RemoteId) (a : Answer) → Moves l m (rejectOn l (dropped (l .state .header)) remote a)
+  unfolding rejectOn
+  reject-on m remote a = ends-left l m _ a 0 [] (left-none l m b0 still0)
+
+  none-moves : (m : QueueMove) → Moves l m (ends b0 Nothing 0 [])
+  none-moves m = ends-left l m b0 Nothing 0 [] (left-none l m b0 still0)
+
+  reject-moves : (m : QueueMove) → Moves l m (rejectStep l)
+  unfolding rejectStep
+  reject-moves m = pick (Moves l m) (isOffered l) (λ t. reject-on m (offerIn l .remote) Done) (λ t. none-moves m)
+
+  accept-on : (m : QueueMove) (remote : RemoteId) (credit : ℕ) (r : Allocated) → Moves l m (acceptOn l (dropped (l .state .header)) remote credit r)
+  unfolding acceptOn
+  accept-on m remote credit NoFree = reject-on m remote _
+  accept-on m remote credit (Channel ch) = ends-left l m _ _ 0 [] (left-none l m b0 still0)
+
+  accept-moves : (m : QueueMove) → Moves l m (acceptStep l)
+  unfolding acceptStep
+  accept-moves m = pick (Moves l m) (isOffered l) (λ t. accept-on m (offerIn l .remote) (offerIn l .credit) (allocated (l .state .header) (l .state .slots))) (λ t. none-moves m)
+
+  -- ---- let go puts what is offered back
+
+  let-go-moves : queueO l (letGoStep l) ≡ moved (negotiated l .config .channels) (backMove (offerOf l)) (queueOf l)
+  unfolding letGoStep offerOf backMove moved queueOf
+  let-go-moves =
+      let hd = dropped (l .state .header) in
+      let back = returned hd (l .state .queue) (offerIn l) in
+      by-test (isOffered l)
+      (λ t. let room = g .offer t .room in
+      let most = g .limits .within .most-channels in
+      let full = g .queue .full in
+      rw t (ends-queue l (then (begun (back .result) l) (back .changes) []) Done 0 [] ∙ returned-waits (l .state) hd (l .store) (offerIn l) (omega arith)))
+      (λ t. rw t (ends-queue l b0 Nothing 0 []))
+
   -- ---- calls that look at a packet
 
   module _ (long : Long (negotiated l) (length (l .rx)) (length (l .store))) (received : List ℕ) where
@@ -638,7 +675,7 @@ module _ (l : Lent) (g : Whole (negotiated l) (l .state .header) (l .state .slot
     open-moves : (out : ℕ) (destination : List ℕ) → Bytes received → Moves l (open-move (receivedOf l received)) (openStep l out destination received)
     unfolding openStep
     open-moves out destination y =
-        pick (Moves l (open-move (receivedOf l received))) (l .state .header .pending .on) (λ t. open-by (receivedOf l received) (received-fits l received y))
+        pick (Moves l (open-move (receivedOf l received))) (isOurs (l .state .header .pending .what)) (λ t. open-by (receivedOf l received) (received-fits l received y))
         (λ t. open-on _ out destination _)
 
 -- ---- take_front
@@ -652,7 +689,7 @@ module _ (l : Lent) (g : Whole (negotiated l) (l .state .header) (l .state .slot
   unfolding popped
   nothing-waits e =
       by-test (eqb (l .state .header .queued) 0) (λ t. eqb-true (l .state .header .queued) 0 t)
-      (λ t. let x : FrontOpen (getD (l .state .queue) 0 noneQueued) (withQueued hd (l .state .header .queued - 1)) ≡ NoFront = rw t at e in
+      (λ t. let x : FrontOpen (getD (l .state .queue) 0 noneQueued) (offering (withQueued hd (l .state .header .queued - 1))) ≡ NoFront = rw t at e in
       let z : true ≡ false = cc in never (sym z))
 
   places : l .state .header .queued ≤ length (l .state .queue)
@@ -672,6 +709,24 @@ module _ (l : Lent) (g : Whole (negotiated l) (l .state .header) (l .state .slot
   unfolding queueOf
   front-queue q less e = popped-waits (l .state) hd (l .store) q less e places
 
+  -- what is offered after an outcome
+  abbrev offerC : Connection → List Incoming
+  offerC d = cond (isOffer (d .header .pending .what)) (queuedAs (d .header .negotiated .config .«max_payload») (l .store) (getD (d .queue) (d .header .queued) noneQueued) ∷ []) []
+
+  abbrev offerO : Outcome → List Incoming
+  offerO o = offerC (changedAll (l .state) (o .changes))
+
+  -- the header that a pop leaves
+  less-offers : (q : QueuedOpen) (less : Header) → popped hd (l .state .queue) .result ≡ FrontOpen q less
+      → (isOffer (less .pending .what) ≡ true) × (less .negotiated .config .«max_payload» ≡ negotiated l .config .«max_payload»)
+  unfolding popped
+  less-offers q less e =
+      by-test (eqb (l .state .header .queued) 0)
+      (λ t. let x : NoFront ≡ FrontOpen q less = rw t at e in let z : true ≡ false = cc in never (sym z))
+      (λ t. let x : FrontOpen (getD (l .state .queue) 0 noneQueued) (offering (withQueued hd (l .state .header .queued - 1))) ≡ FrontOpen q less = rw t at e in
+      let a : offering (withQueued hd (l .state .header .queued - 1)) ≡ less = cc in
+      (sym (ap (λ (h : Header). isOffer (h .pending .what)) a), sym (ap (λ (h : Header). h .negotiated .config .«max_payload») a)))
+
   front-by : (f : Front) → popped hd (l .state .queue) .result ≡ f → queueO l (takeFrontBy l hd (popped hd (l .state .queue) .changes) f) ≡ drop 1 (queueOf l)
   unfolding takeFrontBy ends
   front-by (FrontOpen q less) e =
@@ -680,6 +735,21 @@ module _ (l : Lent) (g : Whole (negotiated l) (l .state .header) (l .state .slot
   front-by NoFront e =
       let z = empty-queue (nothing-waits e) in
       ends-queue l (begun hd l) Nothing 0 [] ∙ begun-still l hd refl ∙ z ∙ sym (ap (drop 1) z)
+
+  -- it is offered
+  offers-by : (f : Front) → popped hd (l .state .queue) .result ≡ f → offerO (takeFrontBy l hd (popped hd (l .state .queue) .changes) f) ≡ take 1 (queueOf l)
+  unfolding takeFrontBy ends
+  offers-by (FrontOpen q less) e =
+      ap offerC (changes-append (l .state) (popped hd (l .state .queue) .changes) (headerTo less ∷ []))
+      ∙ ap (λ (x : Bool). cond x (queuedAs (less .negotiated .config .«max_payload») (l .store) (getD (changedAll (l .state) (popped hd (l .state .queue) .changes) .queue) (less .queued) noneQueued) ∷ []) []) (less-offers q less e .0)
+      ∙ ap (λ (x : ℕ). queuedAs x (l .store) (getD (changedAll (l .state) (popped hd (l .state .queue) .changes) .queue) (less .queued) noneQueued) ∷ []) (less-offers q less e .1)
+      ∙ ap (λ (x : QueuedOpen). queuedAs (negotiated l .config .«max_payload») (l .store) x ∷ []) (popped-offers (l .state) hd (l .store) q less e places)
+      ∙ sym (ap (take 1) (front-queue q less e))
+  offers-by NoFront e = sym (ap (take 1) (empty-queue (nothing-waits e)))
+
+  front-offers : offerO (takeFrontStep l) ≡ take 1 (queueOf l)
+  unfolding takeFrontStep
+  front-offers = offers-by (popped hd (l .state .queue) .result) refl
 
   front-moves : queueO l (takeFrontStep l) ≡ drop 1 (queueOf l)
   unfolding takeFrontStep
@@ -693,7 +763,7 @@ module _ (l : Lent) (g : Whole (negotiated l) (l .state .header) (l .state .slot
       by-test (eqb (l .state .header .queued) 0)
       (λ t. let x : NoFront ≡ FrontOpen q less = rw t at e in let z : true ≡ false = cc in never (sym z))
       (λ t. let d = eqb-false (l .state .header .queued) 0 t in
-      let x : FrontOpen (getD (l .state .queue) 0 noneQueued) (withQueued hd (l .state .header .queued - 1)) ≡ FrontOpen q less = rw t at e in
+      let x : FrontOpen (getD (l .state .queue) 0 noneQueued) (offering (withQueued hd (l .state .header .queued - 1))) ≡ FrontOpen q less = rw t at e in
       let a : getD (l .state .queue) 0 noneQueued ≡ q = cc in
       let f : queueFine (negotiated l .config .channels) (negotiated l .config .«max_payload») (q ∷ drop 1 (take (l .state .header .queued) (l .state .queue))) ≡ true
       = ap (queueFine (negotiated l .config .channels) (negotiated l .config .«max_payload»)) (sym (walk-here (l .state .queue) (l .state .header .queued) 0 noneQueued q (omega arith) places a)) ∙ g .queue .fine in
@@ -755,15 +825,19 @@ module _ (w : World) (is : isWhole (w .state) ≡ true) (fit : storesFit (negoti
   leaves o k = k ∙ ap (λ (m : QueueMove). moved (negotiated (lent w) .config .channels) m (queueIn w)) (used-stays (lent w) (o .used))
 
   front-is : outcome w frontTaken ≡ takeFrontStep (lent w)
-  unfolding outcome takeFrontOutcome lookOutcome numbersOutcome checked
+  unfolding outcome takeFrontOutcome lookOutcome numbersOutcome acceptOutcome rejectOutcome letGoOutcome checked
   front-is = cond-true (isWhole (w .state)) _ _ is ∙ cond-true (storesFit (negotiated (lent w) .config) (length (w .rx)) (length (w .store))) _ _ fit
+
+  let-go-is : outcome w letGoCall ≡ letGoStep (lent w)
+  unfolding outcome letGoOutcome checked
+  let-go-is = cond-true (isWhole (w .state)) _ _ is ∙ cond-true (storesFit (negotiated (lent w) .config) (length (w .rx)) (length (w .store))) _ _ fit
 
   front-taken : queueO (lent w) (takeFrontStep (lent w)) ≡ moved (negotiated (lent w) .config .channels) pops (queueIn w)
   unfolding moved
   front-taken = front-moves (lent w) g
 
   call-moves : (x : Call) → queueO (lent w) (outcome w x) ≡ moved (negotiated (lent w) .config .channels) (moveOf w x) (queueIn w)
-  unfolding outcome openOutcome dispatchOutcome settleOutcome takeOutcome readOutcome writeOutcome closeOutcome lookOutcome numbersOutcome moveOf
+  unfolding outcome openOutcome dispatchOutcome settleOutcome takeOutcome readOutcome writeOutcome closeOutcome lookOutcome numbersOutcome acceptOutcome rejectOutcome moveOf
   call-moves (openCall out destination received) =
       out-moves (lent w) _ (isWhole (w .state)) (length out) _ (open-moves (lent w) g far (bytesIn received) (length out) (bytesIn destination) (bytes-in received))
   call-moves (dispatchCall out received) = out-moves (lent w) _ (isWhole (w .state)) (length out) _ (dispatch-moves (lent w) g far (bytesIn received) (bytes-in received))
@@ -777,6 +851,24 @@ module _ (w : World) (is : isWhole (w .state) ≡ true) (fit : storesFit (negoti
   call-moves frontTaken = ap (queueO (lent w)) front-is ∙ front-taken
   call-moves (lookCall (numbersLook ch)) =
       leaves (outcome w (lookCall (numbersLook ch))) (checked-moves (lent w) stays (isWhole (w .state)) (looked (lent w) (numbersFor (lent w) ch)) (looked-still (lent w) stays (numbersFor (lent w) ch)))
+  call-moves (acceptCall out) = leaves (outcome w (acceptCall out)) (out-moves (lent w) stays (isWhole (w .state)) (length out) (acceptStep (lent w)) (accept-moves (lent w) g stays))
+  call-moves (rejectCall out) = leaves (outcome w (rejectCall out)) (out-moves (lent w) stays (isWhole (w .state)) (length out) (rejectStep (lent w)) (reject-moves (lent w) g stays))
+  call-moves letGoCall = ap (queueO (lent w)) let-go-is ∙ let-go-moves (lent w) g
+
+-- what is offered in a state, with a store
+abbrev offerIn-store : List ℕ → Connection → List Incoming
+offerIn-store store d =
+    cond (isOffer (d .header .pending .what)) (queuedAs (d .header .negotiated .config .«max_payload») store (getD (d .queue) (d .header .queued) noneQueued) ∷ []) []
+
+-- taking the front leaves the open store
+front-store-by : (l : Lent) (h : Header) (xs : List Change) (f : Front) → takeFrontBy l h xs f .store ≡ l .store
+unfolding takeFrontBy ends
+front-store-by l h xs (FrontOpen q less) = refl
+front-store-by l h xs NoFront = refl
+
+front-store : (l : Lent) → takeFrontStep l .store ≡ l .store
+unfolding takeFrontStep
+front-store l = front-store-by l _ _ _
 
 -- ---- every list of calls
 
@@ -820,13 +912,48 @@ module _ (n : Negotiated) (r : List ℕ) (rx store : ℕ) (fit : storesFit (n .c
       subst (λ (o : Outcome). Hands x (o .store) (o .answer)) (sym (front-is w is-here fit-here whole-here))
       (front-hands (lent w) whole-here (long (negotiated (lent w)) (length (w .rx)) (length (w .store)) fit-here .store-long) x xs e)
 
+  queue-moves : (x : Call) → queueIn (after w x) ≡ moved (n .config .channels) (moveOf w x) (queueIn w)
+  queue-moves x = queue-after x ∙ call-moves w is-here fit-here whole-here x ∙ ap (λ (m : Negotiated). moved (m .config .channels) (moveOf w x) (queueIn w)) same
+
+  -- what taking the front leaves as an offer
+  front-leaves : offeredIn (after w frontTaken) ≡ take 1 (queueIn w)
+  unfolding offerOf after
+  front-leaves =
+      let o = outcome w frontTaken in
+      let s = front-is w is-here fit-here whole-here in
+      ap (λ (y : Connection). offerIn-store (o .store) y) (state-after n r rx store w h frontTaken)
+      ∙ ap (λ (x : Outcome). offerIn-store (x .store) (changedAll (stateOf (w .state)) (x .changes))) s
+      ∙ ap (λ (y : List ℕ). offerIn-store y (changedAll (stateOf (w .state)) (takeFrontStep (lent w) .changes))) (front-store (lent w))
+      ∙ front-offers (lent w) whole-here
+
+-- taken and let go, what was the first is so again
+back-is : (channels : ℕ) (q : List Incoming) → moved channels (backMove (take 1 q)) (drop 1 q) ≡ q
+unfolding moved backMove
+back-is channels [] = refl
+back-is channels (x ∷ q) = refl
+
+module _ (n : Negotiated) (r : List ℕ) (rx store : ℕ) (fit : storesFit (n .config) rx store ≡ true) (w : World) (h : Holds n r rx store w) where
+  goes-back : queueIn (after (after w frontTaken) letGoCall) ≡ queueIn w
+  unfolding moveOf moved
+  goes-back =
+      let v = after w frontTaken in
+      queue-moves n r rx store fit v (holds-after n r rx store w h frontTaken) letGoCall
+      ∙ ap (λ (y : List Incoming). moved (n .config .channels) (backMove y) (queueIn v)) (front-leaves n r rx store fit w h)
+      ∙ ap (moved (n .config .channels) (backMove (take 1 (queueIn w)))) (queue-moves n r rx store fit w h frontTaken)
+      ∙ back-is (n .config .channels) (queueIn w)
+
   queues : Queues (n .config .channels) w
   queues =
       record {
-        moves = λ x. queue-after x ∙ call-moves w is-here fit-here whole-here x ∙ ap (λ (m : Negotiated). moved (m .config .channels) (moveOf w x) (queueIn w)) same;
-        fits = queue-length;
-        front = hands;
-        none = λ e. ap (λ (o : Outcome). o .answer) (front-is w is-here fit-here whole-here) ∙ front-none (lent w) whole-here e;
+        moves = queue-moves n r rx store fit w h;
+        fits = queue-length n r rx store fit w h;
+        front = hands n r rx store fit w h;
+        none = λ e.
+            ap (λ (o : Outcome). o .answer) (front-is w (is-here n r rx store fit w h) (fit-here n r rx store fit w h) (whole-here n r rx store fit w h))
+            ∙ front-none (lent w) (whole-here n r rx store fit w h) e;
+        offered = front-leaves n r rx store fit w h;
+        back = goes-back;
+        ended = λ x f t. call-offer w x f (sym (ap (λ (d : Connection). isOffer (d .header .pending .what)) (state-after n r rx store w h x)) ∙ t);
       }
 
 start-empty : (s : Start) → queueIn (begins s) ≡ []

@@ -25,7 +25,7 @@ use Rattle.slot.specs.Slot.{emptiedSlot, totalWith, openingSlot, emptySlot, isO
 use Rattle.wire.specs.Wire.{creditBytes, okayBytes, closeBytes}
 use Rattle.le.specs.Rows.{flat, rows, allIs}
 use Rattle.state.specs.State.{stateLen, slotNumbers, slotCounts, tagOf, slotBytes, slotOf, isTag, isSlot, queuedBytes, headerSizes, headerWords, headerTags, stateHeader as headerBytes-state, headerOf, layout, stateOf, isState, putSlot, putHeader}
-use Rattle.state_whole.specs.Whole.{filledOk, slotFine, slotsFine, queueFine, pendingFine, headerFine, filledAt, whole, isWhole}
+use Rattle.state_whole.specs.Whole.{filledOk, slotFine, slotsFine, queueFine, pendingFine, offerFine, opensFine, headerFine, filledAt, whole, isWhole}
 use Rattle.table.specs.Table.{first, wantedBy, placeOf, nextLocal, allocated, slotIn}
 use Rattle.table_dispatch.specs.Dispatch.{namedPlace, remotePlace, closedAt, closeOf, wroteBy, wroteAt, writeOf, routeOf, dispatchOf}
 use Rattle.connection.specs.Frames.{frameBytes, framesBytes}
@@ -280,7 +280,7 @@ plainBook =
 
 -- to unfold this is to unfold all that a run computes with
 computing : ℕ
-unfolding numOf bytesOf signed unsigned part put clamp satSum positivePart slid fitsBehind appendedHead appended takenHead withinLimits capOf ceilingOf watermarkOf openingCredit rxStoreLen openStoreLen storesFit both negotiatedOf policyOf creditOf-config total sumOf policyFor checkFor lettersOf wordOf magicOf commands amongOf commandOf messageOf headerBytes payloadOf checkPasses packetOf knownOf namedOf decodeOf usedOf messageFor frameBytes-protocol isClose namedBy closedBy creditOf atLeastZero creditFaultNumber openingSlot emptySlot emptiedSlot totalWith isOpening isClosed isFailed openedBy openedOf readyOf heldOf-slot acksNow bufferedWith wroteOf someLen deliveredOf ackLenOf hasData settledBy settledSome settledOf takeLen tookOf takenOf someBudget budgetOf spentOf closedSlot slotOk creditBytes okayBytes closeBytes flat rows allIs slotNumbers slotCounts tagOf slotBytes slotOf isTag isSlot queuedBytes headerSizes headerWords headerTags headerBytes-state headerOf layout stateOf isState putSlot putHeader filledOk slotFine slotsFine queueFine pendingFine headerFine filledAt whole isWhole first wantedBy placeOf nextLocal allocated slotIn namedPlace remotePlace closedAt closeOf shareOf bufferedIn wroteBy wroteAt writeOf routeOf dispatchOf frameBytes framesBytes actedBy tableOf actOn refusalNumber answerNumber ackLength refusalWord answerValues writtenBy ends checked checkedOut isThere slotFor ackFrames faultRefusal unlessFault receivedBy receivedOf isWrite isReady fresh makeOf dispatchBy dispatchStep settledAs settleStep frontOf takenBy takeStep reread readSettled readActed isDirect readDirect readBy readTaken readFirst readStep sendLen sendSome sendBy sendAgain writeReadied writeActed writeAct writeBy writeFirst writeOn writeStep closeStep openOn stillPending openReadied openActed openBy openStep openOutcome dispatchOutcome settleOutcome takeOutcome readOutcome writeOutcome closeOutcome bytesIn outOf bufOf outcome after afterAll made heldOf saidBy countOf sentBy sentIn seenIn eventsOf bookSlot newAside creditIn acksOf lastOpen frameB damagedB packetB readUsedB readB writeB entryOn openedB acksB bookAfter eachPlace entry ledgerOf runOf opensIn givenBy givenIn isThe isOpen
+unfolding numOf bytesOf signed unsigned part put clamp satSum positivePart slid fitsBehind appendedHead appended takenHead withinLimits capOf ceilingOf watermarkOf openingCredit rxStoreLen openStoreLen storesFit both negotiatedOf policyOf creditOf-config total sumOf policyFor checkFor lettersOf wordOf magicOf commands amongOf commandOf messageOf headerBytes payloadOf checkPasses packetOf knownOf namedOf decodeOf usedOf messageFor frameBytes-protocol isClose namedBy closedBy creditOf atLeastZero creditFaultNumber openingSlot emptySlot emptiedSlot totalWith isOpening isClosed isFailed openedBy openedOf readyOf heldOf-slot acksNow bufferedWith wroteOf someLen deliveredOf ackLenOf hasData settledBy settledSome settledOf takeLen tookOf takenOf someBudget budgetOf spentOf closedSlot slotOk creditBytes okayBytes closeBytes flat rows allIs slotNumbers slotCounts tagOf slotBytes slotOf isTag isSlot queuedBytes headerSizes headerWords headerTags headerBytes-state headerOf layout stateOf isState putSlot putHeader filledOk slotFine slotsFine queueFine pendingFine offerFine opensFine headerFine filledAt whole isWhole first wantedBy placeOf nextLocal allocated slotIn namedPlace remotePlace closedAt closeOf shareOf bufferedIn wroteBy wroteAt writeOf routeOf dispatchOf frameBytes framesBytes actedBy tableOf actOn refusalNumber answerNumber ackLength refusalWord answerValues writtenBy ends checked checkedOut isThere slotFor ackFrames faultRefusal unlessFault receivedBy receivedOf isWrite isReady fresh makeOf dispatchBy dispatchStep settledAs settleStep frontOf takenBy takeStep reread readSettled readActed isDirect readDirect readBy readTaken readFirst readStep sendLen sendSome sendBy sendAgain writeReadied writeActed writeAct writeBy writeFirst writeOn writeStep closeStep openOn stillPending openReadied openActed openBy openStep openOutcome dispatchOutcome settleOutcome takeOutcome readOutcome writeOutcome closeOutcome bytesIn outOf bufOf outcome after afterAll made heldOf saidBy countOf sentBy sentIn seenIn eventsOf bookSlot newAside creditIn acksOf lastOpen frameB damagedB packetB readUsedB readB writeB entryOn openedB acksB bookAfter eachPlace entry ledgerOf runOf opensIn givenBy givenIn isThe isOpen
 computing = 0
 
 -- handed over and buffered is accepted, and set aside is the slot's number; in delayed mode, where the channel is not closed,

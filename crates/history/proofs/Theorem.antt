@@ -2,7 +2,7 @@
 use mathlib.Core.Path.{_≡_, refl, sym, ap, subst, _∙_}
 use mathlib.Core.Bool.{Bool, true, false, true≢false}
 use mathlib.Core.List.{List, [], _∷_}
-use Prim.Native.Nat.{ℕ, zero, suc, _+_, _*_, _≤_, _<_}
+use Prim.Native.Nat.{ℕ, zero, suc, _+_, _*_, _≤_, _<_, _^_}
 use native.Mathlib.Nat.{zero-add}
 use native.Mathlib.Omega.{arith}
 use lib.Dec.{eqb, ltb, leb}
@@ -19,14 +19,14 @@ use Rattle.slot.specs.declared.ChannelSlot.{ChannelSlot}
 use Rattle.slot.specs.Slot.{emptySlot}
 use Rattle.slot.proofs.Kept.{pick}
 use Rattle.slot.proofs.Laws.{cond-true, cond-false}
-use Rattle.state.specs.State.{stateLen, Connection, stateOf}
+use Rattle.state.specs.State.{isOurs, stateLen, Connection, stateOf}
 use Rattle.state_whole.specs.Whole.{isWhole}
 use Rattle.table.specs.Table.{slotIn}
 use Rattle.connection.specs.declared.Refusal.the-variants.{StoreShort, OutShort, BrokenState}
 use Rattle.connection.specs.Answer.{answerNumber, refusalNumber}
-use Rattle.connection.specs.Calls.{numbersFor, numbersOutcome, Lent, Outcome, checked, checkedOut, fresh, openOutcome, dispatchOutcome, settleOutcome, takeOutcome, readOutcome, writeOutcome, closeOutcome, takeFrontOutcome}
+use Rattle.connection.specs.Calls.{numbersFor, numbersOutcome, Lent, Outcome, checked, checkedOut, fresh, openOutcome, dispatchOutcome, settleOutcome, takeOutcome, readOutcome, writeOutcome, closeOutcome, takeFrontOutcome, acceptOutcome, rejectOutcome, letGoOutcome}
 use Rattle.connection.proofs.Slots.{slots-by}
-use Rattle.history.specs.Run.{lookOutcome, Call, openCall, dispatchCall, settleCall, takeCall, readCall, writeCall, closeCall, frontTaken, lookCall, numbersLook, receivedIn, bytesIn, World, lent, outcome, after, afterAll, Start, begins, agreedIn, policyIn}
+use Rattle.history.specs.Run.{lookOutcome, Call, openCall, dispatchCall, settleCall, takeCall, readCall, writeCall, closeCall, frontTaken, lookCall, numbersLook, acceptCall, rejectCall, letGoCall, receivedIn, bytesIn, World, lent, outcome, after, afterAll, Start, begins, agreedIn, policyIn}
 use Rattle.history.specs.Seen.{heldOf, Seen, Event, seenOf, eventsOf}
 use Rattle.history.specs.Book.{Book, noBook, headerAt, isWrte, bookAfter, eachPlace, Ledger, clean, bookAt, entry, ledgerOf}
 use Rattle.history.specs.NoLeak.{NoTake, ReadOnly, NoLeak}
@@ -34,9 +34,9 @@ use Rattle.history.specs.Demand3.{placeSlot, runOf, Distinct, Apart, Cla
 use Rattle.history.proofs.Good.{Terms, Good, Limits}
 use Rattle.history.proofs.Heads.{call-asked}
 use Rattle.history.proofs.Heard.{seen-eight}
-use Rattle.history.proofs.Joins.{Vacant, vacant-fresh, KeptAt, Follows, early-follows, dispatch-follows, settle-follows, take-follows, read-follows, write-follows, close-follows, front-follows, look-follows, open-follows}
+use Rattle.history.proofs.Joins.{Vacant, vacant-fresh, KeptAt, Follows, early-follows, dispatch-follows, settle-follows, take-follows, read-follows, write-follows, close-follows, front-follows, look-follows, open-follows, accept-follows, reject-follows, let-go-follows}
 use Rattle.history.proofs.Never13.{Holds, state-after, holds-after, made-state, starts, in-replicate, always-8}
-use Rattle.history.proofs.Overs.{Notes, dispatch-notes, settle-never, take-never, read-notes, write-notes, close-never, front-never, numbers-never, open-notes}
+use Rattle.history.proofs.Overs.{Notes, dispatch-notes, settle-never, take-never, read-notes, write-notes, close-never, front-never, numbers-never, open-notes, accept-never, reject-never, let-go-never}
 use Rattle.history.proofs.Packets.{Marked, reads-write, reads-arg1}
 use Rattle.history.proofs.Places.{TableOk}
 use Rattle.history.proofs.Steps.{sawOf}
@@ -80,7 +80,7 @@ terms reads n = record { credit = offeredCredit n; reads = reads }
 
 record Kept (reads : ℕ → Bool) (n : Negotiated) (w : World) (y : Ledger) : Type 0 where
   size : length (y .books) ≡ 64
-  asks : stateOf (w .state) .header .pending .on ≡ true → y .asked ≡ offeredCredit n
+  asks : isOurs (stateOf (w .state) .header .pending .what) ≡ true → y .asked ≡ offeredCredit n
   each : (i : ℕ) → KeptAt (policyOf n) (terms (reads i) n) i (stateOf (w .state) .slots) (w .rx) (bookAt y i)
 
 -- the books tell what the slots are
@@ -136,11 +136,16 @@ module _ (reads : ℕ → Bool) (w : World) (r : List ℕ) (rx store : ℕ) wher
           small = s .cap-small;
         }
 
-    empty : c .header .pending .on ≡ true → slotIn (c .slots) (c .header .pending .slot) .filled ≡ false
+    -- the credit that an accepting OKAY carries is one of 31 bits
+    small-credit : offeredCredit m < 2 ^ 31
+    unfolding offeredCredit openingCredit
+    small-credit = let w = h .facts .limits .within .most-credit in pick (λ (x : ℕ). x < 2 ^ 31) (m .«delayed_ack») (λ d. omega arith) (λ d. omega arith)
+
+    empty : isOurs (c .header .pending .what) ≡ true → slotIn (c .slots) (c .header .pending .slot) .filled ≡ false
     unfolding slotIn
     empty t = h .facts .pending-open t .empty
 
-    placed : c .header .pending .on ≡ true → c .header .pending .slot < 64
+    placed : isOurs (c .header .pending .what) ≡ true → c .header .pending .slot < 64
     placed t = let a = h .facts .pending-open t .place in let b = h .facts .limits .within .most-channels in omega arith
 
     module _ (y : Ledger) (k : Kept reads m w y) where
@@ -168,7 +173,7 @@ module _ (reads : ℕ → Bool) (w : World) (r : List ℕ) (rx store : ℕ) wher
             (λ b. early-follows (terms (reads i) m) l table (limits (reads i)) empty placed (y .books) mark (y .asked) (λ t d. k .asks t) i (bookAt y i) (k .each i) x OutShort refl) (λ b. f))
 
         call-follows : (x : Call) → (reads i ≡ true → NoTake i x) → follows x (outcome w x)
-        unfolding outcome openOutcome dispatchOutcome settleOutcome takeOutcome readOutcome writeOutcome closeOutcome takeFrontOutcome lookOutcome numbersOutcome
+        unfolding outcome openOutcome dispatchOutcome settleOutcome takeOutcome readOutcome writeOutcome closeOutcome takeFrontOutcome lookOutcome numbersOutcome acceptOutcome rejectOutcome letGoOutcome
         call-follows (openCall out destination received) only =
             follows-out (openCall out destination received) (isWhole (w .state)) (length out) _
             (open-follows (terms (reads i) m) l table (limits (reads i)) empty placed (y .books) mark (y .asked) (λ t d. k .asks t) i (bookAt y i) (k .each i) out destination received)
@@ -196,6 +201,15 @@ module _ (reads : ℕ → Bool) (w : World) (r : List ℕ) (rx store : ℕ) wher
         call-follows (lookCall (numbersLook ch)) only =
             follows-checked (lookCall (numbersLook ch)) (isWhole (w .state)) _
             (look-follows (terms (reads i) m) l table (limits (reads i)) empty placed (y .books) mark (y .asked) (λ t d. k .asks t) i (bookAt y i) (k .each i) (numbersLook ch) (numbersFor l ch))
+        call-follows (acceptCall out) only =
+            follows-out (acceptCall out) (isWhole (w .state)) (length out) _
+            (accept-follows (terms (reads i) m) l table (limits (reads i)) empty placed (y .books) mark (y .asked) (λ t d. k .asks t) i (bookAt y i) (k .each i) refl small-credit out)
+        call-follows (rejectCall out) only =
+            follows-out (rejectCall out) (isWhole (w .state)) (length out) _
+            (reject-follows (terms (reads i) m) l table (limits (reads i)) empty placed (y .books) mark (y .asked) (λ t d. k .asks t) i (bookAt y i) (k .each i) out)
+        call-follows letGoCall only =
+            follows-checked letGoCall (isWhole (w .state)) _
+            (let-go-follows (terms (reads i) m) l table (limits (reads i)) empty placed (y .books) mark (y .asked) (λ t d. k .asks t) i (bookAt y i) (k .each i))
 
       -- what is seen of a call
       abbrev event : Call → Event
@@ -218,7 +232,7 @@ module _ (reads : ℕ → Bool) (w : World) (r : List ℕ) (rx store : ℕ) wher
           let o = outcome w x in
           let K : List ChannelSlot → Book → Type 0 = λ ss b. KeptAt (policyOf m) (terms (reads i) m) i ss (o .rx) b in
           let z = k .size in
-          let f = call-follows i x only (now x .sent) (λ n. seen-acks m r rx store w h x n) in
+          let f = call-follows i x only (now x .sent) (record { acks = λ n. seen-acks m r rx store w h x n; sent = ap (λ (s : Seen). s .sent) (seen-is m r rx store w h x) }) in
           let e : bookAt (entry (policyOf m) x (now x) y) i ≡ bookAfter (policyOf m) (y .books) (y .asked) x (sawOf o (now x .sent)) i (bookAt y i) =
           book-at (policyOf m) x (now x) y i (omega arith) ∙ ap (λ (s : Seen). bookAfter (policyOf m) (y .books) (y .asked) x s i (bookAt y i)) (sees x) in
           subst (λ (b : Book). K (stateOf (after w x .state) .slots) b) (sym e)
@@ -247,7 +261,7 @@ module _ (reads : ℕ → Bool) (w : World) (r : List ℕ) (rx store : ℕ) wher
           let st = state-after m r rx store w h x in
           record {
             size = book-size (policyOf m) x (now x) y ∙ k .size;
-            asks = λ t. seen-open m r rx store w h x (y .asked) ∙ call-asked w (y .asked) (offeredCredit m) refl (k .asks) x (sym (ap (λ (d : Connection). d .header .pending .on) st) ∙ t);
+            asks = λ t. seen-open m r rx store w h x (y .asked) ∙ call-asked w (y .asked) (offeredCredit m) refl (k .asks) x (sym (ap (λ (d : Connection). isOurs (d .header .pending .what)) st) ∙ t);
             each = λ i. by-test (ltb i 64) (λ t. inside i (ltb-true i 64 t) x (only i)) (λ t. outside i (ltb-false i 64 t) x);
           }
 
@@ -265,7 +279,7 @@ module _ (reads : ℕ → Bool) (w : World) (r : List ℕ) (rx store : ℕ) wher
           notes-checked received t _ (pick (λ (x : Outcome). answerNumber (x .answer) ≡ 11 → Notes l table received x) (ltb out 56) (λ b e. absurd (omega arith)) (λ b. f))
 
       call-notes : (x : Call) → answerNumber (outcome w x .answer) ≡ 11 → Notes l table (receivedIn x) (outcome w x)
-      unfolding outcome receivedIn openOutcome dispatchOutcome settleOutcome takeOutcome readOutcome writeOutcome closeOutcome takeFrontOutcome lookOutcome numbersOutcome
+      unfolding outcome receivedIn openOutcome dispatchOutcome settleOutcome takeOutcome readOutcome writeOutcome closeOutcome takeFrontOutcome lookOutcome numbersOutcome acceptOutcome rejectOutcome letGoOutcome
       call-notes (openCall out destination received) = notes-out (bytesIn received) (isWhole (w .state)) (length out) _ (open-notes l table (bytesIn received) (length out) (bytesIn destination))
       call-notes (dispatchCall out received) = notes-out (bytesIn received) (isWhole (w .state)) (length out) _ (dispatch-notes l table (bytesIn received))
       call-notes (settleCall out ch want) = notes-out [] (isWhole (w .state)) (length out) _ (λ e. absurd (settle-never l table ch want e))
@@ -275,6 +289,9 @@ module _ (reads : ℕ → Bool) (w : World) (r : List ℕ) (rx store : ℕ) wher
       call-notes (closeCall out ch) = notes-out [] (isWhole (w .state)) (length out) _ (λ e. absurd (close-never l table ch e))
       call-notes frontTaken = notes-checked [] (isWhole (w .state)) _ (λ e. absurd (front-never l table e))
       call-notes (lookCall (numbersLook ch)) = notes-checked [] (isWhole (w .state)) _ (λ e. absurd (numbers-never l table ch e))
+      call-notes (acceptCall out) = notes-out [] (isWhole (w .state)) (length out) _ (λ e. absurd (accept-never l table e))
+      call-notes (rejectCall out) = notes-out [] (isWhole (w .state)) (length out) _ (λ e. absurd (reject-never l table e))
+      call-notes letGoCall = notes-checked [] (isWhole (w .state)) _ (λ e. absurd (let-go-never l table e))
 
       -- an 11 is in the book of a channel that is there
       noted : (x : Call) → ((i : ℕ) → reads i ≡ true → NoTake i x) → answerNumber (outcome w x .answer) ≡ 11 → Noted (policyOf m) y (entry (policyOf m) x (now x) y) (event x)
@@ -374,7 +391,7 @@ module _ (n : Negotiated) (w : World) (e : stateOf (w .state) ≡ fresh n) where
   fresh-kept reads =
       record {
         size = length-replicate 64 noBook;
-        asks = λ t. absurd (true≢false (sym t ∙ ap (λ (d : Connection). d .header .pending .on) e));
+        asks = λ t. absurd (true≢false (sym t ∙ ap (λ (d : Connection). isOurs (d .header .pending .what)) e));
         each = λ i. record { full = λ f. absurd (true≢false (sym f ∙ no-slot i)); none = λ f. fresh-vacant (policyOf n) i };
       }
 

@@ -34,9 +34,9 @@ use Rattle.connection.specs.Answer.{answerNumber}
 use Rattle.connection.specs.Calls.{Outcome, writtenBy}
 use Rattle.connection.specs.Frames.{Frame, okayFrame, closeFrame, openFrame, writeFrame, frameBytes, framesBytes, Sent}
 use Rattle.connection.proofs.Sending.{sentOf, FrameFits}
-use Rattle.history.specs.Run.{Call, openCall, dispatchCall, settleCall, takeCall, readCall, writeCall, closeCall, frontTaken, lookCall, bytesIn, outOf, bufOf, receivedIn}
+use Rattle.history.specs.Run.{Call, openCall, dispatchCall, settleCall, takeCall, readCall, writeCall, closeCall, frontTaken, lookCall, acceptCall, rejectCall, letGoCall, bytesIn, outOf, bufOf, receivedIn}
 use Rattle.history.specs.Seen.{Held, heldBy, saidBy, countOf, Seen, Event, seenOf}
-use Rattle.history.specs.Book.{Book, goneBook, creditIn, handedB, ackedB, acksOf, lastOpen, headerAt, payloadAt, isWrte, isClse, ownEnd, frameB, packetB, settleB, readUsedB, readB, writeB, isOn, endsOpen, endsOther, entryOn, openedB, acksB, bookAfter, eachPlace, Ledger, entry}
+use Rattle.history.specs.Book.{Book, goneBook, creditIn, handedB, ackedB, acksOf, lastOpen, headerAt, payloadAt, isWrte, isClse, ownEnd, frameB, packetB, settleB, readUsedB, readB, writeB, isOn, endsOpen, endsOther, entryOn, openedB, acking, acksB, bookAfter, eachPlace, Ledger, entry}
 use Rattle.history.specs.Demand3.{sizeOf, Reads, AllRead, Noted, Told}
 use Rattle.history.proofs.Heard.{Writes, counted, heardOf, nothing8, seen-eight, count-eight}
 use Rattle.history.proofs.Opens.{and-false}
@@ -69,6 +69,9 @@ on-eight p d i (writeCall out ch bytes received) b = both-same (isOn i b ch) b b
 on-eight p d i (closeCall out ch) b = ap (λ (t : Bool). cond t (goneBook b) b) (and-false (isOn i b ch))
 on-eight p d i frontTaken b = refl
 on-eight p d i (lookCall x) b = refl
+on-eight p d i (acceptCall out) b = refl
+on-eight p d i (rejectCall out) b = refl
+on-eight p d i letGoCall b = refl
 
 opened-eight : (i asked : ℕ) (c : Call) (b : Book) → openedB i asked c nothing8 b ≡ b
 unfolding openedB
@@ -81,11 +84,28 @@ opened-eight i asked (writeCall out ch bytes received) b = refl
 opened-eight i asked (closeCall out ch) b = refl
 opened-eight i asked frontTaken b = refl
 opened-eight i asked (lookCall x) b = refl
+opened-eight i asked (acceptCall out) b = refl
+opened-eight i asked (rejectCall out) b = refl
+opened-eight i asked letGoCall b = refl
+
+acking-eight : (c : Call) → acking c [] ≡ []
+acking-eight (openCall out destination received) = refl
+acking-eight (dispatchCall out received) = refl
+acking-eight (settleCall out ch want) = refl
+acking-eight (takeCall ch buf) = refl
+acking-eight (readCall out ch buf received) = refl
+acking-eight (writeCall out ch bytes received) = refl
+acking-eight (closeCall out ch) = refl
+acking-eight frontTaken = refl
+acking-eight (lookCall x) = refl
+acking-eight (acceptCall out) = refl
+acking-eight (rejectCall out) = refl
+acking-eight letGoCall = refl
 
 after-eight : (p : RxPolicy) (d : List Book) (asked : ℕ) (c : Call) (i : ℕ) (b : Book) → bookAfter p d asked c nothing8 i b ≡ b
 unfolding bookAfter acksB acksOf
 after-eight p d asked c i b =
-    ap (acksB nothing8) (opened-eight i asked c _ ∙ both-same (b .there) (entryOn p d i c nothing8 b) b (on-eight p d i c b)) ∙ both-same (b .there) (ackedB 0 b) b (acked-same b)
+    ap (acksB (acking c [])) (opened-eight i asked c _ ∙ both-same (b .there) (entryOn p d i c nothing8 b) b (on-eight p d i c b)) ∙ ap (λ (fs : List Sent). acksB fs b) (acking-eight c) ∙ both-same (b .there) (ackedB 0 b) b (acked-same b)
 
 each-same : (f : ℕ → Book → Book) (i : ℕ) (bs : List Book) → ((j : ℕ) (b : Book) → f j b ≡ b) → eachPlace f i bs ≡ bs
 unfolding eachPlace
@@ -251,6 +271,9 @@ module _ (p : RxPolicy) (d : List Book) (i asked : ℕ) (values : List ℕ) (use
   entry-over (closeCall out ch) w e = absurd (none-write w)
   entry-over frontTaken w e = absurd (none-write w)
   entry-over (lookCall y) w e = absurd (none-write w)
+  entry-over (acceptCall out) w e = absurd (none-write w)
+  entry-over (rejectCall out) w e = absurd (none-write w)
+  entry-over letGoCall w e = absurd (none-write w)
 
   -- 11 fills no slot
   opened-over : (c : Call) (x : Book) → openedB i asked c o x ≡ x
@@ -264,6 +287,9 @@ module _ (p : RxPolicy) (d : List Book) (i asked : ℕ) (values : List ℕ) (use
   opened-over (closeCall out ch) x = refl
   opened-over frontTaken x = refl
   opened-over (lookCall y) x = refl
+  opened-over (acceptCall out) x = refl
+  opened-over (rejectCall out) x = refl
+  opened-over letGoCall x = refl
 
   pub book-over : (c : Call) → isWrte (headerAt (receivedIn c)) ≡ true → headerAt (receivedIn c) .arg1 ≡ b .local
       → (bookAfter p d asked c o i b .there ≡ true) × (bookAfter p d asked c o i b .over ≡ true)
@@ -271,4 +297,4 @@ module _ (p : RxPolicy) (d : List Book) (i asked : ℕ) (values : List ℕ) (use
   book-over c w e =
       let h = entry-over c w e in
       let z : openedB i asked c o (cond (b .there) (entryOn p d i c o b) b) ≡ entryOn p d i c o b = opened-over c _ ∙ cond-true (b .there) _ _ there in
-      subst (λ (x : Book). Has (acksB o x)) (sym z) (subst Has (sym (cond-true (entryOn p d i c o b .there) _ _ (h .0))) h)
+      subst (λ (x : Book). Has (acksB (acking c sent) x)) (sym z) (subst Has (sym (cond-true (entryOn p d i c o b .there) _ _ (h .0))) h)

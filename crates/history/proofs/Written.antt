@@ -18,7 +18,7 @@ use Rattle.config.specs.Negotiated.{policyOf, offeredCredit}
 use Rattle.config.proofs.Laws.{and-true, within, sound as limits}
 use Rattle.incoming.specs.declared.Front.{Front}
 use Rattle.incoming.specs.declared.Front.the-variants.{Open as FrontOpen, Nothing as NoFront}
-use Rattle.incoming.specs.Incoming.{popped}
+use Rattle.incoming.specs.Incoming.{popped, returned}
 use Rattle.protocol.specs.declared.command.Command.the-variants.{Write, Open}
 use Rattle.protocol.specs.declared.packet.Packet.{Packet}
 use Rattle.checksum.specs.Checksum.{policyFor, checkFor}
@@ -44,10 +44,10 @@ use Rattle.slot.proofs.Kept.{pick, sound, settled-sound}
 use Rattle.slot.proofs.Laws.{cond-true, cond-false, take-held}
 use Rattle.state.specs.declared.Header.{Header}
 use Rattle.state.specs.Change.{Change, slotTo, changedAll}
-use Rattle.state.specs.State.{isState, stateOf}
+use Rattle.state.specs.State.{isOurs, isState, stateOf, noneQueued}
 use Rattle.state_whole.specs.Whole.{filledOk, slotFine, slotsFine, pendingFine, headerFine, filledAt, whole, isWhole}
 use Rattle.le.proofs.RowLaws.{Every, every-append}
-use Rattle.state.proofs.StateLaws.{Fits, SlotFits}
+use Rattle.state.proofs.StateLaws.{Fits, SlotFits, OpenFits}
 use Rattle.state_whole.proofs.WholeLaws.{whole-fits}
 use Rattle.connection.proofs.WholeWork.{long}
 use Rattle.table.specs.declared.Allocated.{Allocated}
@@ -58,14 +58,14 @@ use Rattle.table.specs.Table.{wantedBy, placeOf, numbered, allocated, slotIn}
 use Rattle.rx_store.specs.RxStore.{shareOf, frontOf}
 use Rattle.rx_store.proofs.ShareLaws.{share-in}
 use Rattle.connection.specs.declared.Answer.{Answer}
-use Rattle.connection.specs.declared.Answer.the-variants.{Waiting, Nothing, Read, Refused}
+use Rattle.connection.specs.declared.Answer.the-variants.{Waiting, Nothing, Read, Refused, Done, Opened}
 use Rattle.connection.specs.declared.Refusal.the-variants.{ChannelClosed}
 use Rattle.connection.specs.Answer.{refusalNumber, answerNumber, answerValues}
 use Rattle.connection.specs.declared.Received.{Received}
 use Rattle.connection.specs.Act.{Acted, actOn}
-use Rattle.connection.specs.Calls.{looked, numbersFor, numbersOutcome, Lent, Outcome, Work, begun, then, thenActed, storing, ends, checked, checkedOut, dropped, pendingFor, policy, idsIn, isThere, slotFor, ackFrames, receivedOf, errorRefusal, faultRefusal, unlessFault, bodyOf, frameLen, dispatchBy, dispatchStep, settledAs, settleStep, takenBy, takeStep, reread, readSettled, readActed, isDirect, readDirect, readBy, readTaken, readFirst, readStep, sendLen, sendSome, sendBy, sendAgain, writeReadied, writeActed, writeAct, writeBy, writeFirst, writeOn, writeStep, closeStep, takeFrontBy, takeFrontStep, openOn, stillPending, openReadied, openActed, openBy, openStep, openOutcome, dispatchOutcome, settleOutcome, takeOutcome, readOutcome, writeOutcome, closeOutcome, takeFrontOutcome}
-use Rattle.connection.specs.Frames.{Frame, closeFrame, openFrame, writeFrame, frameBytes, framesBytes}
-use Rattle.history.specs.Run.{lookOutcome, bytesIn, Call, openCall, dispatchCall, settleCall, takeCall, readCall, writeCall, closeCall, frontTaken, lookCall, numbersLook, outOf, bufOf, World, lent, outcome}
+use Rattle.connection.specs.Calls.{looked, numbersFor, numbersOutcome, Lent, Outcome, Work, begun, then, thenActed, storing, ends, checked, checkedOut, dropped, pendingFor, policy, idsIn, isThere, slotFor, ackFrames, receivedOf, errorRefusal, faultRefusal, unlessFault, bodyOf, frameLen, dispatchBy, dispatchStep, settledAs, settleStep, takenBy, takeStep, reread, readSettled, readActed, isDirect, readDirect, readBy, readTaken, readFirst, readStep, sendLen, sendSome, sendBy, sendAgain, writeReadied, writeActed, writeAct, writeBy, writeFirst, writeOn, writeStep, closeStep, takeFrontBy, takeFrontStep, openOn, stillPending, openReadied, openActed, openBy, openStep, openOutcome, dispatchOutcome, settleOutcome, takeOutcome, readOutcome, writeOutcome, closeOutcome, takeFrontOutcome, acceptOutcome, rejectOutcome, letGoOutcome, offerIn, isOffered, rejectOn, acceptOn, acceptStep, rejectStep, letGoStep}
+use Rattle.connection.specs.Frames.{Frame, closeFrame, openFrame, writeFrame, frameBytes, framesBytes, okayFrame}
+use Rattle.history.specs.Run.{lookOutcome, bytesIn, Call, openCall, dispatchCall, settleCall, takeCall, readCall, writeCall, closeCall, frontTaken, lookCall, numbersLook, acceptCall, rejectCall, letGoCall, outOf, bufOf, World, lent, outcome}
 use Rattle.history.specs.Seen.{countOf, heldOf, Seen, seenOf}
 use Rattle.history.specs.Book.{acksOf, lastOpen}
 use Rattle.history.proofs.Acts.{acksIn}
@@ -75,7 +75,9 @@ use Rattle.history.proofs.Opens.{refused-some}
 use Rattle.history.proofs.Packets.{Got, stopped, packet, got, reads-arg0, reads-arg1, body-length}
 use Rattle.connection.proofs.Slots.{slots-by, slot-set-same, slot-set-other}
 use Rattle.history.proofs.Bytes.{bytes-in}
-use Rattle.connection.proofs.Sending.{IdsFit, Few, bytes-append, bytes-one, few-none, few-join, few-close, few-ack, Rests, quiet, same, clear, Own, Readied-ids, ready-ids, some, Acts, acts, settled-ids, settled-small, silent-clear, silent-again, Taking, took, nothing, shut, taking, no-data, delivered-ids, delivered-small, FrameFits}
+use Rattle.connection.proofs.Sending.{IdsFit, Few, bytes-append, bytes-one, few-none, few-join, few-close, few-ack, Rests, quiet, same, clear, Own, Readied-ids, ready-ids, some, Acts, acts, settled-ids, settled-small, silent-clear, silent-again, Taking, took, nothing, shut, taking, no-data, delivered-ids, delivered-small, FrameFits, few-okay}
+use Rattle.slot.specs.declared.ids.RemoteId.{RemoteId}
+use Rattle.state.specs.declared.QueuedOpen.{QueuedOpen}
 
 -- ---- what is asked of a state
 
@@ -83,7 +85,8 @@ use Rattle.connection.proofs.Sending.{IdsFit, Few, bytes-append, bytes-one, few
 pub record Able (l : Lent) : Type 0 where
   pub next : l .state .header .«next_local» < 2 ^ 32
   pub pending-open : l .state .header .pending .local .0 < 2 ^ 32
-  pub credit : offeredCredit (l .state .header .negotiated) < 2 ^ 32
+  pub credit : offeredCredit (l .state .header .negotiated) < 2 ^ 31
+  pub offered : offerIn l .remote .0 < 2 ^ 32
   pub most : l .state .header .negotiated .«max_payload» ≤ maxPayload
   pub size : length (l .state .slots) ≡ 64
   pub channels : l .state .header .negotiated .config .channels ≤ 64
@@ -106,6 +109,12 @@ fine-at channels cap i (s ∷ ss) zero e f =
     and-true (not (isOpening (s .state)) && not (isFailed (s .failed)) && s .«has_remote») (slotOk s cap) (and-true (ltb i channels) (filledOk s cap) b .1) .1
 fine-at channels cap i (s ∷ ss) (suc j) e f = fine-at channels cap (suc i) ss j (and-true (slotFine channels cap i s) (slotsFine channels cap (suc i) ss) e .1) f
 
+-- so are the remote numbers of the queue's entries
+every-remote : (os : List QueuedOpen) (j : ℕ) → Every OpenFits os → getD os j noneQueued .remote .0 < 2 ^ 32
+every-remote [] j e = omega arith
+every-remote (q ∷ os) zero e = e .0 .remote
+every-remote (q ∷ os) (suc j) e = every-remote os j (e .1)
+
 -- a whole state whose numbers fit their fields
 pub able-whole : (l : Lent) → Fits (l .state) → whole (l .state) ≡ true → Able l
 unfolding whole headerFine offeredCredit openingCredit policyOf
@@ -120,11 +129,12 @@ able-whole l f e =
     let b₂ = and-true _ (leb (h .negotiated .«protocol_version») 0x0100_0001) b₃ .0 in
     let b = and-true (withinLimits c) (leb (h .negotiated .«max_payload») 1_048_576) b₂ in
     let w = within c (b .0) in
-    let i = f .header .initial in
+    let i = w .most-credit in
     record {
       next = f .header .next;
       pending-open = f .header .local;
-      credit = pick (λ (x : ℕ). x < 2 ^ 32) (h .negotiated .«delayed_ack») (λ d. omega arith) (λ d. omega arith);
+      credit = pick (λ (x : ℕ). x < 2 ^ 31) (h .negotiated .«delayed_ack») (λ d. omega arith) (λ d. omega arith);
+      offered = every-remote (l .state .queue) (h .queued) (f .queue);
       most = leb-true (h .negotiated .«max_payload») 1_048_576 (b .1);
       size = f .full .slots;
       channels = w .most-channels;
@@ -340,6 +350,10 @@ module _ (l : Lent) (able : Able l) (out room : ℕ) where
   unfolding takeFrontStep
   front-writes = front-by h₀ (popped h₀ (l .state .queue) .changes) (popped h₀ (l .state .queue) .result)
 
+  pub let-go-writes : W (letGoStep l)
+  unfolding letGoStep returned ends
+  let-go-writes = pick W (isOffered l) (λ t. writes-none n out room _ refl (omega arith)) (λ t. writes-none n out room _ refl (omega arith))
+
   module _ (big : 56 ≤ out) where
     -- a call's end, with short frames
     done : (w : Work) (a : Answer) (used : ℕ) (bytes : List ℕ) → Few n 2 (w .frames) → length bytes ≤ room → W (ends w a used bytes)
@@ -378,6 +392,30 @@ module _ (l : Lent) (able : Able l) (out room : ℕ) where
         quit (then (begun h₀ l) _ (closeFrame (idsIn (slotFor l ch)) ∷ [])) _ 0 (few-up n 1 2 _ (omega arith) (few-close n _ (c .ids))))
         (λ t. idle h₀ _ 0)
 
+    -- rejecting and accepting
+    reject-on : (h : Header) (remote : RemoteId) (a : Answer) → remote .0 < 2 ^ 32 → W (rejectOn l h remote a)
+    unfolding rejectOn
+    reject-on h remote a f =
+        quit (then (begun h l) [] (closeFrame (record { local = record { 0 = 0 }; remote = remote }) ∷ [])) a 0 (few-up n 1 2 _ (omega arith) (few-close n _ (record { local = omega arith; remote = f })))
+
+    pub reject-writes : W (rejectStep l)
+    unfolding rejectStep
+    reject-writes = pick W (isOffered l) (λ t. reject-on h₀ (offerIn l .remote) Done (able .offered)) (λ t. idle h₀ _ 0)
+
+    accept-on : (remote : RemoteId) (credit : ℕ) → remote .0 < 2 ^ 32 → (r : Allocated) → Allots r → W (acceptOn l h₀ remote credit r)
+    unfolding acceptOn
+    accept-on remote credit f r full = reject-on h₀ remote _ f
+    accept-on remote credit f r (allots ch g) =
+        quit (then (begun (numbered h₀) l) _ (okayFrame (record { local = ch .local; remote = remote }) (offeredCredit n) ∷ [])) (Opened ch) 0
+        (few-up n 1 2 _ (omega arith) (few-okay n _ (offeredCredit n) (record { local = g; remote = f }) (λ d. able .credit)))
+
+    pub accept-writes : W (acceptStep l)
+    unfolding acceptStep
+    accept-writes =
+        pick W (isOffered l)
+        (λ t. accept-on (offerIn l .remote) (offerIn l .credit) (able .offered) (allocated (l .state .header) (l .state .slots)) (allotted (l .state .header) (l .state .slots) (able .next)))
+        (λ t. idle h₀ _ 0)
+
     -- a packet that is dispatched, whatever it leaves
     acted-few : (h : Header) → h .negotiated ≡ n → (k : Packet) (payload : List ℕ) → Args k
         → Acts ⊥ h (l .state .slots) 0 (actOn h (l .state .slots) (l .state .queue) (l .rx) (l .store) k payload)
@@ -395,16 +433,16 @@ module _ (l : Lent) (able : Able l) (out room : ℕ) where
         let e = frame-length Open (ch .local .0) (offeredCredit n) destination (checkFor k destination) in
         record {
           few = omega arith;
-          each = (record { sent = record { arg0-fits = f; arg1-fits = able .credit; small = s }; len-fits = λ d. omega arith }, tt);
+          each = (record { sent = record { arg0-fits = f; arg1-fits = let q = able .credit in omega arith; small = s }; len-fits = λ d. omega arith }, tt);
           written = omega arith;
           handed = omega arith;
         }
 
     open-on : (destination : List ℕ) (r : Allocated) → Allots r → W (openOn l out destination r)
     unfolding openOn
-    open-on destination r full = idle (l .state .header) _ 0
+    open-on destination r full = idle h₀ _ 0
     open-on destination r (allots ch f) =
-        pick W (ltb maxPayload (length destination)) (λ t. idle (numbered (l .state .header)) _ 0)
+        pick W (ltb maxPayload (length destination)) (λ t. idle (numbered h₀) _ 0)
         (λ t. pick W (ltb out (24 + length destination)) (λ u. writes-none n out room _ refl (omega arith))
         (λ u. open-sent destination ch f (ltb-false maxPayload (length destination) t) (ltb-false out (24 + length destination) u)))
 
@@ -453,7 +491,7 @@ module _ (l : Lent) (able : Able l) (out room : ℕ) where
       unfolding openStep
       open-writes destination =
           let h = l .state .header in
-          pick W (h .pending .on)
+          pick W (isOurs (h .pending .what))
           (λ t. open-by (record { slot = h .pending .slot; local = h .pending .local }) (able .pending-open) (receivedOf l received) (got l received))
           (λ t. open-on destination (allocated h (l .state .slots)) (allotted h (l .state .slots) (able .next)))
 
@@ -709,7 +747,7 @@ module _ (l : Lent) (able : Able l) (out room : ℕ) where
 -- every call on a state that is able, where it is whole
 pub call-writes : (w : World) → (isWhole (w .state) ≡ true → Able (lent w)) → (c : Call)
     → Writes (lent w .state .header .negotiated) (length (outOf c)) (length (bufOf c)) (outcome w c)
-unfolding outcome outOf bufOf openOutcome dispatchOutcome settleOutcome takeOutcome readOutcome writeOutcome closeOutcome takeFrontOutcome lookOutcome numbersOutcome
+unfolding outcome outOf bufOf openOutcome dispatchOutcome settleOutcome takeOutcome readOutcome writeOutcome closeOutcome takeFrontOutcome lookOutcome numbersOutcome acceptOutcome rejectOutcome letGoOutcome
 call-writes w f (openCall out destination received) =
     writes-checked-out (lent w) (length out) 0 (isWhole (w .state)) _
     (λ t big. open-writes (lent w) (f t) (length out) 0 big (bytesIn received) (bytes-in received) (bytesIn destination))
@@ -732,6 +770,12 @@ call-writes w f frontTaken =
     writes-checked (lent w) 0 0 (isWhole (w .state)) _ (λ t. front-writes (lent w) (f t) 0 0)
 call-writes w f (lookCall (numbersLook ch)) =
     writes-checked (lent w) 0 0 (isWhole (w .state)) _ (λ t. writes-none _ 0 0 (looked (lent w) (numbersFor (lent w) ch)) refl (omega arith))
+call-writes w f (acceptCall out) =
+    writes-checked-out (lent w) (length out) 0 (isWhole (w .state)) _ (λ t big. accept-writes (lent w) (f t) (length out) 0 big)
+call-writes w f (rejectCall out) =
+    writes-checked-out (lent w) (length out) 0 (isWhole (w .state)) _ (λ t big. reject-writes (lent w) (f t) (length out) 0 big)
+call-writes w f letGoCall =
+    writes-checked (lent w) 0 0 (isWhole (w .state)) _ (λ t. let-go-writes (lent w) (f t) 0 0)
 
 take-counted : (w : World) → (isWhole (w .state) ≡ true → Able (lent w)) → (ch : ChannelId) (buf : List ℕ) → Counts (lent w) (outcome w (takeCall ch buf))
 unfolding outcome takeOutcome policyOf
@@ -759,6 +803,9 @@ call-counts w f (writeCall out ch bytes received) e = none-handed _ _ _ (call-wr
 call-counts w f (closeCall out ch) e = none-handed _ _ _ (call-writes w f (closeCall out ch))
 call-counts w f frontTaken e = none-handed _ _ _ (call-writes w f frontTaken)
 call-counts w f (lookCall x) e = none-handed _ _ _ (call-writes w f (lookCall x))
+call-counts w f (acceptCall out) e = none-handed _ _ _ (call-writes w f (acceptCall out))
+call-counts w f (rejectCall out) e = none-handed _ _ _ (call-writes w f (rejectCall out))
+call-counts w f letGoCall e = none-handed _ _ _ (call-writes w f letGoCall)
 
 -- what is seen of a call is what its outcome says, on a state that holds
 module _ (n : Negotiated) (r : List ℕ) (rx store : ℕ) (w : World) (k : Holds n r rx store w) (c : Call) where

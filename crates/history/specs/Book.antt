@@ -18,17 +18,17 @@ use Rattle.slot.specs.Slot.{emptySlot, withRemote, withNumbers, settledOf}
 use Rattle.table.specs.declared.ChannelId.{ChannelId}
 use Rattle.table.specs.Table.{first}
 use Rattle.connection.specs.Frames.{Sent}
-use Rattle.history.specs.Run.{Call, openCall, dispatchCall, settleCall, takeCall, readCall, writeCall, closeCall, frontTaken, lookCall, bytesIn}
+use Rattle.history.specs.Run.{Call, openCall, dispatchCall, settleCall, takeCall, readCall, writeCall, closeCall, frontTaken, lookCall, acceptCall, rejectCall, letGoCall, bytesIn}
 use Rattle.history.specs.Seen.{Seen, Event, seenOf}
 
 -- what is kept of one channel
 pub record Book : Type 0 where
   -- the channel is in the table: from the call that fills its slot to the one in which the Rust empties it
   pub there : Bool
-  -- its numbers: from the answer that filled the slot, and the OKAY that that call used
+  -- its numbers: from the answer that filled the slot, and the OKAY that that call used or, of an accept, wrote
   pub local : ℕ
   pub remote : ℕ
-  -- the credit in our OPEN for it
+  -- the credit in our OPEN for it, or in the OKAY by which we accepted it
   pub opening : ℕ
   -- bytes of the WRTEs that were used
   pub sent : ℕ
@@ -297,8 +297,21 @@ entryOn p d i (writeCall out ch bytes received) o b =
 entryOn p d i (closeCall out ch) o b = cond (isOn i b ch && not (isRefused (o .number))) (goneBook b) b
 entryOn p d i frontTaken o b = b
 entryOn p d i (lookCall x) o b = b
+entryOn p d i (acceptCall out) o b = b
+entryOn p d i (rejectCall out) o b = b
+entryOn p d i letGoCall o b = b
 
--- an open that is done filled the slot that its answer names, with that local number; the remote number is its OKAY's
+-- the remote number in the OKAY by which a channel is accepted, and the credit that it carries; 0 where it carries none
+unfoldable pub okayRemote : List Sent → ℕ
+okayRemote [] = 0
+okayRemote (f ∷ fs) = f .arg1
+
+unfoldable pub okayCredit : List Sent → ℕ
+okayCredit [] = 0
+okayCredit (f ∷ fs) = creditIn (f .payload)
+
+-- an open that is done filled the slot that its answer names, with that local number; the remote number is its OKAY's. So did an
+-- accept, with the numbers of the OKAY that it wrote
 unfoldable pub openedB : ℕ → ℕ → Call → Seen → Book → Book
 openedB i asked (openCall out destination received) o b =
     cond (eqb (o .number) 0 && eqb (getD (o .values) 0 0) i) (newBook (getD (o .values) 1 0) (headerAt (bytesIn received) .arg0) asked) b
@@ -310,14 +323,33 @@ openedB i asked (writeCall out ch bytes received) o b = b
 openedB i asked (closeCall out ch) o b = b
 openedB i asked frontTaken o b = b
 openedB i asked (lookCall x) o b = b
+openedB i asked (acceptCall out) o b =
+    cond (eqb (o .number) 0 && eqb (getD (o .values) 0 0) i) (newBook (getD (o .values) 1 0) (okayRemote (o .sent)) (okayCredit (o .sent))) b
+openedB i asked (rejectCall out) o b = b
+openedB i asked letGoCall o b = b
+
+-- the frames whose OKAYs acknowledge: all, but the one by which a channel is accepted
+abbrev pub acking : Call → List Sent → List Sent
+acking (openCall out destination received) fs = fs
+acking (dispatchCall out received) fs = fs
+acking (settleCall out ch want) fs = fs
+acking (takeCall ch buf) fs = fs
+acking (readCall out ch buf received) fs = fs
+acking (writeCall out ch bytes received) fs = fs
+acking (closeCall out ch) fs = fs
+acking frontTaken fs = fs
+acking (lookCall x) fs = fs
+acking (acceptCall out) fs = []
+acking (rejectCall out) fs = fs
+acking letGoCall fs = fs
 
 -- with the OKAYs written that have its local number in arg0, by a refused call too, after the call's other steps
-unfoldable pub acksB : Seen → Book → Book
-acksB o b = cond (b .there) (ackedB (acksOf (b .local) (o .sent)) b) b
+unfoldable pub acksB : List Sent → Book → Book
+acksB fs b = cond (b .there) (ackedB (acksOf (b .local) fs) b) b
 
 -- the book at place i after a call. asked: the credit in the last OPEN written before it
 unfoldable pub bookAfter : RxPolicy → List Book → ℕ → Call → Seen → ℕ → Book → Book
-bookAfter p d asked c o i b = acksB o (openedB i asked c o (cond (b .there) (entryOn p d i c o b) b))
+bookAfter p d asked c o i b = acksB (acking c (o .sent)) (openedB i asked c o (cond (b .there) (entryOn p d i c o b) b))
 
 -- ---- all places
 

@@ -4,7 +4,7 @@ use mathlib.Core.Bool.{true, false}
 use mathlib.Core.List.{List, [], _∷_}
 use mathlib.Core.Path.{_≡_}
 use lib.ListN.{length}
-use Rattle.history.specs.Run.{Call, openCall, dispatchCall, settleCall, takeCall, readCall, writeCall, closeCall, frontTaken, lookCall, Start, begins, policyIn}
+use Rattle.history.specs.Run.{Call, openCall, dispatchCall, settleCall, takeCall, readCall, writeCall, closeCall, frontTaken, lookCall, acceptCall, rejectCall, letGoCall, Start, begins, policyIn}
 use Rattle.history.specs.Seen.{eventsOf}
 use Rattle.history.specs.Book.{Book, clean, bookAt, ledgerOf}
 use Rattle.history.specs.Demand3.{Apart}
@@ -20,6 +20,9 @@ NoTake i (writeCall out ch bytes received) = Unit {0}
 NoTake i (closeCall out ch) = Unit {0}
 NoTake i frontTaken = Unit {0}
 NoTake i (lookCall x) = Unit {0}
+NoTake i (acceptCall out) = Unit {0}
+NoTake i (rejectCall out) = Unit {0}
+NoTake i letGoCall = Unit {0}
 
 -- so is every one: the channel there is read by reads alone
 abbrev pub ReadOnly : ℕ → List Call → Type 0

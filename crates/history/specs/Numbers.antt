@@ -8,7 +8,7 @@ use lib.ListN.{length}
 use Rattle.protocol.specs.Packet.{maxPayload}
 use Rattle.protocol.specs.Command.{isOpen}
 use Rattle.connection.specs.Frames.{Sent}
-use Rattle.history.specs.Run.{Call, openCall, dispatchCall, settleCall, takeCall, readCall, writeCall, closeCall, frontTaken, lookCall, afterAll, Start, begins, policyIn}
+use Rattle.history.specs.Run.{Call, openCall, dispatchCall, settleCall, takeCall, readCall, writeCall, closeCall, frontTaken, lookCall, acceptCall, rejectCall, letGoCall, afterAll, Start, begins, policyIn}
 use Rattle.history.specs.Seen.{Seen, Event, seenOf, eventsOf}
 use Rattle.history.specs.Demand3.{Apart, Claims}
 
@@ -19,7 +19,8 @@ opensIn (f ∷ fs) = isOpen (f .command) || opensIn fs
 
 -- a number is given out by an open call that writes an OPEN, and by one that is refused by 3 with a destination over the
 -- maximum, which moves the next number on and writes nothing. So is a pending open counted that is refused by 3 for a
--- frame while it is handed such a destination, though it gives none out: the count is never too small
+-- frame while it is handed such a destination, though it gives none out: the count is never too small. An accept that is done
+-- gives one out
 unfoldable pub givenBy : Call → Seen → ℕ
 givenBy (openCall out destination received) o = cond (opensIn (o .sent) || (eqb (o .number) 3 && ltb maxPayload (length destination))) 1 0
 givenBy (dispatchCall out received) o = 0
@@ -30,6 +31,9 @@ givenBy (writeCall out ch bytes received) o = 0
 givenBy (closeCall out ch) o = 0
 givenBy frontTaken o = 0
 givenBy (lookCall x) o = 0
+givenBy (acceptCall out) o = cond (eqb (o .number) 0) 1 0
+givenBy (rejectCall out) o = 0
+givenBy letGoCall o = 0
 
 -- by a list of calls
 unfoldable pub givenIn : List Event → ℕ

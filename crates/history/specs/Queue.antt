@@ -8,7 +8,7 @@ use lib.Dec.{eqb, ltb}
 use lib.ListN.{length, take, drop}
 use Rattle.le.specs.Le.{part}
 use Rattle.config.specs.Config.{storesFit}
-use Rattle.incoming.specs.Incoming.{Incoming, queuedOpens, withdrawn}
+use Rattle.incoming.specs.Incoming.{Incoming, queuedAs, queuedOpens, withdrawn}
 use Rattle.protocol.specs.declared.command.Command.{Command}
 use Rattle.protocol.specs.declared.command.Command.the-variants.{Sync, Connect, Open, Ready, Close, Write, Auth, StartTls}
 use Rattle.protocol.specs.declared.packet.Packet.{Packet}
@@ -22,8 +22,8 @@ use Rattle.connection.specs.declared.Answer.{Answer}
 use Rattle.connection.specs.declared.Answer.the-variants.{Nothing, Front as FrontIs}
 use Rattle.connection.specs.declared.Received.{Received}
 use Rattle.connection.specs.declared.Received.the-variants.{Packet as PacketIs, Stop}
-use Rattle.connection.specs.Calls.{Lent, idsIn, slotFor, receivedOf, bodyOf, isDirect}
-use Rattle.history.specs.Run.{bytesIn, Call, openCall, dispatchCall, settleCall, takeCall, readCall, writeCall, closeCall, frontTaken, lookCall, World, lent, outcome, after, afterAll, Start, begins}
+use Rattle.connection.specs.Calls.{Lent, offerIn, isOffered, idsIn, slotFor, receivedOf, bodyOf, isDirect}
+use Rattle.history.specs.Run.{bytesIn, Call, openCall, dispatchCall, settleCall, takeCall, readCall, writeCall, closeCall, frontTaken, lookCall, acceptCall, rejectCall, letGoCall, World, lent, outcome, after, afterAll, Start, begins}
 
 -- what is queued, in order: remote number, credit and destination of each
 unfoldable pub queueOf : Lent → List Incoming
@@ -33,21 +33,31 @@ queueOf l = queuedOpens (l .state .header .negotiated .config .«max_payload») 
 abbrev pub queueIn : World → List Incoming
 queueIn w = queueOf (lent w)
 
+-- the open that is offered, as it was queued: none, or the one that was taken
+unfoldable pub offerOf : Lent → List Incoming
+offerOf l = cond (isOffered l) (queuedAs (l .state .header .negotiated .config .«max_payload») (l .store) (offerIn l) ∷ []) []
+
+-- the one that is offered in the lent bytes
+abbrev pub offeredIn : World → List Incoming
+offeredIn w = offerOf (lent w)
+
 -- ---- what is done to the queue
 
--- nothing, an OPEN put behind the others, those of a remote number taken out, the first taken out
+-- nothing, an OPEN put behind the others, those of a remote number taken out, the first taken out, one put ahead of the others
 pub data QueueMove : Type 0 where
   stays : QueueMove
   pushes : Incoming → QueueMove
   withdraws : RemoteId → QueueMove
   pops : QueueMove
+  returns : Incoming → QueueMove
 
--- `push_back`, which `act_on` does while fewer are queued than there are channels; `withdraw`; `pop_front`
+-- `push_back`, which `act_on` does while fewer are queued than there are channels; `withdraw`; `pop_front`; `push_front`
 unfoldable pub moved : ℕ → QueueMove → List Incoming → List Incoming
 moved channels stays q = q
 moved channels (pushes x) q = cond (ltb (length q) channels) (q ++ x ∷ []) q
 moved channels (withdraws remote) q = withdrawn remote q
 moved channels pops q = drop 1 q
+moved channels (returns x) q = x ∷ q
 
 -- ---- which of them a call does
 
@@ -95,6 +105,11 @@ writeTakes l ch p = (isReady (p .command) && eqb (p .arg1) (slotFor l ch .local 
 unfoldable pub takesNone : Packet → Bool
 takesNone p = false
 
+-- letting go puts what is offered back
+unfoldable pub backMove : List Incoming → QueueMove
+backMove [] = stays
+backMove (x ∷ xs) = returns x
+
 -- the move of each call
 unfoldable pub moveOf : World → Call → QueueMove
 moveOf w (openCall out destination received) =
@@ -110,6 +125,9 @@ moveOf w (writeCall out ch bytes received) =
 moveOf w (closeCall out ch) = stays
 moveOf w frontTaken = pops
 moveOf w (lookCall x) = stays
+moveOf w (acceptCall out) = stays
+moveOf w (rejectCall out) = stays
+moveOf w letGoCall = backMove (offeredIn w)
 
 -- ---- the claim
 
@@ -118,6 +136,21 @@ pub record Hands (x : Incoming) (store : List ℕ) (a : Answer) : Type 0 where
   pub place : ℕ
   pub answer-is : a ≡ FrontIs (x .remote) (x .credit) place (length (x .destination))
   pub destination-is : part store place (length (x .destination)) ≡ x .destination
+
+-- any call but taking the front
+abbrev pub NotFront : Call → Type 0
+NotFront (openCall out destination received) = Unit {0}
+NotFront (dispatchCall out received) = Unit {0}
+NotFront (settleCall out ch want) = Unit {0}
+NotFront (takeCall ch buf) = Unit {0}
+NotFront (readCall out ch buf received) = Unit {0}
+NotFront (writeCall out ch bytes received) = Unit {0}
+NotFront (closeCall out ch) = Unit {0}
+NotFront frontTaken = ⊥
+NotFront (lookCall x) = Unit {0}
+NotFront (acceptCall out) = Unit {0}
+NotFront (rejectCall out) = Unit {0}
+NotFront letGoCall = Unit {0}
 
 -- what holds of the queue after a list of calls
 pub record Queues (channels : ℕ) (w : World) : Type 0 where
@@ -128,6 +161,11 @@ pub record Queues (channels : ℕ) (w : World) : Type 0 where
   -- taking the front hands over the first, or answers that there is none
   pub front : (x : Incoming) (xs : List Incoming) → queueIn w ≡ x ∷ xs → Hands x (after w frontTaken .store) (outcome w frontTaken .answer)
   pub none : queueIn w ≡ [] → outcome w frontTaken .answer ≡ Nothing
+  -- what was taken is offered; let go at once, it is where it was, and so are the others
+  pub offered : offeredIn (after w frontTaken) ≡ take 1 (queueIn w)
+  pub back : queueIn (after (after w frontTaken) letGoCall) ≡ queueIn w
+  -- where one is offered after any other call, that call changed nothing: the offer was there, and each call that acts ends it
+  pub ended : (x : Call) → NotFront x → isOffered (lent (after w x)) ≡ true → outcome w x .changes ≡ []
 
 -- for every make that is not refused, all stores that are not under their lengths, and all lists of calls; at first none
 -- is queued

@@ -14,7 +14,7 @@ use Rattle.state.specs.Change.{putAll}
 use Rattle.state.specs.State.{stateLen, stateOf}
 use Rattle.state_whole.specs.Whole.{isWhole}
 use Rattle.table.specs.declared.ChannelId.{ChannelId}
-use Rattle.connection.specs.Calls.{Lent, Outcome, openOutcome, dispatchOutcome, settleOutcome, takeOutcome, readOutcome, writeOutcome, closeOutcome, takeFrontOutcome, numbersOutcome, makeOf}
+use Rattle.connection.specs.Calls.{Lent, Outcome, openOutcome, dispatchOutcome, settleOutcome, takeOutcome, readOutcome, writeOutcome, closeOutcome, takeFrontOutcome, numbersOutcome, acceptOutcome, rejectOutcome, letGoOutcome, makeOf}
 
 -- numbers as bytes: a caller's list of any numbers stands for bytes
 unfoldable pub bytesIn : List ℕ → List ℕ
@@ -35,6 +35,9 @@ pub data Call : Type 0 where
   closeCall : List ℕ → ChannelId → Call
   frontTaken : Call
   lookCall : Look → Call
+  acceptCall : List ℕ → Call
+  rejectCall : List ℕ → Call
+  letGoCall : Call
 
 -- the outgoing buffer that a call is lent; none where it takes none
 unfoldable pub outOf : Call → List ℕ
@@ -47,6 +50,9 @@ outOf (writeCall out ch bytes received) = out
 outOf (closeCall out ch) = out
 outOf frontTaken = []
 outOf (lookCall x) = []
+outOf (acceptCall out) = out
+outOf (rejectCall out) = out
+outOf letGoCall = []
 
 -- the reader's buffer that it is lent
 unfoldable pub bufOf : Call → List ℕ
@@ -59,6 +65,9 @@ bufOf (writeCall out ch bytes received) = []
 bufOf (closeCall out ch) = []
 bufOf frontTaken = []
 bufOf (lookCall x) = []
+bufOf (acceptCall out) = []
+bufOf (rejectCall out) = []
+bufOf letGoCall = []
 
 -- the received bytes that it is handed
 unfoldable pub receivedIn : Call → List ℕ
@@ -71,6 +80,9 @@ receivedIn (writeCall out ch bytes received) = bytesIn received
 receivedIn (closeCall out ch) = []
 receivedIn frontTaken = []
 receivedIn (lookCall x) = []
+receivedIn (acceptCall out) = []
+receivedIn (rejectCall out) = []
+receivedIn letGoCall = []
 
 -- the lent bytes that last from call to call
 pub record World : Type 0 where
@@ -97,6 +109,9 @@ outcome w (writeCall out ch bytes received) = writeOutcome (isWhole (w .state)) 
 outcome w (closeCall out ch) = closeOutcome (isWhole (w .state)) (lent w) (length out) ch
 outcome w frontTaken = takeFrontOutcome (isWhole (w .state)) (lent w)
 outcome w (lookCall x) = lookOutcome (isWhole (w .state)) (lent w) x
+outcome w (acceptCall out) = acceptOutcome (isWhole (w .state)) (lent w) (length out)
+outcome w (rejectCall out) = rejectOutcome (isWhole (w .state)) (lent w) (length out)
+outcome w letGoCall = letGoOutcome (isWhole (w .state)) (lent w)
 
 -- what a call leaves
 unfoldable pub after : World → Call → World

@@ -13,7 +13,7 @@ use Rattle.protocol.specs.Packet.{maxPayload, payloadOf, decodeOf, usedOf}
 use Rattle.connection.specs.Answer.{answerNumber, answerValues}
 use Rattle.connection.specs.Calls.{Outcome, writtenBy}
 use Rattle.connection.specs.Frames.{Sent, framesBytes}
-use Rattle.history.specs.Run.{Call, openCall, dispatchCall, settleCall, takeCall, readCall, writeCall, closeCall, frontTaken, lookCall, outOf, bufOf, World, lent, outcome, after}
+use Rattle.history.specs.Run.{Call, openCall, dispatchCall, settleCall, takeCall, readCall, writeCall, closeCall, frontTaken, lookCall, acceptCall, rejectCall, letGoCall, outOf, bufOf, World, lent, outcome, after}
 
 -- what a caller holds after a call: the number, what the answer says (bytes used, bytes written, values), and both buffers as
 -- they are then
@@ -57,6 +57,9 @@ countOf (writeCall out ch bytes received) number values = 0
 countOf (closeCall out ch) number values = 0
 countOf frontTaken number values = 0
 countOf (lookCall x) number values = 0
+countOf (acceptCall out) number values = 0
+countOf (rejectCall out) number values = 0
+countOf letGoCall number values = 0
 
 -- what bytes begin with, before the frames behind it
 unfoldable pub sentBy : List ℕ → List Sent → Decoded → List Sent

@@ -51,7 +51,7 @@ module _ (b : List ℕ) (ks : List QueuedOpen) (h : length ks ≤ 64) (l : state
       rw (part-put-above b queueAt (flat queuedBytes ks) (queueAt + i * queuedLen) queuedLen (omega arith) (omega arith))
 
   -- one more is put behind them
-  put-opens-next : (q : QueuedOpen) → length ks < 64 → putQueued (putQueue b ks) (length ks) q ≡ putQueue b (ks ++ (q ∷ []))
+  pub put-opens-next : (q : QueuedOpen) → length ks < 64 → putQueued (putQueue b ks) (length ks) q ≡ putQueue b (ks ++ (q ∷ []))
   unfolding putQueue putQueued flat
   put-opens-next q k =
       let n = length-flat queuedLen queuedBytes length-open ks in
@@ -105,3 +105,40 @@ module _ (keep : Keep) (b : List ℕ) (from : ℕ) where
             count-is = simp length-append (omega arith);
             state-is = p ∙ rw (n, r .state-is) (put-opens-next b ks (omega arith) l q (omega arith));
           })
+
+-- ---- one put first: the others are carried down, each to the next place
+
+-- at place i: once what is carried is put there, the first i stand behind the new one; what is behind is as it was
+pub record Carries (b : List ℕ) (first : QueuedOpen) (i : ℕ) (x : List ℕ) (carried : QueuedOpen) : Type 0 where
+  pub then-is : putQueued x i carried ≡ putQueue b (first ∷ take i (stateOf b .queue))
+  pub behind : (j : ℕ) → i ≤ j → queuedAt x j ≡ queuedAt b j
+
+module _ (b : List ℕ) (first : QueuedOpen) (l : stateLen ≤ length b) where
+  -- at its start the new one is carried
+  pub carries-first : Carries b first 0 b first
+  carries-first =
+      record {
+        then-is = ap (λ (x : List ℕ). putQueued x 0 first) (sym (queue-none b)) ∙ put-opens-next b [] (omega arith) l first (omega arith);
+        behind = λ j k. refl;
+      }
+
+  module _ (i : ℕ) (h : i + 1 < 64) (x : List ℕ) (carried : QueuedOpen) (g : Carries b first i x carried) where
+    -- what was carried is put, and what stood there is carried on
+    pub carries-next : (next : QueuedOpen) (y : List ℕ) → next ≡ queuedAt x i → y ≡ putQueued x i carried → Carries b first (i + 1) y next
+    carries-next next y e p =
+        let queue = stateOf b .queue in
+        let z = state-full b .queue in
+        let ks = first ∷ take i queue in
+        let n : length (take i queue) ≡ i = simp length-take (omega arith) in
+        let q : next ≡ queuedAt b i = e ∙ g .behind i (omega arith) in
+        let m : y ≡ putQueue b ks = p ∙ g .then-is in
+        let t : take (i + 1) queue ≡ take i queue ++ (queuedAt b i ∷ []) =
+        rw add-one (take-suc queue i (queuedAt b i) (omega arith) ∙ ap (λ (o : QueuedOpen). take i queue ++ (o ∷ [])) (open-in b i (queuedAt b i) (omega arith))) in
+        let k : length ks ≡ i + 1 = omega arith in
+        record {
+          then-is =
+              ap (λ (o : List ℕ). putQueued o (i + 1) next) m ∙ ap (λ (o : ℕ). putQueued (putQueue b ks) o next) (sym k)
+              ∙ put-opens-next b ks (omega arith) l next (omega arith) ∙ ap (λ (o : QueuedOpen). putQueue b (ks ++ (o ∷ []))) q
+              ∙ ap (λ (o : List QueuedOpen). putQueue b (first ∷ o)) (sym t);
+          behind = λ j f. ap (λ (o : List ℕ). queuedAt o j) m ∙ put-opens-behind b ks (omega arith) l j (omega arith);
+        }

@@ -2,14 +2,14 @@
 -- Assumes nothing.
 use mathlib.Core.Path.{_≡_, refl, sym, ap, _∙_}
 use mathlib.Core.Bool.{true, false}
-use mathlib.Core.List.{List, [], _∷_, _++_}
-use Prim.Native.Nat.{ℕ, zero, suc, _+_, _-_, _*_, _≤_, _<_}
+use mathlib.Core.List.{List, [], _∷_, _++_, append-assoc}
+use Prim.Native.Nat.{ℕ, _+_, _-_, _*_, _≤_, _<_}
 use native.Mathlib.Numerals.{add-one}
 use native.Mathlib.Omega.{arith}
 use borrow.Author.Tests.{lt-ltb, le-leb, leb-true, leb-false, eqb-false}
 use lib.Dec.{eqb, leb}
 use lib.ListN.{length, take, drop, getD, set, length-take, length-drop}
-use lib.Seq.{take-suc-set, take-append-seam, take-at}
+use lib.Seq.{take-suc-set, take-append-seam, take-at, getD-append-add}
 use Rattle.config.proofs.Laws.{and-true}
 use Rattle.le.specs.Le.{part, put}
 use Rattle.le.proofs.Parts.{by-test, part-put-same}
@@ -18,14 +18,14 @@ use Rattle.slot.specs.declared.ids.RemoteId.{RemoteId}
 use Rattle.state.specs.declared.Header.{Header}
 use Rattle.state.specs.declared.QueuedOpen.{QueuedOpen}
 use Rattle.state.specs.Change.{changedAll}
-use Rattle.state.specs.State.{Connection}
+use Rattle.state.specs.State.{noneQueued, Connection}
 use Rattle.state_whole.specs.Whole.{queuedFine, queueFine}
 use Rattle.le.proofs.RowLaws.{walk-here, never, Every}
 use Rattle.incoming.specs.declared.Front.the-variants.{Open, Nothing}
 use Rattle.incoming.specs.declared.Keep.{Keep}
 use Rattle.incoming.specs.declared.Keep.the-variants.{Without}
 use Rattle.incoming.specs.declared.Pushed.the-variants.{Queued, Full}
-use Rattle.incoming.specs.Incoming.{queuedAs, queuedOpens, named, freeShare, staysBy, kept, withdrawn, withQueued, noneQueued, withdrawal, popped, nextShare, pushed}
+use Rattle.incoming.specs.Incoming.{queuedAs, queuedOpens, named, freeShare, staysBy, kept, withdrawn, withQueued, withdrawal, offering, popped, returned, nextShare, pushed}
 use Rattle.incoming.proofs.ShareLaws.{free-unused, next-below, share-fits}
 
 waits-append : (payload : ℕ) (store : List ℕ) (x y : List QueuedOpen) → queuedOpens payload store (x ++ y) ≡ queuedOpens payload store x ++ queuedOpens payload store y
@@ -34,10 +34,14 @@ waits-append payload store [] y = refl
 waits-append payload store (q ∷ x) y = rw (waits-append payload store x y)
 
 -- what a fine list of entries says of the first and of the rest
-fine-parts : (channels payload : ℕ) (q : QueuedOpen) (qs : List QueuedOpen) → queueFine channels payload (q ∷ qs) ≡ true
+pub fine-parts : (channels payload : ℕ) (q : QueuedOpen) (qs : List QueuedOpen) → queueFine channels payload (q ∷ qs) ≡ true
     → (queuedFine channels payload q ≡ true) × (queueFine channels payload qs ≡ true)
 unfolding queueFine
 fine-parts channels payload q qs e = and-true (queuedFine channels payload q) (queueFine channels payload qs) e
+
+-- what is put behind others stands there
+pub getD-behind : {A : Type 0} (ks : List A) (o : A) (v : List A) (d : A) (i : ℕ) → length ks ≡ i → getD (ks ++ o ∷ v) i d ≡ o
+getD-behind ks o v d i n = let z : i ≡ length ks + 0 = omega arith in ap (λ (j : ℕ). getD (ks ++ o ∷ v) j d) z ∙ getD-append-add ks (o ∷ v) 0 d
 
 -- ---- a push
 
@@ -147,12 +151,43 @@ module _ (c : Connection) (h : Header) (store : List ℕ) where
       (λ t. let x : Nothing ≡ Open q m = rw t at e in let z : true ≡ false = cc in never (sym z))
       (λ t.
       let d = eqb-false (h .queued) 0 t in
-      let x : Open (getD (c .queue) 0 noneQueued) (withQueued h (h .queued - 1)) ≡ Open q m = rw t at e in
+      let x : Open (getD (c .queue) 0 noneQueued) (offering (withQueued h (h .queued - 1))) ≡ Open q m = rw t at e in
       let a : getD (c .queue) 0 noneQueued ≡ q = cc in
-      let k : withQueued h (h .queued - 1) ≡ m = cc in
+      let k : offering (withQueued h (h .queued - 1)) ≡ m = cc in
       let n : length ks ≡ h .queued - 1 = simp (length-drop, length-take) (omega arith) in
-      let f : take (h .queued - 1) (ks ++ drop (length ks) (c .queue)) ≡ ks = take-at ks (drop (length ks) (c .queue)) (h .queued - 1) n in
+      let front = getD (c .queue) 0 noneQueued in
+      let f : take (h .queued - 1) ((ks ++ front ∷ []) ++ drop (length (ks ++ front ∷ [])) (c .queue)) ≡ ks =
+      ap (take (h .queued - 1)) (append-assoc ks (front ∷ []) (drop (length (ks ++ front ∷ [])) (c .queue))) ∙ take-at ks (front ∷ drop (length (ks ++ front ∷ [])) (c .queue)) (h .queued - 1) n in
       rw (t, ← k, f, ← a) (pop-waits payload store (h .queued) (c .queue) (omega arith) places))
+
+  -- it stands behind the others as it stood before them
+  pub popped-offers : (q : QueuedOpen) (m : Header) → popped h (c .queue) .result ≡ Open q m → h .queued ≤ length (c .queue)
+      → getD (changedAll c (popped h (c .queue) .changes) .queue) (m .queued) noneQueued ≡ q
+  unfolding popped
+  popped-offers q m e places =
+      let ks = drop 1 (take (h .queued) (c .queue)) in
+      by-test (eqb (h .queued) 0)
+      (λ t. let x : Nothing ≡ Open q m = rw t at e in let z : true ≡ false = cc in never (sym z))
+      (λ t.
+      let d = eqb-false (h .queued) 0 t in
+      let x : Open (getD (c .queue) 0 noneQueued) (offering (withQueued h (h .queued - 1))) ≡ Open q m = rw t at e in
+      let a : getD (c .queue) 0 noneQueued ≡ q = cc in
+      let k : offering (withQueued h (h .queued - 1)) ≡ m = cc in
+      let n : length ks ≡ h .queued - 1 = simp (length-drop, length-take) (omega arith) in
+      let front = getD (c .queue) 0 noneQueued in
+      let v = drop (length (ks ++ front ∷ [])) (c .queue) in
+      rw (t, ← k, ← a)
+      (ap (λ (y : List QueuedOpen). getD y (h .queued - 1) noneQueued) (append-assoc ks (front ∷ []) v) ∙ getD-behind ks front v noneQueued (h .queued - 1) n))
+
+  -- one that is put back stands ahead of the others
+  pub returned-waits : (q : QueuedOpen) → h .queued < length (c .queue)
+      → queuedOpens (h .negotiated .config .«max_payload») store (take (returned h (c .queue) q .result .queued) (changedAll c (returned h (c .queue) q .changes) .queue))
+      ≡ queuedAs (h .negotiated .config .«max_payload») store q ∷ queuedOpens (h .negotiated .config .«max_payload») store (take (h .queued) (c .queue))
+  unfolding returned queuedOpens
+  returned-waits q places =
+      let ks = q ∷ take (h .queued) (c .queue) in
+      let n : length ks ≡ h .queued + 1 = simp length-take (omega arith) in
+      ap (queuedOpens (h .negotiated .config .«max_payload») store) (take-at ks (drop (length ks) (c .queue)) (h .queued + 1) n)
 
 -- ---- entries of a whole state stay so
 
@@ -161,6 +196,15 @@ module _ (channels payload : ℕ) where
   unfolding queueFine
   fine-append [] y e f = f
   fine-append (q ∷ x) y e f = let e₁ = fine-parts channels payload q x e in rw (e₁ .0) (fine-append x y (e₁ .1) f)
+
+  -- one more ahead of them, and behind them
+  pub fine-cons : (q : QueuedOpen) (qs : List QueuedOpen) → queuedFine channels payload q ≡ true → queueFine channels payload qs ≡ true → queueFine channels payload (q ∷ qs) ≡ true
+  unfolding queueFine
+  fine-cons q qs e f = rw e f
+
+  pub fine-snoc : (qs : List QueuedOpen) (q : QueuedOpen) → queueFine channels payload qs ≡ true → queuedFine channels payload q ≡ true → queueFine channels payload (qs ++ q ∷ []) ≡ true
+  unfolding queueFine
+  fine-snoc qs q e f = fine-append qs (q ∷ []) e (fine-cons q [] f refl)
 
   -- a push: the new entry is fine, the others are as before
   pub push-fine : (queued : ℕ) (queue : List QueuedOpen) (q : QueuedOpen) → queued < length queue → queueFine channels payload (take queued queue) ≡ true
@@ -178,13 +222,6 @@ module _ (channels payload : ℕ) where
       let e₁ = fine-parts channels payload q qs e in
       let r = kept-fine keep qs (e₁ .1) in
       by-test (staysBy keep q) (λ t. rw (t, e₁ .0) r) (λ t. rw t r)
-
-  -- a pop
-  pub rest-fine : (n : ℕ) (qs : List QueuedOpen) → queueFine channels payload qs ≡ true → queueFine channels payload (drop n qs) ≡ true
-  unfolding queueFine
-  rest-fine zero qs e = e
-  rest-fine (suc n) [] e = refl
-  rest-fine (suc n) (q ∷ qs) e = rest-fine n qs (fine-parts channels payload q qs e .1)
 
 -- what holds of every entry holds of every one that stays
 pub kept-every : (P : QueuedOpen → Type 0) (keep : Keep) (qs : List QueuedOpen) → Every P qs → Every P (kept keep qs)

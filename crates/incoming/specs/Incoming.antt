@@ -1,14 +1,15 @@
 -- The device's queued OPENs (incoming.rs): the first `queued` of the state's 64 entries, and their
 -- destinations in the open store, share k from byte k * max_payload on. Assumes nothing.
-use Prim.Native.Nat.{ℕ, zero, suc, _+_, _-_, _*_, _≤_}
+use Prim.Native.Nat.{ℕ, zero, suc, _+_, _-_, _*_, _≤_, _<_}
 use mathlib.Core.Bool.{Bool, true, false, not, cond, _||_}
 use mathlib.Core.Path.{_≡_}
-use mathlib.Core.List.{List, [], _∷_}
+use mathlib.Core.List.{List, [], _∷_, _++_}
 use lib.Dec.{eqb, leb}
 use lib.ListN.{length, take, drop, getD}
 use Rattle.le.specs.Le.{part, put}
 use Rattle.slot.specs.declared.ids.RemoteId.{RemoteId}
 use Rattle.state.specs.declared.Header.{Header}
+use Rattle.state.specs.declared.Pending.the-variants.{Offer}
 use Rattle.state.specs.declared.QueuedOpen.{QueuedOpen}
 use Rattle.state.specs.Change.{Change, queuedTo, queueTo, putQueue, putAll, Step}
 use Rattle.incoming.specs.declared.Front.{Front}
@@ -17,7 +18,7 @@ use Rattle.incoming.specs.declared.Keep.{Keep}
 use Rattle.incoming.specs.declared.Keep.the-variants.{All, Without}
 use Rattle.incoming.specs.declared.Pushed.{Pushed}
 use Rattle.incoming.specs.declared.Pushed.the-variants.{Queued, Full}
-use Rattle.state.specs.State.{stateLen}
+use Rattle.state.specs.State.{stateLen, noneQueued}
 
 -- ---- what is queued
 
@@ -74,7 +75,7 @@ pub record Retains (qs : List QueuedOpen) (before : List ℕ) (r : ℕ) (after :
   pub count-is : r ≡ length qs
   pub state-is : after ≡ putQueue before qs
 
--- ---- what withdraw and pop_front do
+-- ---- what withdraw, pop_front and push_front do
 
 -- what both ask for: a whole state's length, no more than 64 channels, no more OPENs than channels
 pub record QueueOk (h : Header) (state : ℕ) : Type 0 where
@@ -94,15 +95,33 @@ withdrawal h queue gone =
       changes = queueTo (kept (Without gone) (take (h .queued) queue)) ∷ [];
     }
 
--- an entry of zeros, for places past the end
-abbrev pub noneQueued : QueuedOpen
-noneQueued = record { remote = record { 0 = 0 }; credit = 0; share = 0; length = 0 }
+-- a header that says that the entry behind those that are queued is an offer
+abbrev pub offering : Header → Header
+offering h =
+    record {
+      negotiated = h .negotiated;
+      «next_local» = h .«next_local»;
+      pending = record { what = Offer; slot = h .pending .slot; local = h .pending .local };
+      queued = h .queued;
+    }
 
--- the first goes, the others move up; nothing where none is queued
+-- the first goes, the others move up, and it stands behind them as an offer; nothing where none is queued
 unfoldable pub popped : Header → List QueuedOpen → Step Front
 popped h queue =
     cond (eqb (h .queued) 0) (record { result = Nothing; changes = [] })
-    (record { result = Open (getD queue 0 noneQueued) (withQueued h (h .queued - 1)); changes = queueTo (drop 1 (take (h .queued) queue)) ∷ [] })
+    (record {
+      result = Open (getD queue 0 noneQueued) (offering (withQueued h (h .queued - 1)));
+      changes = queueTo (drop 1 (take (h .queued) queue) ++ getD queue 0 noneQueued ∷ []) ∷ [];
+    })
+
+-- what push_front asks for: a whole state's length, room for one more
+pub record FrontRoom (h : Header) (state : ℕ) : Type 0 where
+  pub state-long : stateLen ≤ state
+  pub room : h .queued < 64
+
+-- one is put ahead of those that are queued
+unfoldable pub returned : Header → List QueuedOpen → QueuedOpen → Step Header
+returned h queue q = record { result = withQueued h (h .queued + 1); changes = queueTo (q ∷ take (h .queued) queue) ∷ [] }
 
 -- ---- what push_back does
 

@@ -3,17 +3,20 @@
 // by value: the caller stores it once.
 use slot::ids::RemoteId;
 use state::Header;
+use state::Pending;
+use state::PendingOpen;
 use state::QueuedOpen;
 use state::put_queued;
 use state::queued_at;
 ghost use mathlib.Core.Path.{_≡_};
-ghost use Prim.Native.Nat.{_≤_};
+ghost use Prim.Native.Nat.{_≤_, _<_};
+ghost use mathlib.Core.List.{_∷_};
 ghost use lib.ListN.{length, take, drop};
-ghost use Rattle.state.specs.Change.{Steps};
+ghost use Rattle.state.specs.Change.{putQueue, Steps};
 ghost use Rattle.state.specs.State.{stateLen, stateOf};
 ghost use Rattle.incoming.specs.Numbers.{pushedNumber, frontNumber};
 ghost use Rattle.incoming.specs.Incoming.{named, freeShare, staysBy, kept, withQueued, Retains, QueueOk, withdrawal, popped};
-ghost use Rattle.incoming.specs.Incoming.{PushRoom, Pushes, pushed};
+ghost use Rattle.incoming.specs.Incoming.{PushRoom, Pushes, pushed, offering, FrontRoom, returned};
 
 // Which of the queued OPENs stay.
 pub enum Keep {
@@ -127,6 +130,38 @@ fn with_queued(h: Header, queued: usize) -> Header
     moved
 }
 
+// The entry behind those that are queued is an offer.
+fn offer_behind(h: Header) -> Header
+    ensures { λ r. ⌜ r ≡ offering h ⌝ }
+{
+    let pending = h.pending;
+    let local = pending.local;
+    let offer = PendingOpen {
+        what: Pending::Offer,
+        slot: pending.slot,
+        local,
+    };
+    let mut offered = h;
+    offered.pending = offer;
+    offered
+}
+
+// Puts one ahead of the first `queued`, which move down a place each.
+fn put_first(state: &mut [u8], queued: usize, first: QueuedOpen)
+    requires { ⌜ (queued < 64) × (stateLen ≤ length (now state)) ⌝ }
+    ensures { λ _. ⌜ now (state .exit) ≡ putQueue (now (state .entry)) (first ∷ take queued (stateOf (now (state .entry)) .queue)) ⌝ }
+{
+    let mut carried = first;
+    let mut i = 0;
+    while i < queued {
+        let next = queued_at(state, i);
+        put_queued(state, i, carried);
+        carried = next;
+        i += 1;
+    }
+    put_queued(state, queued, carried);
+}
+
 // An OPEN put behind those that are queued, its destination in a share that none of them uses; refused while as many are queued as
 // there are channels.
 pub fn push_back(
@@ -173,7 +208,8 @@ pub fn withdraw(state: &mut [u8], h: Header, remote: RemoteId) -> Header
     with_queued(h, left)
 }
 
-// Takes the one that was queued first; its destination lies in the open store until the next push.
+// Takes the one that was queued first, which stands behind the others as an offer; its destination lies in the open store
+// until the next push.
 pub fn pop_front(state: &mut [u8], h: Header) -> Front
     requires { ⌜ QueueOk h (length (now state)) ⌝ }
     ensures { λ r. ⌜ Steps (popped h (stateOf (now (state .entry)) .queue)) (now (state .entry)) r (now (state .exit)) ⌝ }
@@ -183,5 +219,16 @@ pub fn pop_front(state: &mut [u8], h: Header) -> Front
     }
     let front = queued_at(state, 0);
     let left = retain(state, 1, h.queued, Keep::All);
-    Front::Open(front, with_queued(h, left))
+    put_queued(state, left, front);
+    Front::Open(front, offer_behind(with_queued(h, left)))
+}
+
+// Puts one that was taken back ahead of the others.
+pub fn push_front(state: &mut [u8], h: Header, q: QueuedOpen) -> Header
+    requires { ⌜ FrontRoom h (length (now state)) ⌝ }
+    ensures { λ r. ⌜ Steps (returned h (stateOf (now (state .entry)) .queue) q) (now (state .entry)) r (now (state .exit)) ⌝ }
+{
+    let queued = h.queued;
+    put_first(state, queued, q);
+    with_queued(h, queued + 1)
 }

@@ -30,6 +30,7 @@ use Rattle.credit.specs.Credit.{creditNumber, creditOf}
 use Rattle.slot.specs.Numbers.{decisionNumber, takenNumber}
 use Rattle.slot.specs.Slot.{acceptedSlot, isClosed, wroteOf, settledOf, takenOf}
 use Rattle.state.specs.declared.Header.{Header}
+use Rattle.state.specs.declared.Pending.the-variants.{Nothing as NothingPending}
 use Rattle.state.specs.declared.QueuedOpen.{QueuedOpen}
 use Rattle.state.specs.Change.{changedAll}
 use Rattle.state.specs.State.{Connection}
@@ -113,7 +114,7 @@ header-of queued =
     record {
       negotiated = negotiatedOf true true 0x0100_0001 4096 (record { channels = 2; «max_payload» = 4096; «max_rx_per_channel» = 16384; «initial_ack_bytes» = 32768 });
       «next_local» = 2;
-      pending = record { on = false; slot = 0; local = record { 0 = 0 } };
+      pending = record { what = NothingPending; slot = 0; local = record { 0 = 0 } };
       queued = queued;
     }
 

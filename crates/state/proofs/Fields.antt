@@ -10,7 +10,7 @@ use Rattle.le.proofs.Parts.{put-seq, length-part, lent-part, lent-back}
 use Rattle.slot.specs.declared.ChannelSlot.{ChannelSlot}
 use Rattle.state.specs.declared.Header.{Header}
 use Rattle.state.specs.declared.QueuedOpen.{QueuedOpen}
-use Rattle.state.specs.State.{headerLen, queuedLen, tagAt, slotLen, flagByte, slotNumbers, slotCounts, tagOf, slotBytes, queuedBytes, headerSizes, headerWords, headerTags, stateHeader, putHeader}
+use Rattle.state.specs.State.{headerLen, queuedLen, tagAt, slotLen, flagByte, pendingTag, slotNumbers, slotCounts, tagOf, slotBytes, queuedBytes, headerSizes, headerWords, headerTags, stateHeader, putHeader}
 
 pub numbers-put : (d : List ℕ) (s : ChannelSlot) → slotLen ≤ length d
     → put (put (put (put (put d 0 (bytesOf 4 (s .local .0))) 4 (bytesOf 4 (s .remote .0))) 8 (bytesOf 8 (unsigned 63 (s .«send_budget»)))) 16 (bytesOf 8 (s .unacked))) 24 (bytesOf 8 (s .«acked_total»)) ≡ put d 0 (slotNumbers s)
@@ -60,9 +60,9 @@ words-put d h k =
     (omega arith)
 
 pub header-tags-put : (d : List ℕ) (h : Header) → headerLen ≤ length d
-    → put (put d 56 (bytesOf 1 (flagByte (h .negotiated .«delayed_ack»)))) 57 (bytesOf 1 (flagByte (h .pending .on))) ≡ put d 56 (headerTags h)
+    → put (put d 56 (bytesOf 1 (flagByte (h .negotiated .«delayed_ack»)))) 57 (bytesOf 1 (pendingTag (h .pending .what))) ≡ put d 56 (headerTags h)
 unfolding headerTags bytesOf
-header-tags-put d h k = put-seq d 56 (bytesOf 1 (flagByte (h .negotiated .«delayed_ack»))) (bytesOf 1 (flagByte (h .pending .on)) ∷ []) (omega arith)
+header-tags-put d h k = put-seq d 56 (bytesOf 1 (flagByte (h .negotiated .«delayed_ack»))) (bytesOf 1 (pendingTag (h .pending .what)) ∷ []) (omega arith)
 
 pub length-header : (h : Header) → length (stateHeader h) ≡ headerLen
 unfolding stateHeader headerSizes headerWords headerTags bytesOf

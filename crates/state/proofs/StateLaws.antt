@@ -22,9 +22,11 @@ use Rattle.slot.specs.declared.ChannelState.the-variants.{Opening, Open, Closed
 use Rattle.slot.specs.declared.Failed.{Failed}
 use Rattle.slot.specs.declared.Failed.the-variants.{No, By}
 use Rattle.state.specs.declared.Header.{Header}
+use Rattle.state.specs.declared.Pending.{Pending}
+use Rattle.state.specs.declared.Pending.the-variants.{Nothing as NothingPending, Opening as OursPending, Offer}
 use Rattle.state.specs.declared.QueuedOpen.{QueuedOpen}
 use Rattle.le.specs.Rows.{flat, rows, allIs}
-use Rattle.state.specs.State.{headerLen, queueAt, queuedLen, tagAt, slotLen, stateLen, Connection, flagOf, flagByte, stateOfTag, stateTag, failedOfTag, failedTag, slotNumbers, slotCounts, tagOf, slotBytes, slotOf, isTag, isSlot, queuedBytes, queuedOf, headerSizes, headerWords, headerTags, stateHeader, headerOf, layout, stateOf, isState, slotAt, queuedAt, putSlot, putQueued, putHeader, withSlot, withHeader, withQueuedAt}
+use Rattle.state.specs.State.{headerLen, queueAt, queuedLen, tagAt, slotLen, stateLen, Connection, flagOf, flagByte, stateOfTag, stateTag, failedOfTag, failedTag, pendingOfTag, pendingTag, slotNumbers, slotCounts, tagOf, slotBytes, slotOf, isTag, isSlot, queuedBytes, queuedOf, headerSizes, headerWords, headerTags, stateHeader, headerOf, layout, stateOf, isState, slotAt, queuedAt, putSlot, putQueued, putHeader, withSlot, withHeader, withQueuedAt}
 use Rattle.state.proofs.Fields.{length-slot, length-open, length-header}
 use Rattle.le.proofs.RowLaws.{put-at, put-row, length-flat, length-rows, row-at, flat-rows, Every, rows-flat, rows-fit, all-flat}
 
@@ -61,6 +63,29 @@ failed-num (suc (suc (suc (suc (suc (suc v)))))) h = absurd (omega arith)
 
 flag-back : (l : List ℕ) (a : ℕ) → a + 1 ≤ length l → getD l a 0 ≤ 1 → bytesOf 1 (flagByte (flagOf (getD l a 0))) ≡ part l a 1
 flag-back l a h k = flag-same (getD l a 0) k ∙ sym (one l a h)
+
+pending-num : (v : ℕ) → v ≤ 2 → pendingTag (pendingOfTag v) ≡ v
+pending-num zero h = refl
+pending-num (suc zero) h = refl
+pending-num (suc (suc zero)) h = refl
+pending-num (suc (suc (suc v))) h = absurd (omega arith)
+
+pending-same : (v : ℕ) → v ≤ 2 → bytesOf 1 (pendingTag (pendingOfTag v)) ≡ v ∷ []
+unfolding bytesOf
+pending-same v h = let e : v % 256 ≡ v = omega arith in rw (pending-num v h, e)
+
+pending-back : (l : List ℕ) (a : ℕ) → a + 1 ≤ length l → getD l a 0 ≤ 2 → bytesOf 1 (pendingTag (pendingOfTag (getD l a 0))) ≡ part l a 1
+pending-back l a h k = pending-same (getD l a 0) k ∙ sym (one l a h)
+
+pending-forth : (w : Pending) → pendingOfTag (pendingTag w % 256) ≡ w
+pending-forth NothingPending = refl
+pending-forth OursPending = refl
+pending-forth Offer = refl
+
+pending-byte-le : (w : Pending) → pendingTag w % 256 ≤ 2
+pending-byte-le NothingPending = omega arith
+pending-byte-le OursPending = omega arith
+pending-byte-le Offer = omega arith
 
 flag-forth : (f : Bool) → flagOf (flagByte f % 256) ≡ f
 flag-forth true = refl
@@ -306,7 +331,7 @@ unfolding headerOf stateHeader headerSizes headerWords headerTags bytesOf part
 header-forth h r f =
     rw (
       flag-forth (h .negotiated .«delayed_ack»),
-      flag-forth (h .pending .on),
+      pending-forth (h .pending .what),
       write-read 8 (h .negotiated .config .channels) (f .channels),
       write-read 8 (h .negotiated .config .«max_rx_per_channel») (f .rx),
       write-read 8 (h .pending .slot) (f .place),
@@ -319,7 +344,7 @@ header-forth h r f =
       write-read 4 (h .pending .local .0) (f .local),
     )
 
-header-back : (l : List ℕ) → Bytes l → headerLen ≤ length l → getD l 56 0 ≤ 1 → getD l 57 0 ≤ 1 → stateHeader (headerOf l) ≡ take headerLen l
+header-back : (l : List ℕ) → Bytes l → headerLen ≤ length l → getD l 56 0 ≤ 1 → getD l 57 0 ≤ 2 → stateHeader (headerOf l) ≡ take headerLen l
 unfolding stateHeader headerSizes headerWords headerTags headerOf
 header-back l b h s t =
     rw (
@@ -334,7 +359,7 @@ header-back l b h s t =
       read-write-part l 48 4 b (omega arith),
       read-write-part l 52 4 b (omega arith),
       flag-back l 56 (omega arith) s,
-      flag-back l 57 (omega arith) t,
+      pending-back l 57 (omega arith) t,
       part-join l 0 8 8,
       part-join l 0 16 8,
       part-join l 0 24 8,
@@ -349,9 +374,9 @@ header-back l b h s t =
     )
     (part-start l headerLen)
 
-header-flags : (h : Header) (r : List ℕ) → (getD (stateHeader h ++ r) 56 0 ≤ 1) × (getD (stateHeader h ++ r) 57 0 ≤ 1)
+header-flags : (h : Header) (r : List ℕ) → (getD (stateHeader h ++ r) 56 0 ≤ 1) × (getD (stateHeader h ++ r) 57 0 ≤ 2)
 unfolding stateHeader headerSizes headerWords headerTags bytesOf
-header-flags h r = (flag-byte-le (h .negotiated .«delayed_ack»), flag-byte-le (h .pending .on))
+header-flags h r = (flag-byte-le (h .negotiated .«delayed_ack»), pending-byte-le (h .pending .what))
 
 -- ---- the whole
 
@@ -359,7 +384,7 @@ header-flags h r = (flag-byte-le (h .negotiated .«delayed_ack»), flag-byte-le 
 pub record StateTests (b : List ℕ) : Type 0 where
   pub long : stateLen ≤ length b
   pub delayed : getD b 56 0 ≤ 1
-  pub pending-open : getD b 57 0 ≤ 1
+  pub pending-open : getD b 57 0 ≤ 2
   pub slots : allIs slotLen isSlot 64 (drop headerLen b) ≡ true
 
 pub state-tests : (b : List ℕ) → isState b ≡ true → StateTests b
@@ -568,7 +593,7 @@ layout-is-state c r f =
     let d : drop headerLen (h ++ x ++ q ++ r) ≡ x ++ (q ++ r) = rw g (drop-at h (x ++ (q ++ r)) headerLen n) in
     let s : allIs slotLen isSlot 64 (x ++ (q ++ r)) ≡ true = rw a at (all-flat slotLen slotBytes isSlot length-slot slot-is (c .slots) (q ++ r)) in
     let z = rw (← g) at (header-flags (c .header) (x ++ (q ++ r))) in
-    rw (le-leb stateLen (length (h ++ x ++ q ++ r)) long, le-leb (getD (h ++ x ++ q ++ r) 56 0) 1 (z .0), le-leb (getD (h ++ x ++ q ++ r) 57 0) 1 (z .1), d) s
+    rw (le-leb stateLen (length (h ++ x ++ q ++ r)) long, le-leb (getD (h ++ x ++ q ++ r) 56 0) 1 (z .0), le-leb (getD (h ++ x ++ q ++ r) 57 0) 2 (z .1), d) s
 
 -- ---- what is put is read back, and the others stay
 

@@ -1,6 +1,6 @@
 -- A connection's state, and its bytes (docs/LAYOUT.md). Assumes nothing.
 use Prim.Native.Nat.{ℕ, _+_, _*_, _/_, _%_}
-use mathlib.Core.Bool.{Bool, cond, _&&_}
+use mathlib.Core.Bool.{Bool, true, false, cond, _&&_}
 use mathlib.Core.List.{List, _++_}
 use lib.Dec.{leb, eqb}
 use lib.ListN.{length, getD, set, drop}
@@ -13,6 +13,8 @@ use Rattle.slot.specs.declared.ChannelState.the-variants.{Opening, Open, Closed
 use Rattle.slot.specs.declared.Failed.{Failed}
 use Rattle.slot.specs.declared.Failed.the-variants.{No, By}
 use Rattle.state.specs.declared.Header.{Header}
+use Rattle.state.specs.declared.Pending.{Pending}
+use Rattle.state.specs.declared.Pending.the-variants.{Nothing as NothingPending, Opening as OursPending, Offer}
 use Rattle.state.specs.declared.QueuedOpen.{QueuedOpen}
 use Rattle.le.specs.Rows.{flat, rows, allIs}
 
@@ -85,6 +87,28 @@ failedTag (By UnexpectedCommand) = 3
 failedTag (By (BadCredit Long)) = 4
 failedTag (By (BadCredit Negative)) = 5
 
+-- 0 nothing is pending, 1 an open of ours, 2 an offer
+abbrev pub pendingOfTag : ℕ → Pending
+pendingOfTag b = cond (eqb b 0) NothingPending (cond (eqb b 1) OursPending Offer)
+
+-- the number of what is pending
+abbrev pub pendingTag : Pending → ℕ
+pendingTag NothingPending = 0
+pendingTag OursPending = 1
+pendingTag Offer = 2
+
+-- whether it is an open of ours
+abbrev pub isOurs : Pending → Bool
+isOurs NothingPending = false
+isOurs OursPending = true
+isOurs Offer = false
+
+-- whether it is an offer: an open of the device's that was taken and is not decided
+abbrev pub isOffer : Pending → Bool
+isOffer NothingPending = false
+isOffer OursPending = false
+isOffer Offer = true
+
 -- ---- a slot
 
 -- its numbers, budget, bytes unacknowledged, and what our OKAYs allowed: 32 bytes
@@ -143,6 +167,10 @@ queuedBytes q = bytesOf 4 (q .remote .0) ++ bytesOf 4 (q .credit) ++ bytesOf 8 (
 unfoldable pub queuedOf : List ℕ → QueuedOpen
 queuedOf l = record { remote = record { 0 = numOf (part l 0 4) }; credit = numOf (part l 4 4); share = numOf (part l 8 8); length = numOf (part l 16 8) }
 
+-- an entry of zeros, for places past the end
+abbrev pub noneQueued : QueuedOpen
+noneQueued = record { remote = record { 0 = 0 }; credit = 0; share = 0; length = 0 }
+
 -- ---- the header
 
 -- the numbers of 8 bytes
@@ -158,9 +186,9 @@ headerWords h =
     ++ bytesOf 4 (h .negotiated .«max_payload») ++ bytesOf 4 (h .negotiated .«protocol_version»)
     ++ bytesOf 4 (h .«next_local») ++ bytesOf 4 (h .pending .local .0)
 
--- the two flags
+-- the mode's flag, and what is pending
 unfoldable pub headerTags : Header → List ℕ
-headerTags h = bytesOf 1 (flagByte (h .negotiated .«delayed_ack»)) ++ bytesOf 1 (flagByte (h .pending .on))
+headerTags h = bytesOf 1 (flagByte (h .negotiated .«delayed_ack»)) ++ bytesOf 1 (pendingTag (h .pending .what))
 
 -- the whole header
 unfoldable pub stateHeader : Header → List ℕ
@@ -184,7 +212,7 @@ headerOf l =
             «delayed_ack» = flagOf (getD l 56 0);
           };
       «next_local» = numOf (part l 48 4);
-      pending = record { on = flagOf (getD l 57 0); slot = numOf (part l 16 8); local = record { 0 = numOf (part l 52 4) } };
+      pending = record { what = pendingOfTag (getD l 57 0); slot = numOf (part l 16 8); local = record { 0 = numOf (part l 52 4) } };
       queued = numOf (part l 24 8);
     }
 
@@ -198,9 +226,9 @@ layout c = stateHeader (c .header) ++ flat slotBytes (c .slots) ++ flat queuedBy
 unfoldable pub stateOf : List ℕ → Connection
 stateOf b = record { header = headerOf b; slots = rows slotLen slotOf 64 (drop headerLen b); queue = rows queuedLen queuedOf 64 (drop queueAt b) }
 
--- bytes that are a state's: enough of them, flags 0 or 1, tags in range
+-- bytes that are a state's: enough of them, flags and tags in range
 unfoldable pub isState : List ℕ → Bool
-isState b = leb stateLen (length b) && leb (getD b 56 0) 1 && leb (getD b 57 0) 1 && allIs slotLen isSlot 64 (drop headerLen b)
+isState b = leb stateLen (length b) && leb (getD b 56 0) 1 && leb (getD b 57 0) 2 && allIs slotLen isSlot 64 (drop headerLen b)
 
 -- ---- one record of it, in place
 

@@ -17,6 +17,7 @@ ghost use Rattle.le.specs.Le.{put};
 ghost use Rattle.state.specs.State.{headerLen, queuedLen, slotLen, stateLen, flagOf, flagByte, stateOfTag, stateTag, failedOfTag};
 ghost use Rattle.state.specs.State.{failedTag, slotNumbers, slotCounts, tagOf, slotBytes, slotOf, queuedBytes, queuedOf, headerSizes};
 ghost use Rattle.state.specs.State.{headerWords, headerTags, headerOf, slotAt, queuedAt, putSlot, putQueued, putHeader};
+ghost use Rattle.state.specs.State.{pendingOfTag, pendingTag, isOurs, isOffer};
 
 // The header's length, and where the slots begin.
 pub const HEADER_LEN: usize = 58;
@@ -32,11 +33,43 @@ pub const QUEUED_LEN: usize = 24;
 
 pub const STATE_LEN: usize = QUEUE_AT + 64 * QUEUED_LEN;
 
-// A pending open: ours, until its OKAY comes.
+// What stands between two calls: nothing; an open of ours, until its OKAY comes; an offer, an open of the device's that was
+// taken off the queue and is not decided.
+pub enum Pending {
+    Nothing,
+    Opening,
+    Offer,
+}
+
+// The place and the number are those of the last open of ours.
 pub struct PendingOpen {
-    pub on: bool,
+    pub what: Pending,
     pub slot: usize,
     pub local: LocalId,
+}
+
+impl Pending {
+    // Whether an open of ours is pending.
+    pub fn is_ours(self) -> bool
+        ensures { λ r. ⌜ r ≡ isOurs self ⌝ }
+    {
+        match self {
+            Pending::Nothing => false,
+            Pending::Opening => true,
+            Pending::Offer => false,
+        }
+    }
+
+    // Whether an offer stands.
+    pub fn is_offer(self) -> bool
+        ensures { λ r. ⌜ r ≡ isOffer self ⌝ }
+    {
+        match self {
+            Pending::Nothing => false,
+            Pending::Opening => false,
+            Pending::Offer => true,
+        }
+    }
 }
 
 pub struct Header {
@@ -140,6 +173,28 @@ fn failed_tag(failed: Failed) -> u8
     match failed {
         Failed::No => 0,
         Failed::By(fault) => fault_tag(fault),
+    }
+}
+
+fn pending_of(b: u8) -> Pending
+    ensures { λ r. ⌜ r ≡ pendingOfTag b ⌝ }
+{
+    if b == 0 {
+        return Pending::Nothing;
+    }
+    if b == 1 {
+        return Pending::Opening;
+    }
+    Pending::Offer
+}
+
+fn pending_tag(what: Pending) -> u8
+    ensures { λ r. ⌜ r ≡ pendingTag what ⌝ }
+{
+    match what {
+        Pending::Nothing => 0,
+        Pending::Opening => 1,
+        Pending::Offer => 2,
     }
 }
 
@@ -282,7 +337,7 @@ pub fn header_of(state: &[u8]) -> Header
         delayed_ack: flag(state[56]),
     };
     let pending = PendingOpen {
-        on: flag(state[57]),
+        what: pending_of(state[57]),
         slot: le::get_usize(state, 16),
         local: LocalId(le::get_u32(state, 52)),
     };
@@ -328,8 +383,9 @@ fn put_tags(state: &mut [u8], h: Header)
 {
     let negotiated = h.negotiated;
     let pending = h.pending;
+    let what = pending.what;
     le::put_u8(state, 56, flag_byte(negotiated.delayed_ack));
-    le::put_u8(state, 57, flag_byte(pending.on));
+    le::put_u8(state, 57, pending_tag(what));
 }
 
 pub fn put_header(state: &mut [u8], h: Header)

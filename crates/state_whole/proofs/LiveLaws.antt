@@ -3,6 +3,8 @@ use mathlib.Core.Path.{refl, sym, ap, subst, _∙_}
 use mathlib.Core.List.{List}
 use Prim.Native.Nat.{ℕ, _^_, _≤_, _<_}
 use native.Mathlib.Omega.{arith}
+use lib.IntN.{ℤ}
+use lib.Signed.{mag}
 use Rattle.le.specs.Le.{Bytes}
 use Rattle.config.specs.declared.negotiated.Negotiated.{Negotiated}
 use Rattle.config.specs.Negotiated.{policyOf}
@@ -15,7 +17,7 @@ use Rattle.slot.specs.declared.Taken.{Taken}
 use Rattle.slot.specs.declared.Taken.the-variants.{Data, Nothing as NothingTaken, Closed as ClosedTaken}
 use Rattle.slot.specs.declared.ids.LocalId.{LocalId}
 use Rattle.slot.specs.declared.ids.RemoteId.{RemoteId}
-use Rattle.slot.specs.Slot.{openingSlot, openedOf, openedBy, readyOf, isOpening, isFailed, wroteOf, deliveredOf, settledOf, takeLen, takenOf, hasData, isClosed, spentOf, closedSlot, SlotOk}
+use Rattle.slot.specs.Slot.{openingSlot, acceptedSlot, openedOf, openedBy, readyOf, isOpening, isFailed, wroteOf, deliveredOf, settledOf, takeLen, takenOf, hasData, isClosed, spentOf, closedSlot, SlotOk}
 use Rattle.credit.specs.Credit.{creditOf}
 use Rattle.slot.proofs.Kept.{pick, Readied-sound, ready-sound, wrote-sound, delivered-sound, settled-sound, took-sound, spent-sound, closed-sound}
 use Rattle.slot.proofs.Stays.{Stays, CreditFits, credit-small, ReadiedStays, ready-stays, wrote-stays, delivered-stays, settled-stays, took-stays, spent-stays, closed-stays}
@@ -89,6 +91,30 @@ module _ (n : Negotiated) (i : ℕ) where
           ok = record { settled-buffered = omega arith; settled-cap = omega arith; held-cap = omega arith; run-fits = omega arith; cap-small = cap };
           fits = record { local = l; remote = r; budget = omega arith; unacked = omega arith; total = omega arith; settled = omega arith; head = omega arith; buffered = omega arith };
         })
+
+    -- an OPEN of the device's that is accepted
+    pub accepted-live : (credit : ℕ) → credit < 2 ^ 32 → Live n i (acceptedSlot (record { local = local; remote = remote }) credit (policyOf n))
+    unfolding acceptedSlot openingSlot isOpening isFailed
+    accepted-live credit f =
+        record {
+          filled = refl;
+          place = place;
+          opening = refl;
+          failed = refl;
+          remote = refl;
+          ok = record { settled-buffered = omega arith; settled-cap = omega arith; held-cap = omega arith; run-fits = omega arith; cap-small = cap };
+          fits =
+              record {
+                local = l;
+                remote = r;
+                budget = pick (λ (z : ℤ). mag z < 2 ^ 63) (policyOf n .delayed) (λ d. omega arith) (λ d. omega arith);
+                unacked = omega arith;
+                total = omega arith;
+                settled = omega arith;
+                head = omega arith;
+                buffered = omega arith;
+              };
+        }
 
 -- ---- so a filled slot stays one of a whole state
 

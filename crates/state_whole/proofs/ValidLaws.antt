@@ -18,8 +18,9 @@ use Rattle.slot.proofs.Laws.{cond-true, cond-false}
 use Rattle.slot.specs.Slot.{isOpening, isFailed, slotOk}
 use Rattle.state.specs.declared.Header.{Header}
 use Rattle.le.specs.Rows.{rows, allIs}
-use Rattle.state.specs.State.{tagAt, headerLen, queueAt, queuedLen, slotLen, stateLen, flagOf, stateOfTag, failedOfTag, slotOf, isTag, isSlot, queuedOf, headerOf, stateOf, isState, slotAt, queuedAt}
-use Rattle.state_whole.specs.Whole.{filledOk, slotFine, slotsFine, rowFine, rowsFine, queuedFine, queueFine, pendingFine, headerFine, filledAt, HeaderOk, restWhole, whole, isWhole}
+use Rattle.state.specs.declared.QueuedOpen.{QueuedOpen}
+use Rattle.state.specs.State.{tagAt, headerLen, queueAt, queuedLen, slotLen, stateLen, isOurs, isOffer, noneQueued, flagOf, stateOfTag, failedOfTag, slotOf, isTag, isSlot, queuedOf, headerOf, stateOf, isState, slotAt, queuedAt}
+use Rattle.state_whole.specs.Whole.{filledOk, slotFine, slotsFine, rowFine, rowsFine, queuedFine, queueFine, pendingFine, offerFine, opensFine, headerFine, filledAt, HeaderOk, restWhole, whole, isWhole}
 use Rattle.le.proofs.RowLaws.{walk-here, walk-over}
 use Rattle.state.proofs.StateLaws.{slot-in, open-in, state-full}
 
@@ -259,7 +260,7 @@ filled-at b i h =
     filled-getD (stateOf b .slots) i d (omega arith) ∙ ap (λ (s : ChannelSlot). s .filled) (slot-in b i d h)
 
 module _ (h : Header) (b : List ℕ) where
-  pub waits-in : (s : ChannelSlot) → h .pending .on ≡ true → h .pending .slot < h .negotiated .config .channels → h .negotiated .config .channels ≤ 64
+  pub waits-in : (s : ChannelSlot) → isOurs (h .pending .what) ≡ true → h .pending .slot < h .negotiated .config .channels → h .negotiated .config .channels ≤ 64
       → s ≡ slotAt b (h .pending .slot) → not (s .filled) ≡ pendingFine h (filledAt (stateOf b .slots) (h .pending .slot))
   unfolding pendingFine
   waits-in s t k c e =
@@ -267,16 +268,33 @@ module _ (h : Header) (b : List ℕ) where
       let f = filled-at b i (omega arith) in
       and-goes (ltb i (h .negotiated .config .channels)) (not (filledAt (stateOf b .slots) i)) (not (s .filled)) (lt-ltb i _ k)
       (ap (λ (x : ChannelSlot). not (x .filled)) e ∙ ap not (sym f))
-      ∙ sym (cond-true (h .pending .on) _ true t)
+      ∙ sym (cond-true (isOurs (h .pending .what)) _ true t)
 
-  pub waits-out : h .pending .on ≡ true → h .negotiated .config .channels ≤ h .pending .slot → false ≡ pendingFine h (filledAt (stateOf b .slots) (h .pending .slot))
+  pub waits-out : isOurs (h .pending .what) ≡ true → h .negotiated .config .channels ≤ h .pending .slot → false ≡ pendingFine h (filledAt (stateOf b .slots) (h .pending .slot))
   unfolding pendingFine
   waits-out t k =
-      and-stops (ltb (h .pending .slot) (h .negotiated .config .channels)) _ (le-ltb _ _ k) ∙ sym (cond-true (h .pending .on) _ true t)
+      and-stops (ltb (h .pending .slot) (h .negotiated .config .channels)) _ (le-ltb _ _ k) ∙ sym (cond-true (isOurs (h .pending .what)) _ true t)
 
-  pub waits-not : h .pending .on ≡ false → true ≡ pendingFine h (filledAt (stateOf b .slots) (h .pending .slot))
+  pub waits-not : isOurs (h .pending .what) ≡ false → true ≡ pendingFine h (filledAt (stateOf b .slots) (h .pending .slot))
   unfolding pendingFine
-  waits-not t = sym (cond-false (h .pending .on) _ true t)
+  waits-not t = sym (cond-false (isOurs (h .pending .what)) _ true t)
+
+  -- an offer
+  pub offers-in : (q : QueuedOpen) (r : Bool) → isOffer (h .pending .what) ≡ true → h .queued < h .negotiated .config .channels → h .negotiated .config .channels ≤ 64
+      → q ≡ queuedAt b (h .queued) → r ≡ queuedFine (h .negotiated .config .channels) (h .negotiated .config .«max_payload») q → r ≡ offerFine h (stateOf b .queue)
+  unfolding offerFine
+  offers-in q r t k c e f =
+      and-goes (ltb (h .queued) (h .negotiated .config .channels)) _ r (lt-ltb (h .queued) _ k)
+      (f ∙ ap (queuedFine (h .negotiated .config .channels) (h .negotiated .config .«max_payload»)) (e ∙ sym (open-in b (h .queued) noneQueued (omega arith))))
+      ∙ sym (cond-true (isOffer (h .pending .what)) _ true t)
+
+  pub offers-out : isOffer (h .pending .what) ≡ true → h .negotiated .config .channels ≤ h .queued → false ≡ offerFine h (stateOf b .queue)
+  unfolding offerFine
+  offers-out t k = and-stops (ltb (h .queued) (h .negotiated .config .channels)) _ (le-ltb _ _ k) ∙ sym (cond-true (isOffer (h .pending .what)) _ true t)
+
+  pub offers-not : isOffer (h .pending .what) ≡ false → true ≡ offerFine h (stateOf b .queue)
+  unfolding offerFine
+  offers-not t = sym (cond-false (isOffer (h .pending .what)) _ true t)
 
 -- ---- the whole
 
@@ -285,7 +303,7 @@ unfolding restWhole
 rest-waits h b e =
     second-stops (rowsFine (h .negotiated .config .channels) (capOf (h .negotiated .config)) 0 64 (drop headerLen b))
     (pendingFine h (filledAt (stateOf b .slots) (h .pending .slot)))
-    (queueFine (h .negotiated .config .channels) (h .negotiated .config .«max_payload») (take (h .queued) (stateOf b .queue)))
+    (opensFine h (stateOf b .queue))
     e
 
 pub header-ok : (h : Header) → headerFine h ≡ true → HeaderOk h
@@ -301,16 +319,16 @@ together : (a s w o : Bool) → (((a && s) && w) && o) ≡ (a && ((s && w) && o)
 together true s w o = refl
 together false s w o = refl
 
-pub rest-is-whole : (b : List ℕ) → stateLen ≤ length b → getD b 56 0 ≤ 1 → getD b 57 0 ≤ 1 → headerFine (headerOf b) ≡ true → restWhole (headerOf b) b ≡ isWhole b
+pub rest-is-whole : (b : List ℕ) → stateLen ≤ length b → getD b 56 0 ≤ 1 → getD b 57 0 ≤ 2 → headerFine (headerOf b) ≡ true → restWhole (headerOf b) b ≡ isWhole b
 unfolding restWhole isWhole isState whole stateOf
 rest-is-whole b l f g h =
     let k = headerOf b in
     let n = k .negotiated .config .channels in
     let cap = capOf (k .negotiated .config) in
-    rw (one-pass n cap 0 64 (drop headerLen b), le-leb stateLen (length b) l, le-leb (getD b 56 0) 1 f, le-leb (getD b 57 0) 1 g, h)
+    rw (one-pass n cap 0 64 (drop headerLen b), le-leb stateLen (length b) l, le-leb (getD b 56 0) 1 f, le-leb (getD b 57 0) 2 g, h)
     (together (allIs slotLen isSlot 64 (drop headerLen b)) (slotsFine n cap 0 (rows slotLen slotOf 64 (drop headerLen b)))
     (pendingFine k (filledAt (rows slotLen slotOf 64 (drop headerLen b)) (k .pending .slot)))
-    (queueFine n (k .negotiated .config .«max_payload») (take (k .queued) (rows queuedLen queuedOf 64 (drop queueAt b)))))
+    (opensFine k (rows queuedLen queuedOf 64 (drop queueAt b))))
 
 pub header-not-whole : (b : List ℕ) → headerFine (headerOf b) ≡ false → false ≡ isWhole b
 unfolding isWhole whole stateOf

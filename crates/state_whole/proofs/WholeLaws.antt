@@ -21,8 +21,8 @@ use Rattle.slot.proofs.Kept.{sound, sound-holds}
 use Rattle.slot.proofs.Laws.{cond-true, cond-false}
 use Rattle.state.specs.declared.Header.{Header}
 use Rattle.state.specs.declared.QueuedOpen.{QueuedOpen}
-use Rattle.state.specs.State.{queuedLen, slotLen, stateLen, Connection, slotBytes, queuedBytes, layout}
-use Rattle.state_whole.specs.Whole.{filledOk, slotFine, slotsFine, queueFine, pendingFine, headerFine, filledAt, whole}
+use Rattle.state.specs.State.{queuedLen, slotLen, stateLen, Connection, isOurs, isOffer, noneQueued, slotBytes, queuedBytes, layout}
+use Rattle.state_whole.specs.Whole.{filledOk, slotFine, slotsFine, queuedFine, queueFine, offerFine, opensFine, pendingFine, headerFine, filledAt, whole}
 use Rattle.state.proofs.Fields.{length-slot, length-open, length-header}
 use Rattle.le.proofs.RowLaws.{Every, never, length-flat}
 use Rattle.state.proofs.StateLaws.{Full, Fits, SlotFits, HeaderFits, OpenFits}
@@ -65,6 +65,11 @@ pub record OpensWhole (n : Negotiated) (q : ℕ) (os : List QueuedOpen) : Type 0
   pub fits : Every OpenFits os
   pub fine : queueFine (n .config .channels) (n .config .«max_payload») (take q os) ≡ true
 
+-- an offer: there is room for one more queued open, and its entry, behind those that are queued, is within its share
+pub record OfferWhole (n : Negotiated) (q : ℕ) (os : List QueuedOpen) : Type 0 where
+  pub room : q < n .config .channels
+  pub fine : queuedFine (n .config .channels) (n .config .«max_payload») (getD os q noneQueued) ≡ true
+
 pub record HeaderWhole (n : Negotiated) (h : Header) : Type 0 where
   pub negotiated : h .negotiated ≡ n
   pub next-some : 1 ≤ h .«next_local»
@@ -77,8 +82,9 @@ pub record Whole (n : Negotiated) (h : Header) (ss : List ChannelSlot) (os : Lis
   pub limits : Bounds n
   pub header : HeaderWhole n h
   pub slots : SlotsWhole n ss
-  pub pending-open : h .pending .on ≡ true → PlaceWhole n (h .pending .slot) ss
+  pub pending-open : isOurs (h .pending .what) ≡ true → PlaceWhole n (h .pending .slot) ss
   pub queue : OpensWhole n (h .queued) os
+  pub offer : isOffer (h .pending .what) ≡ true → OfferWhole n (h .queued) os
 
 -- ---- slots
 
@@ -127,7 +133,7 @@ put-whole n ss i t g h s =
 
 module _ (n : Negotiated) (h : Header) (ss : List ChannelSlot) (os : List QueuedOpen) (g : Whole n h ss os) where
   -- a slot is put, but not where an open is pending
-  pub whole-put : (i : ℕ) (t : ChannelSlot) → (h .pending .on ≡ true → h .pending .slot ≡ i → ⊥) → i < 64 → SlotWhole n i t → Whole n h (set ss i t) os
+  pub whole-put : (i : ℕ) (t : ChannelSlot) → (isOurs (h .pending .what) ≡ true → h .pending .slot ≡ i → ⊥) → i < 64 → SlotWhole n i t → Whole n h (set ss i t) os
   whole-put i t w k s =
       record {
         limits = g .limits;
@@ -139,6 +145,7 @@ module _ (n : Negotiated) (h : Header) (ss : List ChannelSlot) (os : List Queued
               empty = ap (λ (x : ChannelSlot). x .filled) (getD-set-other ss i (h .pending .slot) t emptySlot (w e)) ∙ g .pending-open e .empty;
             };
         queue = g .queue;
+        offer = g .offer;
       }
 
   -- where there was a channel
@@ -210,11 +217,20 @@ module _ (h : Header) (ss : List ChannelSlot) (os : List QueuedOpen) (g : Whole 
   pending-fine : pendingFine h (filledAt ss (h .pending .slot)) ≡ true
   unfolding pendingFine
   pending-fine =
-      by-test (h .pending .on)
+      by-test (isOurs (h .pending .what))
       (λ t. let p = g .pending-open t in
-      cond-true (h .pending .on) _ true t
+      cond-true (isOurs (h .pending .what)) _ true t
       ∙ and-both _ _ (lt-ltb (h .pending .slot) (h .negotiated .config .channels) (p .place)) (ap not (filled-in ss (h .pending .slot) ∙ p .empty)))
-      (λ t. cond-false (h .pending .on) _ true t)
+      (λ t. cond-false (isOurs (h .pending .what)) _ true t)
+
+  opens-fine : opensFine h os ≡ true
+  unfolding opensFine offerFine
+  opens-fine =
+      and-both _ _ (g .queue .fine)
+      (by-test (isOffer (h .pending .what))
+      (λ t. let p = g .offer t in
+      cond-true (isOffer (h .pending .what)) _ true t ∙ and-both _ _ (lt-ltb (h .queued) (h .negotiated .config .channels) (p .room)) (p .fine))
+      (λ t. cond-false (isOffer (h .pending .what)) _ true t))
 
 every-at : {A : Type 0} (P : A → Type 0) (d : A) (l : List A) → ((i : ℕ) → P (getD l i d)) → Every P l
 every-at P d [] f = tt
@@ -232,7 +248,7 @@ module _ (n : Negotiated) (c : Connection) (g : Whole n (c .header) (c .slots) (
       (and-both _ _ (header-fine (c .header) (c .slots) (c .queue) own)
       (slots-fine (c .header .negotiated) (c .slots) 0 (λ j. subst (λ (x : ℕ). SlotWhole (c .header .negotiated) x (getD (c .slots) j emptySlot)) (sym (zero-add j)) (own .slots .each j))))
       (pending-fine (c .header) (c .slots) (c .queue) own))
-      (own .queue .fine)
+      (opens-fine (c .header) (c .slots) (c .queue) own)
 
   pub whole-full : Full c
   whole-full = record { slots = g .slots .full; queue = g .queue .full }
@@ -320,20 +336,27 @@ header-facts h f e =
     some zero g = absurd (g refl)
     some (suc x) g = omega arith
 
-pending-facts : (h : Header) (ss : List ChannelSlot) → pendingFine h (filledAt ss (h .pending .slot)) ≡ true → h .pending .on ≡ true → PlaceWhole (h .negotiated) (h .pending .slot) ss
+pending-facts : (h : Header) (ss : List ChannelSlot) → pendingFine h (filledAt ss (h .pending .slot)) ≡ true → isOurs (h .pending .what) ≡ true → PlaceWhole (h .negotiated) (h .pending .slot) ss
 unfolding pendingFine
 pending-facts h ss e t =
-    let k = and-true (ltb (h .pending .slot) (h .negotiated .config .channels)) _ (sym (cond-true (h .pending .on) _ true t) ∙ e) in
+    let k = and-true (ltb (h .pending .slot) (h .negotiated .config .channels)) _ (sym (cond-true (isOurs (h .pending .what)) _ true t) ∙ e) in
     record { place = ltb-true _ _ (k .0); empty = sym (filled-in ss (h .pending .slot)) ∙ not-false (filledAt ss (h .pending .slot)) (k .1) }
+
+offer-facts : (h : Header) (os : List QueuedOpen) → offerFine h os ≡ true → isOffer (h .pending .what) ≡ true → OfferWhole (h .negotiated) (h .queued) os
+unfolding offerFine
+offer-facts h os e t =
+    let k = and-true (ltb (h .queued) (h .negotiated .config .channels)) _ (sym (cond-true (isOffer (h .pending .what)) _ true t) ∙ e) in
+    record { room = ltb-true _ _ (k .0); fine = k .1 }
 
 -- a state that fits its bytes and is whole
 pub whole-facts : (c : Connection) → Fits c → whole c ≡ true → Whole (c .header .negotiated) (c .header) (c .slots) (c .queue)
-unfolding whole
+unfolding whole opensFine
 whole-facts c f e =
     let e₃ = and-true _ _ e in
     let e₂ = and-true _ _ (e₃ .0) in
     let e₁ = and-true _ _ (e₂ .0) in
     let h = header-facts (c .header) (f .header) (e₁ .0) in
+    let o = and-true (queueFine (c .header .negotiated .config .channels) (c .header .negotiated .config .«max_payload») (take (c .header .queued) (c .queue))) _ (e₃ .1) in
     record {
       limits = h .0;
       header = h .1;
@@ -344,5 +367,6 @@ whole-facts c f e =
                 (slots-facts (c .header .negotiated) (h .0 .within) (c .slots) 0 (f .slots) (e₁ .1) i);
           };
       pending-open = pending-facts (c .header) (c .slots) (e₂ .1);
-      queue = record { full = f .full .queue; fits = f .queue; fine = e₃ .1 };
+      queue = record { full = f .full .queue; fits = f .queue; fine = o .0 };
+      offer = offer-facts (c .header) (c .queue) (o .1);
     }

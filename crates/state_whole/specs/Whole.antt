@@ -4,13 +4,13 @@ use mathlib.Core.Bool.{Bool, true, false, not, cond, _&&_}
 use mathlib.Core.List.{List, [], _∷_}
 use lib.Dec.{leb, ltb, eqb}
 use mathlib.Core.Path.{_≡_}
-use lib.ListN.{getD, take, drop}
+use lib.ListN.{getD, take, drop, getD}
 use Rattle.config.specs.Config.{withinLimits, Within, capOf}
 use Rattle.slot.specs.declared.ChannelSlot.{ChannelSlot}
 use Rattle.slot.specs.Slot.{emptySlot, isOpening, isFailed, slotOk}
 use Rattle.state.specs.declared.Header.{Header}
 use Rattle.state.specs.declared.QueuedOpen.{QueuedOpen}
-use Rattle.state.specs.State.{headerLen, slotLen, Connection, slotOf, isSlot, isState, stateOf}
+use Rattle.state.specs.State.{headerLen, slotLen, Connection, isOurs, isOffer, noneQueued, slotOf, isSlot, isState, stateOf}
 
 -- a filled slot is not opening, not failed, has its remote number, and its numbers are within its share
 unfoldable pub filledOk : ChannelSlot → ℕ → Bool
@@ -45,7 +45,20 @@ queueFine channels payload (q ∷ qs) = queuedFine channels payload q && queueFi
 
 -- a pending open: its place is below channels and empty
 unfoldable pub pendingFine : Header → Bool → Bool
-pendingFine h filled = cond (h .pending .on) (ltb (h .pending .slot) (h .negotiated .config .channels) && not filled) true
+pendingFine h filled = cond (isOurs (h .pending .what)) (ltb (h .pending .slot) (h .negotiated .config .channels) && not filled) true
+
+-- an offer, whose entry stands behind those that are queued: as one more queued open
+unfoldable pub offerFine : Header → List QueuedOpen → Bool
+offerFine h queue =
+    cond (isOffer (h .pending .what))
+    (ltb (h .queued) (h .negotiated .config .channels)
+    && queuedFine (h .negotiated .config .channels) (h .negotiated .config .«max_payload») (getD queue (h .queued) noneQueued))
+    true
+
+-- what is queued, and an offer
+unfoldable pub opensFine : Header → List QueuedOpen → Bool
+opensFine h queue =
+    queueFine (h .negotiated .config .channels) (h .negotiated .config .«max_payload») (take (h .queued) queue) && offerFine h queue
 
 -- limits and negotiated values kept, a next number that is not 0, no more opens than channels
 unfoldable pub headerFine : Header → Bool
@@ -69,14 +82,14 @@ unfoldable pub restWhole : Header → List ℕ → Bool
 restWhole h b =
     rowsFine (h .negotiated .config .channels) (capOf (h .negotiated .config)) 0 64 (drop headerLen b)
     && pendingFine h (filledAt (stateOf b .slots) (h .pending .slot))
-    && queueFine (h .negotiated .config .channels) (h .negotiated .config .«max_payload») (take (h .queued) (stateOf b .queue))
+    && opensFine h (stateOf b .queue)
 
 -- a whole state
 unfoldable pub whole : Connection → Bool
 whole c =
     headerFine (c .header) && slotsFine (c .header .negotiated .config .channels) (capOf (c .header .negotiated .config)) 0 (c .slots)
     && pendingFine (c .header) (filledAt (c .slots) (c .header .pending .slot))
-    && queueFine (c .header .negotiated .config .channels) (c .header .negotiated .config .«max_payload») (take (c .header .queued) (c .queue))
+    && opensFine (c .header) (c .queue)
 
 -- bytes that are a whole state: all else is refused by 13
 unfoldable pub isWhole : List ℕ → Bool

@@ -16,7 +16,7 @@ ghost use lib.ListN.{length, take, drop};
 ghost use Rattle.le.specs.Le.{part};
 ghost use Rattle.state.specs.State.{headerLen, slotLen, stateLen, isTag, stateOf};
 ghost use Rattle.state_whole.specs.Whole.{rowFine, rowsFine, queuedFine, queueFine, headerFine, pendingFine, filledAt, isWhole};
-ghost use Rattle.state_whole.specs.Whole.{HeaderOk, restWhole};
+ghost use Rattle.state_whole.specs.Whole.{HeaderOk, offerFine, opensFine, restWhole};
 
 // Whether an empty slot's tag is in range.
 fn is_tag(tag: u8) -> bool
@@ -147,7 +147,8 @@ fn pending_fine(state: &[u8], h: Header) -> bool
     let pending = h.pending;
     let negotiated = h.negotiated;
     let config = negotiated.config;
-    if pending.on {
+    let what = pending.what;
+    if what.is_ours() {
         let place = pending.slot;
         if place < config.channels {
             let s = slot_at(state, place);
@@ -156,6 +157,44 @@ fn pending_fine(state: &[u8], h: Header) -> bool
         return false;
     }
     true
+}
+
+// Whether an offer, if one stands, may be a queued open more.
+fn offer_fine(state: &[u8], h: Header) -> bool
+    requires { ⌜ (h .negotiated .config .channels ≤ 64) × (stateLen ≤ length (now state)) ⌝ }
+    ensures { λ r. ⌜ r ≡ offerFine h (stateOf (now (state .entry)) .queue) ⌝ }
+{
+    let pending = h.pending;
+    let what = pending.what;
+    let negotiated = h.negotiated;
+    let config = negotiated.config;
+    if what.is_offer() {
+        let place = h.queued;
+        if place < config.channels {
+            let q = queued_at(state, place);
+            return queued_fine(q, config.channels, config.max_payload as usize);
+        }
+        return false;
+    }
+    true
+}
+
+// Whether those that are queued, and an offer, may be queued opens.
+fn opens_fine(state: &[u8], h: Header) -> bool
+    requires { ⌜ HeaderOk h × (stateLen ≤ length (now state)) ⌝ }
+    ensures { λ r. ⌜ r ≡ opensFine h (stateOf (now (state .entry)) .queue) ⌝ }
+{
+    let negotiated = h.negotiated;
+    let config = negotiated.config;
+    if queue_fine(
+        state,
+        h.queued,
+        config.channels,
+        config.max_payload as usize,
+    ) {
+        return offer_fine(state, h);
+    }
+    false
 }
 
 // Whether lent bytes are a whole state; all else is refused by 13.
@@ -168,7 +207,7 @@ pub fn is_whole(state: &[u8]) -> bool
     if state[56] > 1 {
         return false;
     }
-    if state[57] > 1 {
+    if state[57] > 2 {
         return false;
     }
     let h = header_of(state);
@@ -178,7 +217,7 @@ pub fn is_whole(state: &[u8]) -> bool
     false
 }
 
-// Slots, the pending open and the queue, once the header is fine.
+// Slots, the pending open, the queue and an offer, once the header is fine.
 fn rest_whole(state: &[u8], h: Header) -> bool
     requires { ⌜ HeaderOk h × (stateLen ≤ length (now state)) ⌝ }
     ensures { λ r. ⌜ r ≡ restWhole h (now (state .entry)) ⌝ }
@@ -188,7 +227,7 @@ fn rest_whole(state: &[u8], h: Header) -> bool
     let channels = config.channels;
     if slots_fine(state, channels, config.rx_cap()) {
         if pending_fine(state, h) {
-            return queue_fine(state, h.queued, channels, config.max_payload as usize);
+            return opens_fine(state, h);
         }
         return false;
     }

@@ -11,6 +11,7 @@ use bytes::BytesMut;
 use crate::base::channel::ChannelId;
 use crate::base::channel_table;
 use crate::base::connection::Connection;
+use crate::base::incoming::PendingOpen;
 use crate::base::protocol::command::Command;
 use crate::base::protocol::features::has_feature;
 use crate::base::protocol::Packet;
@@ -45,6 +46,9 @@ pub enum Call {
     Write(usize, u32, Vec<u8>, Vec<u8>),
     Close(usize, u32),
     TakeFront,
+    Accept,
+    Reject,
+    LetGo,
     InUse,
     Numbers(usize, u32),
     Totals,
@@ -135,6 +139,18 @@ impl Call {
                 want(0)?;
                 Call::TakeFront
             }
+            "accept" => {
+                want(0)?;
+                Call::Accept
+            }
+            "reject" => {
+                want(0)?;
+                Call::Reject
+            }
+            "let_go" => {
+                want(0)?;
+                Call::LetGo
+            }
             "in_use" => {
                 want(0)?;
                 Call::InUse
@@ -188,6 +204,9 @@ impl Call {
             Call::Write(s, l, d, r) => format!("write {s} {l} {} {}", hex(d), hex(r)),
             Call::Close(s, l) => format!("close {s} {l}"),
             Call::TakeFront => "take_front".into(),
+            Call::Accept => "accept".into(),
+            Call::Reject => "reject".into(),
+            Call::LetGo => "let_go".into(),
             Call::InUse => "in_use".into(),
             Call::Numbers(s, l) => format!("numbers {s} {l}"),
             Call::Totals => "totals".into(),
@@ -358,6 +377,8 @@ pub struct Oracle {
     conn: *mut Conn,
     pipe: Pipe,
     waiting: Option<ChannelId>,
+    /// The open that take_front took, until the next call.
+    offer: Option<PendingOpen>,
     /// Kept mode only: the very future `open_channel` returned.
     kept: Option<OpenFuture>,
     route: Route,
@@ -395,6 +416,7 @@ impl Oracle {
             conn: core::ptr::null_mut(),
             pipe: Pipe::default(),
             waiting: None,
+            offer: None,
             kept: None,
             route,
             config: None,
@@ -438,10 +460,37 @@ impl Oracle {
         self.waiting.map(|c| (c.slot(), c.local_id()))
     }
 
+    pub fn offered(&self) -> bool {
+        self.offer.is_some()
+    }
+
     /// Any call but open drops a waiting open.
     fn drop_open(&mut self) {
         self.kept = None;
         self.waiting = None;
+    }
+
+    /// The verdicts on the open that was taken, through libadb's `Incoming`.
+    fn verdict(&mut self, call: &Call, pending: PendingOpen) -> String {
+        let incoming = self.conn().probe_offer(pending);
+        match call {
+            Call::Accept => {
+                match poll_once(incoming.accept()).expect("HARNESS: accept does not wait") {
+                    Ok(ch) => format!("opened slot={} local={}", ch.slot(), ch.local_id()),
+                    Err(e) => refusal(&e),
+                }
+            }
+            Call::Reject => {
+                match poll_once(incoming.reject()).expect("HARNESS: reject does not wait") {
+                    Ok(()) => "rejected".into(),
+                    Err(e) => refusal(&e),
+                }
+            }
+            _ => {
+                drop(incoming);
+                "let_go".into()
+            }
+        }
     }
 
     /// Lend the first whole frame, or everything where there is none.
@@ -501,6 +550,7 @@ impl Oracle {
                     .unwrap_or_default();
                 self.kept = None;
                 self.waiting = None;
+                self.offer = None;
                 (format!("panic {}", why.replace(char::is_whitespace, "_")), 0, Vec::new())
             }
         };
@@ -527,7 +577,7 @@ impl Oracle {
     fn count(&mut self, call: &Call, answer: &str, out: &[u8]) {
         match call {
             Call::Make(_) => self.totals = vec![0; 64],
-            Call::Open(..) => {
+            Call::Open(..) | Call::Accept => {
                 if let Some(slot) = answer.strip_prefix("opened slot=") {
                     let slot: usize = slot.split(' ').next().unwrap().parse().unwrap();
                     self.totals[slot] = 0;
@@ -617,7 +667,12 @@ impl Oracle {
             _ => {}
         }
         self.drop_open();
+        let offer = self.offer.take();
         match call {
+            Call::Accept | Call::Reject | Call::LetGo => plain(match offer {
+                Some(pending) => self.verdict(call, pending),
+                None => "none".into(),
+            }),
             Call::SetNextLocal(n) => {
                 channel_table::probe::set_next_local(self.conn().probe_table(), *n);
                 plain("set".into())
@@ -686,12 +741,16 @@ impl Oracle {
                 })
             }
             Call::TakeFront => plain(match self.conn().probe_take_front() {
-                Some(p) => format!(
-                    "front remote={} credit={} destination={}",
-                    p.remote.raw(),
-                    p.credit,
-                    hex(&p.destination)
-                ),
+                Some(p) => {
+                    let answer = format!(
+                        "front remote={} credit={} destination={}",
+                        p.remote.raw(),
+                        p.credit,
+                        hex(&p.destination)
+                    );
+                    self.offer = Some(p);
+                    answer
+                }
                 None => "none".into(),
             }),
             _ => unreachable!("HARNESS: handled above"),
@@ -700,6 +759,7 @@ impl Oracle {
 
     fn make(&mut self, m: &Make) -> String {
         self.drop_open();
+        self.offer = None;
         self.release();
         self.pipe = Pipe::default();
         let config = Conn::probe_config(
@@ -738,6 +798,7 @@ impl Oracle {
 
     fn open(&mut self, dest: &[u8], received: &[u8]) -> (String, usize, Vec<u8>) {
         let Some(ch) = self.waiting else {
+            self.offer = None;
             return (self.open_first(dest), 0, Vec::new());
         };
         let fed = self.feed(received);

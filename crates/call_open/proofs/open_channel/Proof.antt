@@ -1,4 +1,4 @@
-use Rattle.call_open.proofs.OpenLaws.{open-none, open-large, open-short, open-sends, open-looks, open-limits}
+use Rattle.call_open.proofs.OpenLaws.{open-none, open-large, open-short, open-sends, begin-looks, begin-limits}
 use native.Mathlib.Omega.{arith}
 use mathlib.Core.Path.{refl}
 use borrow.Author.Needs.{needs}
@@ -8,7 +8,7 @@ use Rattle.call_open.proofs.open_channel.Tie as tie
 allocate-requires : tie.Need-allocate-requires
 allocate-requires c κs =
     let start = c .before .before .before .before .before .before .before in
-    open-looks (start .args .state .now) (start .args .rx .now) (start .args .store .now) (start .args .out .now) (start .args .h) (start .pre .1)
+    begin-looks (start .args .state .now) (start .args .rx .now) (start .args .store .now) (start .args .out .now) (start .args .h) (start .pre .1)
     (start .pre .0)
 
 enum-told : tie.Need-enum-told
@@ -75,7 +75,7 @@ put-open-requires c κs =
     let at-if2 = c .before .before in
     let at-if1 = at-if2 .before in
     let start = at-if1 .before .before .before .before .before .before .before .before .before .before .before .before in (
-      open-limits (start .args .state .now) (start .args .rx .now) (start .args .store .now) (start .args .out .now) (start .args .h) (start .pre .1)
+      begin-limits (start .args .state .now) (start .args .rx .now) (start .args .store .now) (start .args .out .now) (start .args .h) (start .pre .1)
           (start .pre .0),
       record { small = at-if1 .if1 .left; fits = at-if2 .if2 .left },
     )

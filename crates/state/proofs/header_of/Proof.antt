@@ -27,11 +27,11 @@ shared-slice-read-flag c = search needs
 flag-requires : tie.Need-flag-requires
 flag-requires c κs = search needs
 
-shared-slice-read-flag-2 : tie.Need-shared-slice-read-flag-2
-shared-slice-read-flag-2 c = search needs
+shared-slice-read-pending-of : tie.Need-shared-slice-read-pending-of
+shared-slice-read-pending-of c = search needs
 
-flag-requires-2 : tie.Need-flag-requires-2
-flag-requires-2 c κs = search needs
+pending-of-requires : tie.Need-pending-of-requires
+pending-of-requires c κs = search needs
 
 get-usize-requires-3 : tie.Need-get-usize-requires-3
 get-usize-requires-3 c κs = search needs
@@ -61,8 +61,8 @@ header-of-spec =
     get-u32-requires-4
     shared-slice-read-flag
     flag-requires
-    shared-slice-read-flag-2
-    flag-requires-2
+    shared-slice-read-pending-of
+    pending-of-requires
     get-usize-requires-3
     get-u32-requires-5
     get-u32-requires-6

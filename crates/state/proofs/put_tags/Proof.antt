@@ -9,8 +9,8 @@ flag-byte-requires c κs = search needs
 put-u8-requires : tie.Need-put-u8-requires
 put-u8-requires c κs = search needs
 
-flag-byte-requires-2 : tie.Need-flag-byte-requires-2
-flag-byte-requires-2 c κs = search needs
+pending-tag-requires : tie.Need-pending-tag-requires
+pending-tag-requires c κs = search needs
 
 put-u8-requires-2 : tie.Need-put-u8-requires-2
 put-u8-requires-2 c κs = search needs
@@ -27,7 +27,7 @@ put-tags-spec =
     (tie.spec
     flag-byte-requires
     put-u8-requires
-    flag-byte-requires-2
+    pending-tag-requires
     put-u8-requires-2
     same-length
     returns)

@@ -33,7 +33,7 @@ returns-3 c =
       le-leb stateLen (length (start .args .state .now)) (omega arith),
       le-leb (getD (start .args .state .now) 56 0) 1 (omega arith),
       lt-leb
-          (getD (start .args .state .now) 57 0) 1 (omega arith),
+          (getD (start .args .state .now) 57 0) 2 (omega arith),
     )
 
 header-of-requires : tie.Need-header-of-requires

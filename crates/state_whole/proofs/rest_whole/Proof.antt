@@ -12,33 +12,31 @@ rx-cap-requires c κs = search needs
 
 slots-fine-requires : tie.Need-slots-fine-requires
 slots-fine-requires c κs =
-    let k = sound (c .before .before .before .before .args .h .negotiated .config) (c .before .before .before .before .pre .0 .within) .cap-small in
+    let start = c .before .before .before .before in
+    let k = sound (start .args .h .negotiated .config) (start .pre .0 .within) .cap-small in
     (omega arith, omega arith, omega arith)
 
 pending-fine-requires : tie.Need-pending-fine-requires
 pending-fine-requires c κs = search needs
 
-cast-queue-fine : tie.Need-cast-queue-fine
-cast-queue-fine c = search needs
-
-queue-fine-requires : tie.Need-queue-fine-requires
-queue-fine-requires c κs = search needs
+opens-fine-requires : tie.Need-opens-fine-requires
+opens-fine-requires c κs = search needs
 
 returns : tie.Need-returns
 unfolding restWhole
 returns c =
-    let at-if2 = c .before .before in
-    let at-pending-fine = at-if2 .before in
+    let at-pending-fine = c .before .before in
     let at-if1 = at-pending-fine .before in
     let at-slots-fine = at-if1 .before in
     let at-rx-cap = at-slots-fine .before in
     three-go _ _ _ _ (sym (rw (at-rx-cap .rx-cap .ensures) at (at-slots-fine .slots-fine .ensures)) ∙ at-if1 .if1 .taken)
-    (sym (at-pending-fine .pending-fine .ensures) ∙ at-if2 .if2 .taken) (c .queue-fine .ensures)
+    (sym (at-pending-fine .pending-fine .ensures) ∙ c .before .if2 .taken) (c .opens-fine .ensures)
 
 returns-2 : tie.Need-returns-2
 unfolding restWhole
 returns-2 c =
-    let start = c .before .before .before .before .before .before .before .before in
+    let at-before = c .before .before .before .before .before .before .before in
+    let start = at-before .before in
     rest-waits (start .args .h) (start .args .state .now) (sym (c .before .pending-fine .ensures) ∙ c .if2 .left)
 
 returns-3 : tie.Need-returns-3
@@ -52,8 +50,7 @@ rest-whole-spec =
     rx-cap-requires
     slots-fine-requires
     pending-fine-requires
-    cast-queue-fine
-    queue-fine-requires
+    opens-fine-requires
     returns
     returns-2
     returns-3)

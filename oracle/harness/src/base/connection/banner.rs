@@ -6,6 +6,7 @@ use bytes::{Bytes, BytesMut};
 use embedded_io::ErrorType;
 use embedded_io_async::{Read, Write};
 
+use super::accept::Incoming;
 use super::handshake::Handshake;
 use super::{Connection, ConnectionConfig};
 use crate::base::auth::Authenticator;
@@ -183,5 +184,14 @@ where
 
     pub(crate) fn probe_take_front(&mut self) -> Option<PendingOpen> {
         self.incoming.pop_front()
+    }
+
+    /// The open that was taken, as `try_accept_incoming` hands it over.
+    pub(crate) fn probe_offer(&mut self, pending: PendingOpen) -> Incoming<'_, T> {
+        Incoming {
+            conn: self,
+            pending: Some(pending),
+            reserved: None,
+        }
     }
 }
