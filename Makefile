@@ -12,6 +12,8 @@
 #   make example   the examples in the headers, compiled
 #   make seam      what the tests run of these: header, example, replay, damage, a demonstration of 1 MiB with a capture, a
 #                  file of 200,003 bytes, the recorded session in pieces of several lengths, and captures
+#   make peer      AOSP's adb opens forty streams to a device's end on the library (ADB: its command; ARGS: streams, bytes); needs
+#                  adb and Python, and is no part of the tests
 #   make clean     removes what these targets built, but not what is proved
 # CC, CXX and CFLAGS may be set, as CFLAGS='-O1 -g -fsanitize=address,undefined'; LIB, SYNC_LIB,
 # SHELL_LIB and PCAP_LIB name other static libraries.
@@ -27,7 +29,7 @@ PCAP_LIB = target/staticlib/libadb_pcap.a
 CONVERTERS = target/bin/frames_to_pcap target/bin/pcap_to_frames
 SESSION = vectors/shell/session.out
 
-.PHONY: all demo files console damage captures replay compare bench header example seam clean
+.PHONY: all demo files console damage captures replay compare bench header example seam peer clean
 
 all: header example replay demo files console damage captures
 
@@ -105,6 +107,13 @@ seam: header example replay $(OUT)/damage $(OUT)/damage_sync $(OUT)/damage_shell
 	$(OUT)/files 1 200003
 	tests/console.sh $(OUT)/console
 	tests/captures.sh $(OUT)/demo.pcap
+
+peer: $(OUT)/peer
+	tests/peer.py $(OUT)/peer $(ARGS)
+
+$(OUT)/peer: tests/peer.c demo/common.h demo/numbers.h include/adb.h $(LIB)
+	@mkdir -p $(OUT)
+	$(CC) -std=c99 $(WARNINGS) $(CFLAGS) -Iinclude tests/peer.c $(LIB) -o $@
 
 $(OUT)/demo: demo/demo.c demo/common.h demo/numbers.h include/adb.h include/adb_pcap.h $(LIB) $(PCAP_LIB)
 	@mkdir -p $(OUT)
