@@ -4,13 +4,14 @@
 #   make console   a recorded console session, its output and errors apart, and its exit code (ARGS: bytes a piece; SESSION: a file)
 #   make damage    the calls on broken states and short buffers; the sync messages, shell frames and captures on any
 #                  bytes
+#   make stretch   adb_stretch against a plain search, on logs made up (ARGS: seed, logs)
 #   make captures  the programs frames_to_pcap and pcap_to_frames, on stored files
 #   make replay    recorded calls, and the answers and states that libadb gave for them, on the library
 #   make compare   the port against libadb: SEEDS names libadb's folder libadb/src (ARGS: first and last seed, calls)
 #   make bench     the port's and libadb's time side by side: SEEDS as for compare (ARGS: repeats, ms each, rows)
 #   make header    the four headers, each alone and with the others, as C99 and as C++
 #   make example   the examples in the headers, compiled
-#   make seam      what the tests run of these: header, example, replay, damage, a demonstration of 1 MiB with a capture, a
+#   make seam      what the tests run of these: header, example, replay, damage, stretch, a demonstration of 1 MiB with a capture, a
 #                  file of 200,003 bytes, the recorded session in pieces of several lengths, and captures
 #   make peer      AOSP's adb opens forty streams to a device's end on the library (ADB: its command; ARGS: streams, bytes); needs
 #                  adb and Python, and is no part of the tests
@@ -29,9 +30,9 @@ PCAP_LIB = target/staticlib/libadb_pcap.a
 CONVERTERS = target/bin/frames_to_pcap target/bin/pcap_to_frames
 SESSION = vectors/shell/session.out
 
-.PHONY: all demo files console damage captures replay compare bench header example seam peer clean
+.PHONY: all demo files console damage stretch captures replay compare bench header example seam peer clean
 
-all: header example replay demo files console damage captures
+all: header example replay demo files console damage stretch captures
 
 demo: $(OUT)/demo
 	$(OUT)/demo $(ARGS)
@@ -47,6 +48,9 @@ damage: $(OUT)/damage $(OUT)/damage_sync $(OUT)/damage_shell $(OUT)/damage_pcap
 	$(OUT)/damage_sync $(ARGS)
 	$(OUT)/damage_shell $(ARGS)
 	$(OUT)/damage_pcap $(ARGS)
+
+stretch: $(OUT)/stretch
+	$(OUT)/stretch $(ARGS)
 
 captures: $(CONVERTERS)
 	tests/captures.sh $(ARGS)
@@ -97,12 +101,13 @@ example:
 	grep -q 'adb_pcap_read_record(' $(OUT)/example_pcap.c
 	$(CC) -std=c99 $(WARNINGS) -Werror -Iinclude -c $(OUT)/example_pcap.c -o $(OUT)/example_pcap.o
 
-seam: header example replay $(OUT)/damage $(OUT)/damage_sync $(OUT)/damage_shell $(OUT)/damage_pcap $(OUT)/demo $(OUT)/files \
+seam: header example replay $(OUT)/damage $(OUT)/damage_sync $(OUT)/damage_shell $(OUT)/damage_pcap $(OUT)/stretch $(OUT)/demo $(OUT)/files \
     $(OUT)/console $(CONVERTERS)
 	$(OUT)/damage
 	$(OUT)/damage_sync
 	$(OUT)/damage_shell
 	$(OUT)/damage_pcap
+	$(OUT)/stretch
 	$(OUT)/demo --capture $(OUT)/demo.pcap 1 1
 	$(OUT)/files 1 200003
 	tests/console.sh $(OUT)/console
@@ -130,6 +135,10 @@ $(OUT)/driver: oracle/port/driver.c include/adb.h $(LIB)
 $(OUT)/damage: tests/damage.c demo/common.h demo/numbers.h include/adb.h $(LIB)
 	@mkdir -p $(OUT)
 	$(CC) -std=c99 $(WARNINGS) $(CFLAGS) -Iinclude tests/damage.c $(LIB) -o $@
+
+$(OUT)/stretch: tests/stretch.c demo/common.h demo/numbers.h include/adb.h $(LIB)
+	@mkdir -p $(OUT)
+	$(CC) -std=c99 $(WARNINGS) $(CFLAGS) -Iinclude tests/stretch.c $(LIB) -o $@
 
 $(OUT)/damage_sync: tests/damage_sync.c demo/numbers.h include/adb_sync.h $(SYNC_LIB)
 	@mkdir -p $(OUT)

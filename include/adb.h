@@ -34,6 +34,7 @@
  *   adb_close           state, out, answer
  *   adb_take_front      state, answer
  *   adb_numbers         answer
+ *   adb_stretch         both spare stores, answer
  * Of `out` and `buf` only the bytes counted in the answer change.
  *
  * Refusals ahead of a call's steps, in this order; they change nothing but the answer:
@@ -91,7 +92,8 @@
 
 #define ADB_DONE 0      /* the call reached its end */
 #define ADB_WAITING 100 /* the frame is incomplete (0 used), or one packet was handled and the call's end has not come */
-#define ADB_NONE 101    /* adb_take: nothing is buffered; adb_take_front: no open is queued; the verdicts: none is offered */
+#define ADB_NONE 101    /* adb_take: nothing is buffered; adb_take_front: no open is queued; the verdicts: none is offered;
+                         * adb_stretch: no such refusal */
 #define ADB_CLOSED 102  /* adb_numbers: the numbers of a channel that the device closed */
 
 /* Refusals. Nothing is used, written or changed unless said. A read may have written its channel's OKAY first. */
@@ -241,6 +243,17 @@ static inline size_t adb_answer_destination_len(const uint8_t *answer)
     return (size_t)adb_answer_value(answer, 3);
 }
 
+/* adb_stretch, ADB_DONE: the first frame's place among those received, from 0, and how many frames. */
+static inline size_t adb_answer_first(const uint8_t *answer)
+{
+    return (size_t)adb_answer_value(answer, 0);
+}
+
+static inline size_t adb_answer_count(const uint8_t *answer)
+{
+    return (size_t)adb_answer_value(answer, 1);
+}
+
 /* ---- the state's fields (docs/LAYOUT.md), for programs that look; bytes of each in the comment. Only calls change them. */
 
 #define ADB_STATE_CHANNELS 0            /* 8 */
@@ -367,6 +380,16 @@ uint32_t adb_reject(uint8_t *state, size_t state_len, const uint8_t *rx, size_t 
 /* Puts the open that is offered back to the head of the queue. ADB_NONE: none is offered. */
 uint32_t adb_let_go(uint8_t *state, size_t state_len, const uint8_t *rx, size_t rx_len, const uint8_t *opens, size_t opens_len,
                     uint8_t *answer, size_t answer_len);
+
+/* Only looks. The first 32 frames of `received` are dispatched, one a call, from a copy of the state, up to the first refusal. Where
+ * that is 1 to 5, 11, 20 or 21, the fewest neighbouring frames are found, none past the refused one, that dispatched from the
+ * state as it is end in the same number; of equally few the earliest. ADB_DONE: their first one's place and their count. ADB_NONE:
+ * the frames end in no such refusal, or in an incomplete frame. State and stores stay as they are, and nothing that is pending ends. The
+ * work is done in spare stores as long as the stores, which may hold anything and then hold anything; one that is shorter gives
+ * ADB_REFUSED_STORE_SHORT. A call dispatches at most 32 × 33 frames, and has the copy of the state on the stack. */
+uint32_t adb_stretch(const uint8_t *state, size_t state_len, const uint8_t *rx, size_t rx_len, const uint8_t *opens,
+                     size_t opens_len, const uint8_t *received, size_t received_len, uint8_t *spare_rx, size_t spare_rx_len,
+                     uint8_t *spare_opens, size_t spare_opens_len, uint8_t *answer, size_t answer_len);
 
 #ifdef __cplusplus
 }

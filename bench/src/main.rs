@@ -248,6 +248,21 @@ fn sum_table(rows: &[SumRow]) {
     println!();
 }
 
+const STRETCH: &str = "stretch of 32 frames that end in 11, 40 open";
+
+/// The call alone: libadb has none. 32 dispatches tell the frames apart, and the runs from each of them have 32 to 1.
+fn stretch_table(ours: &mut Ours, repeats: usize, ms: f64) {
+    let log = ours.stretch_log();
+    let spares = Ours::spares();
+    let rounds = rounds_for(ms, 1, |r| ours.stretch(&log, &spares, r));
+    let times = sorted((0..repeats).map(|_| timed(rounds, 1, |r| ours.stretch(&log, &spares, r))).collect());
+    eprintln!("{STRETCH}: ours {}", times.show());
+    println!("### The shortest stretch\n");
+    println!("| frames | open | a call ns | a dispatch ns |");
+    println!("|---:|---:|---:|---:|");
+    println!("| 32, all of them | 40 | {} | {} |\n", times.show(), ns(times.best() / (32 + 32 * 33 / 2) as f64));
+}
+
 fn overhead_table(rows: &[Row]) {
     if rows.iter().all(|r| r.case.size > 0) {
         return;
@@ -352,6 +367,9 @@ fn main() {
         table(&rows, kind);
     }
     sum_table(&sums);
+    if STRETCH.contains(text) {
+        stretch_table(&mut ours, repeats, ms);
+    }
     if !rows.is_empty() {
         goals(&rows);
     }

@@ -31,6 +31,11 @@ extern "C" {
         state: *mut u8, state_len: usize, rx: *const u8, rx_len: usize, opens: *const u8, opens_len: usize,
         answer: *mut u8, answer_len: usize,
     ) -> u32;
+    fn adb_stretch(
+        state: *const u8, state_len: usize, rx: *const u8, rx_len: usize, opens: *const u8, opens_len: usize,
+        received: *const u8, received_len: usize, spare_rx: *mut u8, spare_rx_len: usize,
+        spare_opens: *mut u8, spare_opens_len: usize, answer: *mut u8, answer_len: usize,
+    ) -> u32;
 }
 
 const STATE_LEN: usize = 4474;
@@ -39,7 +44,7 @@ const WAITING: u32 = 100;
 const NONE: u32 = 101;
 
 /// Zeroed memory that is not touched: pages that no row needs are never there.
-struct Store {
+pub struct Store {
     at: *mut u8,
     len: usize,
 }
@@ -167,6 +172,44 @@ impl Ours {
                 self.state.as_mut_ptr(), self.state.len(), self.rx.at, self.rx.len, self.opens.at, self.opens.len,
                 self.answer.0.as_mut_ptr().cast(), 48,
             )
+        }
+    }
+
+    /// 40 channels open, and 32 frames of the first, none of which can be left out: the last goes over its cap by as many bytes as it
+    /// has, one.
+    pub fn stretch_log(&mut self) -> Vec<u8> {
+        self.make(Case { kind: Kind::DispatchNothing, size: 0, open: 40, delayed: false, sums: false });
+        let (theirs, ours) = (remote(0), self.channels[0].1);
+        let mut left = MAX_RX - 31 * 64;
+        while left > 0 {
+            let n = left.min(MAX_PAYLOAD);
+            let mut frame = Vec::new();
+            put_frame(&mut frame, b"WRTE", theirs, ours, &vec![7; n], false);
+            assert_eq!(self.dispatch(&frame), DONE, "dispatch");
+            left -= n;
+        }
+        let mut log = Vec::new();
+        for i in 0..32 {
+            put_frame(&mut log, b"WRTE", theirs, ours, &vec![i; if i < 31 { 64 } else { 1 }], false);
+        }
+        log
+    }
+
+    /// The spare stores of `stretch`.
+    pub fn spares() -> (Store, Store) {
+        (Store::new(CHANNELS * 2 * MAX_RX), Store::new(CHANNELS * MAX_PAYLOAD))
+    }
+
+    pub fn stretch(&mut self, log: &[u8], spares: &(Store, Store), rounds: usize) {
+        for _ in 0..rounds {
+            let said = unsafe {
+                adb_stretch(
+                    self.state.as_ptr(), self.state.len(), self.rx.at, self.rx.len, self.opens.at, self.opens.len,
+                    log.as_ptr(), log.len(), spares.0.at, spares.0.len, spares.1.at, spares.1.len,
+                    self.answer.0.as_mut_ptr().cast(), 48,
+                )
+            };
+            assert!(said == DONE && self.value(0) == 0 && self.value(1) == 32, "stretch: {said}");
         }
     }
 

@@ -70,20 +70,19 @@ values-length v =
     let ld = length-bytesOf 8 (v .d) in
     simp length-append (omega arith)
 
-pub answer-put : (d : List ℕ) (r : Reply) (v : Values) (d₁ d₂ d₃ : List ℕ) → 48 ≤ length d → d₁ ≡ put d 0 (bytesOf 8 (r .used)) → d₂ ≡ put d₁ 8 (bytesOf 8 (r .written))
-    → valuesIn v ≡ answerValues (r .answer) → d₃ ≡ put d₂ 16 (flat (bytesOf 8) (valuesIn v)) → d₃ ≡ put d 0 (answerBytes (r .used) (r .written) (r .answer))
-unfolding answerBytes flat
-answer-put d r v d₁ d₂ d₃ k e₁ e₂ f e₃ =
-    let a = bytesOf 8 (r .used) in
-    let b = bytesOf 8 (r .written) in
+pub answer-put : (d : List ℕ) (used written : ℕ) (v : Values) (d₁ d₂ d₃ : List ℕ) → 48 ≤ length d → d₁ ≡ put d 0 (bytesOf 8 used) → d₂ ≡ put d₁ 8 (bytesOf 8 written)
+    → d₃ ≡ put d₂ 16 (flat (bytesOf 8) (valuesIn v)) → d₃ ≡ put d 0 (flat (bytesOf 8) (used ∷ written ∷ valuesIn v))
+unfolding flat
+answer-put d used written v d₁ d₂ d₃ k e₁ e₂ e₃ =
+    let a = bytesOf 8 used in
+    let b = bytesOf 8 written in
     let c = flat (bytesOf 8) (valuesIn v) in
-    let la = length-bytesOf 8 (r .used) in
-    let lb = length-bytesOf 8 (r .written) in
+    let la = length-bytesOf 8 used in
+    let lb = length-bytesOf 8 written in
     let lc = values-length v in
     let m = length-append a b in
     let f₂ = e₂ ∙ ap (λ (y : List ℕ). put y 8 b) e₁ ∙ put-put d 0 a 8 b (omega arith) (omega arith) in
-    e₃ ∙ ap (λ (y : List ℕ). put y 16 c) f₂ ∙ put-put d 0 (a ++ b) 16 c (omega arith) (omega arith)
-    ∙ ap (put d 0) (append-assoc a b c) ∙ ap (λ (y : List ℕ). put d 0 (a ++ (b ++ flat (bytesOf 8) y))) f
+    e₃ ∙ ap (λ (y : List ℕ). put y 16 c) f₂ ∙ put-put d 0 (a ++ b) 16 c (omega arith) (omega arith) ∙ ap (put d 0) (append-assoc a b c)
 
 -- four values of 64 bits
 abbrev Words : Values → Type 0
@@ -93,14 +92,21 @@ values-fit : (v : Values) → Words v → Every (λ (x : ℕ). x < 2 ^ 64) (valu
 values-fit v h = (h .0, (h .1, (h .2, (h .3, tt))))
 
 -- the answer's bytes say the six numbers
-pub answer-said : (d d₃ : List ℕ) (r : Reply) (v : Values) → 48 ≤ length d → r .used < 2 ^ 64 → r .written < 2 ^ 64 → Words v → valuesIn v ≡ answerValues (r .answer)
-    → d₃ ≡ put d 0 (answerBytes (r .used) (r .written) (r .answer)) → saidIn d₃ ≡ numbersOf (r .used) (r .written) (r .answer)
-unfolding answerBytes saidIn put
-answer-said d d₃ r v k u w h f e =
-    let xs : List ℕ = r .used ∷ r .written ∷ valuesIn v in
-    let z : numbersOf (r .used) (r .written) (r .answer) ≡ xs = ap (λ (y : List ℕ). r .used ∷ r .written ∷ y) (sym f) in
-    let back = rows-flat 8 (bytesOf 8) numOf (λ (x : ℕ). x < 2 ^ 64) (λ x. length-bytesOf 8 x) (λ x q. write-read 8 x q) xs (drop (0 + length (flat (bytesOf 8) xs)) d) (u, (w, values-fit v h)) in
-    ap saidIn (e ∙ ap (λ (y : List ℕ). put d 0 (flat (bytesOf 8) y)) z) ∙ back ∙ sym z
+pub answer-said : (d d₃ : List ℕ) (used written : ℕ) (v : Values) → 48 ≤ length d → used < 2 ^ 64 → written < 2 ^ 64 → Words v
+    → d₃ ≡ put d 0 (flat (bytesOf 8) (used ∷ written ∷ valuesIn v)) → saidIn d₃ ≡ used ∷ written ∷ valuesIn v
+unfolding saidIn put
+answer-said d d₃ used written v k u w h e =
+    let xs : List ℕ = used ∷ written ∷ valuesIn v in
+    ap saidIn e ∙ rows-flat 8 (bytesOf 8) numOf (λ (x : ℕ). x < 2 ^ 64) (λ x. length-bytesOf 8 x) (λ x q. write-read 8 x q) xs (drop (0 + length (flat (bytesOf 8) xs)) d) (u, (w, values-fit v h))
+
+-- so of a reply
+pub answer-is : (d d₃ : List ℕ) (r : Reply) (v : Values) → valuesIn v ≡ answerValues (r .answer)
+    → (d₃ ≡ put d 0 (flat (bytesOf 8) (r .used ∷ r .written ∷ valuesIn v))) × (saidIn d₃ ≡ r .used ∷ r .written ∷ valuesIn v)
+    → (d₃ ≡ put d 0 (answerBytes (r .used) (r .written) (r .answer))) × (saidIn d₃ ≡ numbersOf (r .used) (r .written) (r .answer))
+unfolding answerBytes
+answer-is d d₃ r v f g =
+    let z : r .used ∷ r .written ∷ valuesIn v ≡ numbersOf (r .used) (r .written) (r .answer) = ap (λ (y : List ℕ). r .used ∷ r .written ∷ y) f in
+    (g .0 ∙ ap (λ (y : List ℕ). put d 0 (flat (bytesOf 8) y)) z, g .1 ∙ z)
 
 -- ---- too few bytes
 

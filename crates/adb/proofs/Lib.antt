@@ -1,3 +1,4 @@
 pub mod Begins
 pub mod ExportLaws
+pub mod StretchLaws
 pub mod Theorems

@@ -1,3 +1,4 @@
 pub mod Export
 pub mod Linked
 pub mod Promise
+pub mod Stretch

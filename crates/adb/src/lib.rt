@@ -1,5 +1,7 @@
 // The C interface (include/adb.h). Every buffer comes as a pointer and its length. A state or an answer that is too short is
 // refused by 8 ahead of all else, and nothing is touched.
+pub mod stretch;
+
 use call::Reply;
 use call_accept::accept;
 use call_close::close;
@@ -23,6 +25,7 @@ use slot::ids::LocalId;
 use state::STATE_LEN;
 use table::ChannelId;
 ghost use mathlib.Core.Path.{_≡_};
+ghost use mathlib.Core.List.{_∷_};
 ghost use Prim.Native.Nat.{_≤_};
 ghost use lib.ListN.{length};
 ghost use Rattle.le.specs.Le.{bytesOf, put};
@@ -126,6 +129,17 @@ fn put_values(answer: &mut [u8], v: Values)
     le::put_u64(answer, 40, v.d);
 }
 
+// The answer's 48 bytes.
+fn put_answer(answer: &mut [u8], used: usize, written: usize, v: Values)
+    requires { ⌜ 48 ≤ length (now answer) ⌝ }
+    ensures { λ _. ⌜ (now (answer .exit) ≡ put (now (answer .entry)) 0 (flat (bytesOf 8) (used ∷ written ∷ valuesIn v))) ×
+        (saidIn (now (answer .exit)) ≡ used ∷ written ∷ valuesIn v) ⌝ }
+{
+    le::put_usize(answer, 0, used);
+    le::put_usize(answer, 8, written);
+    put_values(answer, v);
+}
+
 // The answer's 48 bytes, and the call's number.
 fn answered(answer: &mut [u8], reply: Reply) -> u32
     requires { ⌜ 48 ≤ length (now answer) ⌝ }
@@ -134,9 +148,7 @@ fn answered(answer: &mut [u8], reply: Reply) -> u32
         (saidIn (now (answer .exit)) ≡ numbersOf (reply .used) (reply .written) (reply .answer)) ⌝ }
 {
     let said = reply.answer;
-    le::put_usize(answer, 0, reply.used);
-    le::put_usize(answer, 8, reply.written);
-    put_values(answer, values_of(said));
+    put_answer(answer, reply.used, reply.written, values_of(said));
     said.number()
 }
 

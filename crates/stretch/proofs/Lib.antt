@@ -1,0 +1,5 @@
+pub mod RunLaws
+pub mod SearchLaws
+pub mod TellLaws
+pub mod TestLaws
+pub mod TurnLaws
