@@ -2,6 +2,8 @@
 //
 // Readers say `num_of` of the part they read; writers say `put` of the bytes they write. The laws of both, over any
 // width, are in proofs/Laws.antt.
+#![tactic(auto)]
+
 ghost use Rattle.std.specs.Prelude.{◌≡◌, ◌+◌, ◌*◌, ◌/◌, ◌%◌, ◌≤◌, length};
 ghost use Rattle.le.specs.Le.{num_of, bytes_of, signed, unsigned, part, put};
 
@@ -158,5 +160,5 @@ pub fn copy_at(dst: &mut [u8], at: usize, src: &[u8])
     ensures { dst.new ≡ put dst.old at src.now }
 {
     let end = at + src.len();
-    bytes::copy(src, &mut dst[at..end]);
+    dst[at..end].copy_from_slice(src);
 }
