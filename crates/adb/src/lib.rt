@@ -1,5 +1,7 @@
 // The C interface (include/adb.h). Every buffer comes as a pointer and its length. A state or an answer that is too short is
 // refused by 8 ahead of all else, and nothing is touched.
+#![tactic(auto)]
+
 pub mod stretch;
 
 ghost use Rattle.std.specs.Prelude.{◌≡◌, ◌∷◌, ◌≤◌, length};
@@ -33,7 +35,7 @@ use state::STATE_LEN;
 use table::ChannelId;
 
 // An answer's four values.
-#[derive(Drop)]
+#[derive(Clone, Copy)]
 pub struct Values {
     pub a: u64,
     pub b: u64,

@@ -1,5 +1,7 @@
 // Captures for C (include/adb_pcap.h). Every buffer comes as a pointer and its length. An answer that is too short is refused by 8
 // ahead of all else, and nothing is touched.
+#![tactic(auto)]
+
 ghost use Rattle.std.specs.Prelude.{◌≡◌, ◌≤◌, length};
 ghost use Rattle.le.specs.Le.{num_of, put};
 ghost use Rattle.le.specs.Rows.{rows};
@@ -10,7 +12,7 @@ ghost use Rattle.adb_pcap.specs.Export.{WriteDoes, said_of, numbers_in, said_byt
 use pcap::{Read, Time};
 
 // What is said of received bytes.
-#[derive(Drop)]
+#[derive(Clone, Copy)]
 pub struct Said {
     pub used: usize,
     pub length: usize,

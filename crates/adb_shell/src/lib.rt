@@ -1,5 +1,7 @@
 // Shell frames for C (include/adb_shell.h). Every buffer comes as a pointer and its length. An answer that is too short is
 // refused by 8 ahead of all else, and nothing is touched.
+#![tactic(auto)]
+
 ghost use Rattle.std.specs.Prelude.{◌≡◌, [], ◌∷◌, ◌≤◌, length};
 ghost use Rattle.adb_shell.specs.Export.{Told, said_of, reads_in, ReadDoes, count_of, writes_in, WriteDoes};
 

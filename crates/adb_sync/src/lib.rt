@@ -1,5 +1,7 @@
 // The sync messages for C (include/adb_sync.h). Every buffer comes as a pointer and its length. An answer that is too short is
 // refused by 8 ahead of all else, and nothing is touched.
+#![tactic(auto)]
+
 ghost use Rattle.std.specs.Prelude.{◌≡◌, ◌≤◌, length};
 ghost use Rattle.le.specs.Le.{num_of, bytes_of, put};
 ghost use Rattle.le.specs.Rows.{flat, rows};
@@ -16,7 +18,7 @@ use sync::{Fields, FileMode, Message, Read, StatV1, StatV2};
 use sync_write::{Written, write};
 
 // A message's numbers in the order of its bytes, 0 where it has none.
-#[derive(Drop)]
+#[derive(Clone, Copy)]
 pub struct Values {
     pub a: u32,
     pub b: u32,
@@ -25,7 +27,7 @@ pub struct Values {
 }
 
 // What is said of received bytes.
-#[derive(Drop)]
+#[derive(Clone, Copy)]
 pub struct Said {
     pub used: usize,
     pub at: usize,

@@ -1,4 +1,6 @@
 // The sum of a payload for C, for bench/ to time by itself. No other crate uses this one.
+#![tactic(auto)]
+
 ghost use Rattle.std.specs.Prelude.{◌≡◌};
 ghost use Rattle.checksum.specs.Checksum.{sum_of};
 

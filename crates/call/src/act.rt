@@ -12,7 +12,7 @@ use state::Header;
 use table_dispatch::{DispatchOutcome, dispatch};
 
 // A fault, if it was one; the header, which the caller stores at its end; the place past the frames.
-#[derive(Drop)]
+#[derive(Clone, Copy)]
 pub struct ActedOn {
     pub fault: Failed,
     pub header: Header,

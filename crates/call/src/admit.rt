@@ -12,13 +12,13 @@ use state::{Header, Pending, PendingOpen, header_of, slot_at};
 use state_whole::is_whole;
 use table::{ChannelId, has_local};
 
-#[derive(Drop)]
+#[derive(Clone, Copy)]
 pub enum Admitted {
     Yes(Header),
     No(Refusal),
 }
 
-#[derive(Drop)]
+#[derive(Clone, Copy)]
 pub enum Found {
     Slot(ChannelSlot),
     Nothing,

@@ -1,6 +1,8 @@
 // A connection's calls. Each works on bytes that its caller lends: the state, both stores, received bytes, an outgoing and a
 // reader's buffer. It takes at most one packet and writes at most two frames. Here is what they share; each call has a crate
 // of its own, named after it.
+#![tactic(auto)]
+
 pub mod act;
 pub mod admit;
 pub mod frames;
@@ -10,7 +12,7 @@ pub mod store;
 use connection::Answer;
 
 // What a call answers, how many received bytes it used, and how many bytes of frames it wrote.
-#[derive(Drop)]
+#[derive(Clone, Copy)]
 pub struct Reply {
     pub answer: Answer,
     pub used: usize,

@@ -1,4 +1,6 @@
 // Taking the channel that the device's open asks for that is offered.
+#![tactic(auto)]
+
 ghost use Rattle.std.specs.Prelude.{◌≡◌, length};
 ghost use Rattle.state.specs.State.{state_of};
 ghost use Rattle.call.specs.Promise.{Admits};

@@ -1,4 +1,6 @@
 // Closing a channel.
+#![tactic(auto)]
+
 ghost use Rattle.std.specs.Prelude.{length};
 ghost use Rattle.call.specs.Promise.{Begins};
 ghost use Rattle.call_close.specs.Promise.{CloseLeaves, CloseStepLeaves};

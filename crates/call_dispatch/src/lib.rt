@@ -1,4 +1,6 @@
 // Dispatching one packet.
+#![tactic(auto)]
+
 ghost use Rattle.std.specs.Prelude.{length};
 ghost use Rattle.call.specs.Promise.{Begins};
 ghost use Rattle.call_dispatch.specs.Promise.{DispatchLeaves, DispatchStepLeaves};

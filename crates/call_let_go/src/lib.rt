@@ -1,4 +1,6 @@
 // Letting the device's open go that is offered: it is queued again, ahead of the others.
+#![tactic(auto)]
+
 ghost use Rattle.std.specs.Prelude.{◌≡◌};
 ghost use Rattle.state.specs.State.{state_of};
 ghost use Rattle.call.specs.Promise.{Admits};

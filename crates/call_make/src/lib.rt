@@ -1,4 +1,6 @@
 // A connection's state, laid out in the bytes that its caller lends.
+#![tactic(auto)]
+
 ghost use Rattle.std.specs.Prelude.{◌≡◌, ◌≤◌, length};
 ghost use Rattle.le.specs.Le.{put};
 ghost use Rattle.state.specs.State.{none_queued};

@@ -1,4 +1,6 @@
 // A channel's numbers, for a screen: a call that only looks, so that nothing of what it is lent changes.
+#![tactic(auto)]
+
 ghost use Rattle.std.specs.Prelude.{◌≡◌, ◌≤◌, length};
 ghost use Rattle.state.specs.State.{state_len, state_of};
 ghost use Rattle.connection.specs.Calls.{numbers_in};

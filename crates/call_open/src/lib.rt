@@ -1,4 +1,6 @@
 // Opening a channel: the OPEN, and then the packet that answers it.
+#![tactic(auto)]
+
 ghost use Rattle.std.specs.Prelude.{◌≡◌, ◌≤◌, length};
 ghost use Rattle.state.specs.State.{state_len, state_of};
 ghost use Rattle.connection.specs.Calls.{pending_for, still_pending};

@@ -1,4 +1,6 @@
 // Reading: what is buffered, or what one packet brings.
+#![tactic(auto)]
+
 ghost use Rattle.std.specs.Prelude.{◌≡◌, length};
 ghost use Rattle.connection.specs.Calls.{is_direct};
 ghost use Rattle.call.specs.Promise.{Begins, BeginsOn};
@@ -18,7 +20,7 @@ use slot::{ChannelSlot, Failed, Taken};
 use state::{Header, put_header, put_slot, slot_at};
 use table::ChannelId;
 
-#[derive(Drop)]
+#[derive(Clone, Copy)]
 pub enum Tried {
     Replied(Reply),
     // Nothing is there: the slot as settled, which is not stored yet, and the place past the frames.

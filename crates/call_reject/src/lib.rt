@@ -1,4 +1,6 @@
 // Refusing the device's open that is offered.
+#![tactic(auto)]
+
 ghost use Rattle.std.specs.Prelude.{◌≡◌, ◌+◌, ◌≤◌, length};
 ghost use Rattle.protocol.specs.Message.{message_size};
 ghost use Rattle.state.specs.State.{state_len, state_of};

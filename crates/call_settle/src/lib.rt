@@ -1,4 +1,6 @@
 // Settling: buffered bytes, set aside for the reader and acknowledged.
+#![tactic(auto)]
+
 ghost use Rattle.std.specs.Prelude.{length};
 ghost use Rattle.call.specs.Promise.{Begins};
 ghost use Rattle.call_settle.specs.Promise.{SettleLeaves, SettleStepLeaves};

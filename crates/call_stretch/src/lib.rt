@@ -1,5 +1,7 @@
 // The shortest stretch of received frames that still refuses (docs/SCOPE.md, 14). State and stores are lent to be looked at: the
 // work is done on a copy of the state and in spare stores.
+#![tactic(auto)]
+
 ghost use Rattle.std.specs.Prelude.{◌≡◌, ◌≤◌, length};
 ghost use Rattle.state.specs.State.{state_len};
 ghost use Rattle.call_stretch.specs.Promise.{stretched_number, found_as, spare_short, LookLooks, StretchLooks};
@@ -9,7 +11,7 @@ use connection::Refusal;
 use state::STATE_LEN;
 use stretch::{Found, shortest};
 
-#[derive(Drop)]
+#[derive(Clone, Copy)]
 pub enum Stretched {
     // The first frame's place, from 0, and the count.
     Frames(usize, usize),

@@ -1,4 +1,6 @@
 // Taking: buffered bytes, handed over to the reader.
+#![tactic(auto)]
+
 ghost use Rattle.call.specs.Promise.{Begins, BeginsOn};
 ghost use Rattle.call_take.specs.Promise.{TakeLeaves, TakeStepLeaves, TakeThereLeaves};
 

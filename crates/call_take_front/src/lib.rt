@@ -1,4 +1,6 @@
 // Taking the device's open that was queued first.
+#![tactic(auto)]
+
 ghost use Rattle.call.specs.Promise.{Begins};
 ghost use Rattle.call_take_front.specs.Promise.{TakeFrontLeaves, TakeFrontStepLeaves};
 

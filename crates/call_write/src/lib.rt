@@ -1,4 +1,6 @@
 // Sending bytes on a channel.
+#![tactic(auto)]
+
 ghost use Rattle.std.specs.Prelude.{◌≡◌, min, max, length};
 ghost use Rattle.call.specs.Promise.{Begins};
 ghost use Rattle.call_write.specs.Promise.{Finds, SendAgainLeaves, SendSomeLeaves, Sends, WaitAckLeaves, Waits, WriteChannelLeaves};

@@ -1,5 +1,7 @@
 // Received frames to the records of a capture, and back: what the programs `frames_to_pcap` and `pcap_to_frames` do with the bytes
 // that they hold, one frame at a time.
+#![tactic(auto)]
+
 ghost use Rattle.std.specs.Prelude.{◌≡◌};
 ghost use Rattle.capture.specs.Capture.{is_long, taken_of, next_frame, head_for, next_record, MakesHead};
 
@@ -7,7 +9,7 @@ use pcap::{Read, Time};
 use protocol::packet::{Decoded, Packet};
 
 // What held bytes begin with.
-#[derive(Drop)]
+#[derive(Clone, Copy)]
 pub enum Next {
     // A part of what is due.
     More,

@@ -1,4 +1,6 @@
 // The check of a payload: the sum of its bytes modulo 2^32.
+#![tactic(auto)]
+
 ghost use Rattle.std.specs.Prelude.{◌≡◌, ◌+◌, ◌-◌, ◌*◌, ◌%◌, ◌^◌, ◌≤◌, length, take, drop};
 ghost use Rattle.le.specs.Le.{part};
 ghost use Rattle.checksum.specs.Checksum.{total, sum_of, check_for, policy_for};
@@ -67,7 +69,7 @@ fn sum_run(p: &[u8], i: usize) -> u16
 fn add_run(sum: u32, run: u16) -> u32
     ensures { result ≡ (sum + run) % 2 ^ 32 }
 {
-    std::num::wrapping_add_u32(sum, run as u32)
+    sum.wrapping_add(run as u32)
 }
 
 // The sum of the bytes before `end`, a multiple of 257.
@@ -157,7 +159,7 @@ pub fn payload_checksum(payload: &[u8]) -> u32
 }
 
 // Whether an outgoing frame carries its payload's check. A check that is received and is not 0 is compared either way.
-#[derive(Drop)]
+#[derive(Clone, Copy)]
 pub enum Checksum {
     // The peer is older than 0x01000001, or its version is not known yet.
     Compute,

@@ -1,11 +1,13 @@
 // A connection's resource limits, and what follows from them for each channel.
+#![tactic(auto)]
+
 pub mod negotiated;
 
 ghost use Rattle.std.specs.Prelude.{◌≡◌};
 ghost use Rattle.config.specs.Config.{within_limits, Within, cap_of, ceiling_of, watermark_of, opening_credit, rx_store_len, open_store_len, stores_fit};
 
 // Limits of one connection.
-#[derive(Drop)]
+#[derive(Clone, Copy)]
 pub struct ConnectionConfig {
     // Slots in the channel table.
     pub channels: usize,

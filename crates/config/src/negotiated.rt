@@ -10,7 +10,7 @@ use protocol::constant::ADB_VERSION;
 use protocol::packet::Packet;
 
 // How received bytes are acknowledged and bounded, for every channel alike.
-#[derive(Drop)]
+#[derive(Clone, Copy)]
 pub struct RxPolicy {
     // Credit is given back as bytes are read, and not one OKAY for each WRTE.
     pub delayed: bool,
@@ -18,7 +18,7 @@ pub struct RxPolicy {
     pub watermark: usize,
 }
 
-#[derive(Drop)]
+#[derive(Clone, Copy)]
 pub struct Negotiated {
     // Longest payload that the device takes.
     pub max_payload: u32,

@@ -1,5 +1,7 @@
 // What a connection's calls answer. The calls are defined in specs/; their code is in calls, transfer, reading, writing and
 // opening.
+#![tactic(auto)]
+
 ghost use Rattle.std.specs.Prelude.{◌≡◌, cond};
 ghost use Rattle.connection.specs.Answer.{refusal_number, answer_number};
 
@@ -10,7 +12,7 @@ use slot::ids::RemoteId;
 use table::ChannelId;
 
 // The refusals (docs/SCOPE.md, 6).
-#[derive(Drop)]
+#[derive(Clone, Copy)]
 pub enum Refusal {
     // With the word that names no command, in 64 bits as the other values of answers: an answer is loaded in words of 64
     // bits, and the processor does not forward a store of 32 to such a load.
@@ -30,7 +32,7 @@ pub enum Refusal {
     BrokenState,
 }
 
-#[derive(Drop)]
+#[derive(Clone, Copy)]
 pub enum Answer {
     Done,
     // The frame is not all there, or one packet was handled and the call's end has not come.
@@ -52,7 +54,7 @@ pub enum Answer {
 }
 
 // What received bytes give a call.
-#[derive(Drop)]
+#[derive(Clone, Copy)]
 pub enum Received {
     Packet(Packet),
     // No packet: the answer, and the bytes used.

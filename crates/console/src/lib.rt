@@ -1,5 +1,7 @@
 // What a console shows of a session's bytes: the data of all shell frames of one kind, one behind the other, and what is left for
 // the next piece.
+#![tactic(auto)]
+
 ghost use Rattle.std.specs.Prelude.{◌≡◌, ◌+◌, ◌≤◌, length, drop};
 ghost use Rattle.shell.specs.Frame.{read_frame};
 ghost use Rattle.console.specs.Gather.{kept, Keeps, next_of, gathered, Gathers};
@@ -8,7 +10,7 @@ use shell::{Read, read_frame};
 
 // What is at a place of received bytes: where `number` is 0 a frame, whose data is the `length` bytes from `at` on, counted from
 // that place, and which uses `used`; else the reader's number.
-#[derive(Drop)]
+#[derive(Clone, Copy)]
 struct Next {
     kind: u32,
     at: usize,
@@ -18,7 +20,7 @@ struct Next {
 }
 
 // What was gathered from received bytes.
-#[derive(Drop)]
+#[derive(Clone, Copy)]
 pub struct Gathered {
     // Bytes of the frames that are all there. The rest stays for the next piece.
     pub used: usize,

@@ -1,5 +1,7 @@
 // The loop of the two programs that convert captures, over one buffer: what is held of standard input is taken frame by frame and
 // written to standard output, and where a part of one is held, more is read behind it.
+#![tactic(auto)]
+
 ghost use Rattle.std.specs.Prelude.{◌≡◌, ◌+◌};
 ghost use Rattle.intake.specs.Intake.{Within};
 ghost use Rattle.convert.specs.Convert.{ahead_of, next_by};
@@ -10,7 +12,7 @@ use intake::Held;
 // Longest frame with its header.
 const HOLD: u32 = 65_536;
 
-#[derive(Drop)]
+#[derive(Clone, Copy)]
 pub enum Way {
     // Received frames to the records of a capture.
     ToRecords,

@@ -1,9 +1,11 @@
 // The credit of a delayed OKAY.
+#![tactic(auto)]
+
 ghost use Rattle.std.specs.Prelude.{◌≡◌};
 ghost use Rattle.credit.specs.Credit.{credit_of, credit_number, credit_fault_number};
 
 // What is wrong with it: refusals 5, 20 and 21.
-#[derive(Drop)]
+#[derive(Clone, Copy)]
 pub enum CreditFault {
     // Under 4 bytes.
     Short,
@@ -14,7 +16,7 @@ pub enum CreditFault {
 }
 
 // The credit that a delayed OKAY carries.
-#[derive(Drop)]
+#[derive(Clone, Copy)]
 pub enum Credit {
     Of(i32),
     Bad(CreditFault),

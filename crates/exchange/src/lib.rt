@@ -1,5 +1,7 @@
 // The ids of AOSP's sync messages (SYNC.TXT), by libadb's names (sync/format.rs), what stands behind each, and which of them
 // an exchange has.
+#![tactic(auto)]
+
 ghost use Rattle.std.specs.Prelude.{◌≡◌};
 ghost use Rattle.exchange.specs.Exchange.{word_of, is_over, head_of, longest_of, layout_number, exchange_of, exchange_v2_of, among_of, requests};
 ghost use Rattle.exchange.specs.Exchange.{list_replies, stat_replies, recv_replies, send_replies, list_v2_replies, stat_v2_replies, found_of};
@@ -33,7 +35,7 @@ const ID_DNT2: u32 = 0x3254_4e44;
 // Longest data of one DATA message.
 pub const SYNC_DATA_MAX: usize = 65_536;
 
-#[derive(Drop)]
+#[derive(Clone, Copy)]
 pub enum SyncId {
     List,
     Recv,
@@ -84,7 +86,7 @@ impl SyncId {
 }
 
 // What stands behind an id.
-#[derive(Drop)]
+#[derive(Clone, Copy)]
 pub enum Layout {
     // A length, then a text or data of that length.
     Text,
@@ -154,14 +156,14 @@ impl Layout {
 }
 
 // What an exchange has under a word.
-#[derive(Drop)]
+#[derive(Clone, Copy)]
 pub enum Found {
     Known(SyncId, Layout),
     Unknown,
 }
 
 // Whose messages are read or written.
-#[derive(Drop)]
+#[derive(Clone, Copy)]
 pub enum Exchange {
     // Ours.
     Requests,

@@ -1,9 +1,11 @@
 // The feature list of a CNXN's identity text.
+#![tactic(auto)]
+
 ghost use Rattle.std.specs.Prelude.{◌≡◌, ◌+◌, ◌≤◌, length, drop};
 ghost use Rattle.features.specs.Features.{same_bytes, Behind, begins, named, Finds, first_part, any_same, parts_of, has_feature};
 
 // Where the list begins in the text.
-#[derive(Drop)]
+#[derive(Clone, Copy)]
 enum ListStart {
     From(usize),
     Nowhere,

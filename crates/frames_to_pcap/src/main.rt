@@ -1,5 +1,7 @@
 // Standard input's frames as a capture on standard output, each at time 0. The file ends before a frame that decoding refuses, one of
 // more than 65,536 bytes with its header, and one that does not come whole.
+#![tactic(auto)]
+
 use convert::Way;
 
 fn main() {

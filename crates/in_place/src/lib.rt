@@ -1,4 +1,6 @@
 // Slots where they lie in the caller's storage: one lent by mutable reference, and a lent run of them.
+#![tactic(auto)]
+
 ghost use Rattle.std.specs.Prelude.{◌≡◌};
 ghost use Rattle.slot.specs.Slot.{closed_slot, spent_of};
 ghost use Rattle.in_place.specs.InPlace.{filled_in};

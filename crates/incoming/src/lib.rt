@@ -1,6 +1,8 @@
 // The device's queued OPENs: entries in the lent state, the first `queued` of 64, and their destinations in
 // the open store, where share k is the max_payload bytes from k * max_payload on. The header is handed in and handed back
 // by value: the caller stores it once.
+#![tactic(auto)]
+
 ghost use Rattle.std.specs.Prelude.{◌≡◌, ◌≤◌, ◌<◌, ◌∷◌, length, take, drop};
 ghost use Rattle.state.specs.Change.{put_queue, Steps};
 ghost use Rattle.state.specs.State.{state_len, state_of};
@@ -12,19 +14,19 @@ use slot::ids::RemoteId;
 use state::{Header, Pending, PendingOpen, QueuedOpen, put_queued, queued_at};
 
 // Which of the queued OPENs stay.
-#[derive(Drop)]
+#[derive(Clone, Copy)]
 pub enum Keep {
     All,
     Without(RemoteId),
 }
 
-#[derive(Drop)]
+#[derive(Clone, Copy)]
 pub enum Pushed {
     Queued(Header),
     Full,
 }
 
-#[derive(Drop)]
+#[derive(Clone, Copy)]
 pub enum Front {
     Open(QueuedOpen, Header),
     Nothing,

@@ -1,8 +1,10 @@
 // Bytes of standard input, held in a lent buffer until they are used: those from `at` to `end`.
+#![tactic(auto)]
+
 ghost use Rattle.std.specs.Prelude.{◌≡◌, true};
 ghost use Rattle.intake.specs.Intake.{Within, ReadsMore};
 
-#[derive(Drop)]
+#[derive(Clone, Copy)]
 pub struct Held {
     pub at: usize,
     pub end: usize,

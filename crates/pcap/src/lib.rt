@@ -1,5 +1,7 @@
 // Classic pcap files, version 2.4, of one kind: little-endian, times in microseconds, link type 147, one record a frame. A file is
 // a header of 24 bytes and records, each a header of 16 bytes and a frame.
+#![tactic(auto)]
+
 ghost use Rattle.std.specs.Prelude.{◌≡◌, ◌+◌, ◌≤◌, length};
 ghost use Rattle.le.specs.Le.{put};
 ghost use Rattle.pcap.specs.Header.{file_header, has_other, is_other, read_header, header_number, write_header};
@@ -27,7 +29,7 @@ pub const SNAP_LENGTH: u32 = 1_048_600;
 // ---- a file's header
 
 // What received bytes begin with, where a file's header is due.
-#[derive(Drop)]
+#[derive(Clone, Copy)]
 pub enum Header {
     // The header is not all there.
     Waiting,
@@ -94,7 +96,7 @@ pub fn read_header(received: &[u8]) -> Header
 
 // ---- what became of what was to be written
 
-#[derive(Drop)]
+#[derive(Clone, Copy)]
 pub enum Written {
     // Its length.
     Bytes(usize),
@@ -143,14 +145,14 @@ pub fn write_header(out: &mut [u8]) -> Written
 // ---- records
 
 // When a frame went: seconds since 1970, and microseconds.
-#[derive(Drop)]
+#[derive(Clone, Copy)]
 pub struct Time {
     pub seconds: u32,
     pub micros: u32,
 }
 
 // What received bytes begin with, where a record is due.
-#[derive(Drop)]
+#[derive(Clone, Copy)]
 pub enum Read {
     // The record is not all there.
     Waiting,

@@ -1,5 +1,7 @@
 // The frames of a capture on standard input, one behind the other on standard output. The output ends at a refusal, before a record
 // that is cut off, and before one with a frame of more than 65,536 bytes.
+#![tactic(auto)]
+
 ghost use Rattle.std.specs.Prelude.{◌≡◌, length};
 
 use convert::Way;

@@ -19,7 +19,7 @@ pub const CMD_AUTH: u32 = 0x4854_5541;
 
 pub const CMD_STLS: u32 = 0x534c_5453;
 
-#[derive(Drop)]
+#[derive(Clone, Copy)]
 pub enum Command {
     // Obsolete, and never valid between two ends.
     Sync,
@@ -40,7 +40,7 @@ pub enum Command {
 }
 
 // What a word of 32 bits names: a command, or none, with the word.
-#[derive(Drop)]
+#[derive(Clone, Copy)]
 pub enum CommandWord {
     Known(Command),
     Invalid(u32),

@@ -3,7 +3,7 @@ ghost use Rattle.std.specs.Prelude.{◌≡◌, ◌+◌, ◌≤◌, length};
 ghost use Rattle.le.specs.Le.{put};
 ghost use Rattle.protocol.specs.Message.{message_size, message_of, header_bytes};
 
-#[derive(Drop)]
+#[derive(Clone, Copy)]
 pub struct Message {
     pub command: u32,
     // First argument; its meaning depends on the command.

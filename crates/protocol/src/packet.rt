@@ -10,7 +10,7 @@ use crate::message::Message;
 use checksum::{Checksum, payload_checksum};
 
 // A decoded header. The payload is the data_length bytes that follow it.
-#[derive(Drop)]
+#[derive(Clone, Copy)]
 pub struct Packet {
     pub command: Command,
     pub arg0: u32,
@@ -19,7 +19,7 @@ pub struct Packet {
 }
 
 // What received bytes begin with.
-#[derive(Drop)]
+#[derive(Clone, Copy)]
 pub enum Decoded {
     // The frame is not all there.
     Waiting,
@@ -52,7 +52,7 @@ impl Decoded {
 }
 
 // What became of a frame that was to be written.
-#[derive(Drop)]
+#[derive(Clone, Copy)]
 pub enum Encoded {
     // Its length.
     Written(usize),

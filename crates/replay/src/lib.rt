@@ -1,4 +1,6 @@
 // The lines of the scripts that the programs replay: the words of a call (`words`), and the line that answers it (`text`).
+#![tactic(auto)]
+
 pub mod text;
 pub mod words;
 

@@ -1,5 +1,7 @@
 // Replays recorded calls of decode, missing and has_feature: a line of standard input is a call, and the line written
 // for it is to be the one recorded from libadb or, for the texts at the end, the one of a table (docs/VECTORS.md).
+#![tactic(auto)]
+
 use protocol::command::Command;
 use protocol::packet::{Decoded, Packet};
 use replay::text::{put, put_field, put_hex, written};

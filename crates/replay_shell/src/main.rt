@@ -1,6 +1,8 @@
 // Replays calls of the shell frames' reader and writer, and console sessions in pieces: a line of standard input is a call, and the
 // line written for it is to be the stored one (docs/VECTORS.md). A frame that is read is written again, and its bytes are shown; of
 // a session the output, the errors and the exit's data, each gathered piece by piece, and the unfinished rest.
+#![tactic(auto)]
+
 ghost use Rattle.std.specs.Prelude.{◌+◌, ◌≤◌, ◌<◌, length};
 ghost use Rattle.replay_shell.specs.Bounds.{Room};
 
@@ -104,7 +106,7 @@ fn at_most(n: usize, max: usize) -> usize
 }
 
 // What pieces of a session came to: how much was used and gathered, and why it ended.
-#[derive(Drop)]
+#[derive(Clone, Copy)]
 struct Shown {
     used: usize,
     length: usize,

@@ -1,5 +1,7 @@
 // Replays calls of the sync messages' reader and writer: a line of standard input is a call, and the line written for it is to
 // be the stored one (docs/VECTORS.md). A message that is read is written again, and its bytes are shown.
+#![tactic(auto)]
+
 pub mod wide;
 
 ghost use Rattle.std.specs.Prelude.{◌≤◌, length};

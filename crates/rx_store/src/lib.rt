@@ -1,5 +1,7 @@
 // The receive store: for each slot a share of 2 × cap bytes, with `buffered` bytes from `head` on in one run. Taking moves the head; an
 // append that would pass the share's end first moves the run down to the start, so that a byte is moved about once.
+#![tactic(auto)]
+
 ghost use Rattle.std.specs.Prelude.{◌≡◌, ◌+◌, ◌*◌, ◌≤◌, length};
 ghost use Rattle.le.specs.Le.{part, put};
 ghost use Rattle.rx_store.specs.RxStore.{Room, slid, appended_head, taken_head, Appends, ShareFits, buffered_in, front_of};

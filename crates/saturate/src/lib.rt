@@ -1,4 +1,6 @@
 // Sums that stop at the ends of their type's range, and the smaller of two numbers.
+#![tactic(auto)]
+
 ghost use Rattle.std.specs.Prelude.{◌≡◌, min, ℤ, ◌+ℤ◌};
 ghost use Rattle.saturate.specs.Saturate.{clamp, sat_sum, positive_part};
 

@@ -1,5 +1,7 @@
 // The frames of AOSP's shell protocol over a channel's bytes, and their reader: a kind, the data's length in 32 bits, data. Data
 // stays where it was received.
+#![tactic(auto)]
+
 ghost use Rattle.std.specs.Prelude.{◌≡◌, ◌≤◌, ◌<◌, length};
 ghost use Rattle.shell.specs.Frame.{is_unknown, is_empty_exit, code_of, headed_of, read_frame, read_number};
 
@@ -25,7 +27,7 @@ pub const WINDOW_SIZE: u32 = 5;
 pub const HEAD_LEN: usize = 5;
 
 // What received bytes begin with.
-#[derive(Drop)]
+#[derive(Clone, Copy)]
 pub enum Read {
     // The frame is not all there.
     Waiting,

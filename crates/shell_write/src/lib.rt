@@ -1,4 +1,6 @@
 // Shell frames to bytes, what `shell` reads them from.
+#![tactic(auto)]
+
 ghost use Rattle.std.specs.Prelude.{◌≡◌};
 ghost use Rattle.le.specs.Le.{put};
 ghost use Rattle.shell_write.specs.Write.{frame_bytes, Room, write_frame, Writes, written_number};
@@ -9,7 +11,7 @@ use shell::{HEAD_LEN, is_empty_exit, is_unknown};
 pub const DATA_MAX: usize = 0xffff_ffff;
 
 // What became of a frame that was to be written.
-#[derive(Drop)]
+#[derive(Clone, Copy)]
 pub enum Written {
     // Its length.
     Bytes(usize),

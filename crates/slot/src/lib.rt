@@ -1,5 +1,7 @@
 // One channel's numbers, by value, and the answers of what is done to them: `slot_send` and `slot_receive` have what a packet, a
 // read and a write do. Its bytes are `rx_store`'s.
+#![tactic(auto)]
+
 pub mod ids;
 
 ghost use Rattle.std.specs.Prelude.{◌≡◌};
@@ -11,7 +13,7 @@ use config::negotiated::RxPolicy;
 use credit::CreditFault;
 use ids::{ChannelIds, LocalId, RemoteId};
 
-#[derive(Drop)]
+#[derive(Clone, Copy)]
 pub enum ChannelState {
     // An OPEN was sent and not answered yet.
     Opening,
@@ -20,7 +22,7 @@ pub enum ChannelState {
 }
 
 // What is wrong with a packet for a channel: refusals 11, those of a credit (5, 20, 21), and 6.
-#[derive(Drop)]
+#[derive(Clone, Copy)]
 pub enum ChannelFault {
     RxOverflow,
     BadCredit(CreditFault),
@@ -28,20 +30,20 @@ pub enum ChannelFault {
 }
 
 // The fault that a slot was closed with, if any.
-#[derive(Drop)]
+#[derive(Clone, Copy)]
 pub enum Failed {
     No,
     By(ChannelFault),
 }
 
 // Why a channel can't be read or written any more.
-#[derive(Drop)]
+#[derive(Clone, Copy)]
 pub enum ChannelError {
     Closed,
     Fault(ChannelFault),
 }
 
-#[derive(Drop)]
+#[derive(Clone, Copy)]
 pub struct ChannelSlot {
     // Whether a channel is here.
     pub filled: bool,
@@ -69,14 +71,14 @@ pub struct ChannelSlot {
 }
 
 // A channel's numbers, once the device's is known.
-#[derive(Drop)]
+#[derive(Clone, Copy)]
 pub enum SlotIds {
     Known(ChannelIds),
     Unknown,
 }
 
 // What an OKAY did.
-#[derive(Drop)]
+#[derive(Clone, Copy)]
 pub enum Readied {
     Slot(ChannelSlot),
     // Refusals 5, 20 and 21.
@@ -84,7 +86,7 @@ pub enum Readied {
 }
 
 // What became of a WRTE's payload.
-#[derive(Drop)]
+#[derive(Clone, Copy)]
 pub enum AckDecision {
     // Buffered, and to be acknowledged at once with this length.
     Now(usize),
@@ -96,27 +98,27 @@ pub enum AckDecision {
     Early,
 }
 
-#[derive(Drop)]
+#[derive(Clone, Copy)]
 pub struct Wrote {
     pub slot: ChannelSlot,
     pub decision: AckDecision,
 }
 
 // An acknowledgement that is due, with its length.
-#[derive(Drop)]
+#[derive(Clone, Copy)]
 pub enum PendingAck {
     Len(usize),
     Nothing,
 }
 
-#[derive(Drop)]
+#[derive(Clone, Copy)]
 pub struct Settled {
     pub slot: ChannelSlot,
     pub ack: PendingAck,
 }
 
 // What a read finds buffered.
-#[derive(Drop)]
+#[derive(Clone, Copy)]
 pub enum Taken {
     // This many bytes are taken from the front of the run.
     Data(ChannelSlot, usize),
@@ -125,14 +127,14 @@ pub enum Taken {
 }
 
 // How many bytes may be sent now.
-#[derive(Drop)]
+#[derive(Clone, Copy)]
 pub enum Budget {
     Bytes(usize),
     Nothing,
 }
 
 // Bytes set aside for sending.
-#[derive(Drop)]
+#[derive(Clone, Copy)]
 pub enum Reserved {
     Bytes(ChannelSlot, usize),
     Nothing,

@@ -1,5 +1,7 @@
 // What a WRTE of the device's and a read do to a channel's numbers: room, what is set aside, what is acknowledged. The bytes
 // are `rx_store`'s.
+#![tactic(auto)]
+
 ghost use Rattle.std.specs.Prelude.{◌≡◌, ◌≤◌};
 ghost use Rattle.slot.specs.Slot.{held_of, acks_now, wrote_of, some_len, delivered_of, ack_len_of, is_ack, has_data, settled_some, settled_of};
 ghost use Rattle.slot.specs.Slot.{take_len, took_of, taken_of, take_acks, total_with, slot_ok, SlotOk};
@@ -250,7 +252,7 @@ pub fn is_sound(slot: ChannelSlot, cap: usize) -> bool
     }
     // Held bytes: where less is buffered than settled, the difference wraps to more than any cap.
     let buffered = slot.buffered as usize;
-    let held = std::num::wrapping_sub_usize(buffered, settled);
+    let held = buffered.wrapping_sub(settled);
     if held > cap {
         return false;
     }

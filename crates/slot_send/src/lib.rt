@@ -1,4 +1,6 @@
 // What an OKAY and a WRTE of ours do to a channel's numbers: credit, budget, leave for the next WRTE.
+#![tactic(auto)]
+
 ghost use Rattle.std.specs.Prelude.{◌≡◌, min, pos};
 ghost use Rattle.slot.specs.Slot.{opened_of, ready_of, budget_of, spent_of, refunded_of, reserved_of};
 

@@ -1,11 +1,13 @@
 // A file's stat of the second layout from one of the first, and back where the first can say it.
+#![tactic(auto)]
+
 ghost use Rattle.std.specs.Prelude.{◌≡◌};
 ghost use Rattle.stat_convert.specs.Convert.{is_far, narrow_at, narrow_of, narrow_number, widen_of};
 
 use sync::{FileMode, StatV1, StatV2};
 
 // What became of a stat of the second layout that was to be one of the first.
-#[derive(Drop)]
+#[derive(Clone, Copy)]
 pub enum Narrowed {
     Stat(StatV1),
     // Refusal 16: a size of 2^32 or more, or a time of the contents that is negative or that large.

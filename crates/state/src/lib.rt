@@ -1,6 +1,8 @@
 // The lent state, worked on in place: a header, 64 slots, 64 queued opens (docs/LAYOUT.md).
 // The header is read and written by value; a slot or a queued open is read where it lies, and the one that changed is
 // stored.
+#![tactic(auto)]
+
 ghost use Rattle.std.specs.Prelude.{◌≡◌, ◌+◌, ◌*◌, ◌≤◌, ◌<◌, length};
 ghost use Rattle.le.specs.Le.{put};
 ghost use Rattle.state.specs.State.{header_len, queued_len, slot_len, state_len, flag_of, flag_byte, state_of_tag, state_tag, failed_of_tag};
@@ -30,7 +32,7 @@ pub const STATE_LEN: usize = QUEUE_AT + 64 * QUEUED_LEN;
 
 // What stands between two calls: nothing; an open of ours, until its OKAY comes; an offer, an open of the device's that was
 // taken off the queue and is not decided.
-#[derive(Drop)]
+#[derive(Clone, Copy)]
 pub enum Pending {
     Nothing,
     Opening,
@@ -38,7 +40,7 @@ pub enum Pending {
 }
 
 // The place and the number are those of the last open of ours.
-#[derive(Drop)]
+#[derive(Clone, Copy)]
 pub struct PendingOpen {
     pub what: Pending,
     pub slot: usize,
@@ -69,7 +71,7 @@ impl Pending {
     }
 }
 
-#[derive(Drop)]
+#[derive(Clone, Copy)]
 pub struct Header {
     pub negotiated: Negotiated,
     // The number that the next channel gets.
@@ -80,7 +82,7 @@ pub struct Header {
 }
 
 // An open of the device's that is queued until it is taken. Its destination lies at the start of its share of the open store.
-#[derive(Drop)]
+#[derive(Clone, Copy)]
 pub struct QueuedOpen {
     pub remote: RemoteId,
     pub credit: u32,

@@ -1,4 +1,6 @@
 // Whether lent bytes are a whole state: one pass over the slots, with the test that they are a state merged in.
+#![tactic(auto)]
+
 ghost use Rattle.std.specs.Prelude.{◌≡◌, ◌+◌, ◌-◌, ◌*◌, ◌≤◌, ◌<◌, length, take, drop};
 ghost use Rattle.le.specs.Le.{part};
 ghost use Rattle.state.specs.State.{header_len, slot_len, state_len, is_tag, state_of};

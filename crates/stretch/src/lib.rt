@@ -1,5 +1,7 @@
 // The fewest neighbouring frames, of some that end in a refusal, that end in the same one (docs/SCOPE.md, 14). Frames are
 // dispatched on a copy of the state and on spare stores: what dispatch answers does not depend on the stores' bytes.
+#![tactic(auto)]
+
 ghost use Rattle.std.specs.Prelude.{◌≡◌, ◌≤◌, length, drop};
 ghost use Rattle.state.specs.State.{state_len};
 ghost use Rattle.stretch.specs.Stretch.{world_of, Turns, run_of, Inside, Tells, Searches, shortest_in, shortest_of, is_counted, is_shorter};
@@ -8,21 +10,21 @@ use call_dispatch::dispatch;
 use state::STATE_LEN;
 
 // A stretch: the first frame's place, from 0, and the count; or none.
-#[derive(Drop)]
+#[derive(Clone, Copy)]
 pub enum Found {
     Frames(usize, usize),
     Nothing,
 }
 
 // What one packet's dispatch answered, and the bytes that it used.
-#[derive(Drop)]
+#[derive(Clone, Copy)]
 pub struct Turn {
     pub number: u32,
     pub used: usize,
 }
 
 // How many frames were dispatched, and what the last one answered.
-#[derive(Drop)]
+#[derive(Clone, Copy)]
 pub struct Ran {
     pub count: usize,
     pub number: u32,

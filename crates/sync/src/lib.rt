@@ -1,5 +1,7 @@
 // The messages of AOSP's SYNC.TXT over a channel's bytes, by libadb's names (sync/format.rs), and their reader. A text or data
 // stays where it was received.
+#![tactic(auto)]
+
 ghost use Rattle.std.specs.Prelude.{◌≡◌, ◌≤◌, length};
 ghost use Rattle.exchange.specs.Exchange.{head_of};
 ghost use Rattle.sync.specs.Message.{stat_of, stat_v2_of, fields_of, length_of, known_of, read_message, read_number};
@@ -7,11 +9,11 @@ ghost use Rattle.sync.specs.Message.{stat_of, stat_v2_of, fields_of, length_of, 
 use exchange::{Exchange, Found, Layout, SyncId};
 
 // A file's type and its permissions, as one number.
-#[derive(Drop)]
+#[derive(Clone, Copy)]
 pub struct FileMode(pub u32);
 
 // What a STAT reply and a DENT say of a file.
-#[derive(Drop)]
+#[derive(Clone, Copy)]
 pub struct StatV1 {
     pub mode: FileMode,
     pub size: u32,
@@ -19,7 +21,7 @@ pub struct StatV1 {
 }
 
 // What a STA2 reply and a DNT2 say of a file. Times are in seconds since 1970; `mtime` is of the contents, `ctime` of the status.
-#[derive(Drop)]
+#[derive(Clone, Copy)]
 pub struct StatV2 {
     pub error: u32,
     pub dev: u64,
@@ -35,7 +37,7 @@ pub struct StatV2 {
 }
 
 // The numbers of a message, but for the length of its text: one case for each layout.
-#[derive(Drop)]
+#[derive(Clone, Copy)]
 pub enum Fields {
     Text,
     Number(u32),
@@ -48,14 +50,14 @@ pub enum Fields {
     EndV2(StatV2, u32),
 }
 
-#[derive(Drop)]
+#[derive(Clone, Copy)]
 pub struct Message {
     pub id: SyncId,
     pub fields: Fields,
 }
 
 // What received bytes begin with.
-#[derive(Drop)]
+#[derive(Clone, Copy)]
 pub enum Read {
     // The message is not all there.
     Waiting,

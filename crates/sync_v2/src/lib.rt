@@ -1,4 +1,6 @@
 // What is said to C of the messages of the second stat layout, and such messages from what C says.
+#![tactic(auto)]
+
 ghost use Rattle.std.specs.Prelude.{◌≡◌, ◌≤◌, length};
 ghost use Rattle.le.specs.Le.{num_of, bytes_of, put};
 ghost use Rattle.le.specs.Rows.{flat, rows};
@@ -13,7 +15,7 @@ use sync::{Fields, FileMode, Message, Read, StatV2};
 use sync_write::{Written, write};
 
 // What is said of received bytes: where the message is, its stat, and the number in the place of a name's length.
-#[derive(Drop)]
+#[derive(Clone, Copy)]
 pub struct SaidV2 {
     pub used: usize,
     pub at: usize,

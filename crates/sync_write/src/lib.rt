@@ -1,4 +1,6 @@
 // The sync messages to bytes, what `sync` reads them from.
+#![tactic(auto)]
+
 ghost use Rattle.std.specs.Prelude.{◌≡◌, ◌≤◌, length};
 ghost use Rattle.le.specs.Le.{put};
 ghost use Rattle.exchange.specs.Exchange.{head_of};
@@ -9,7 +11,7 @@ use exchange::{Exchange, Found, Layout};
 use sync::{Fields, Message, StatV1, StatV2};
 
 // What became of a message that was to be written.
-#[derive(Drop)]
+#[derive(Clone, Copy)]
 pub enum Written {
     // Its length.
     Bytes(usize),

@@ -1,4 +1,6 @@
 // The channel table: which slot is free, which one a number names.
+#![tactic(auto)]
+
 ghost use Rattle.std.specs.Prelude.{◌≡◌, ◌≤◌, length, if◌then◌else◌};
 ghost use Rattle.state.specs.State.{state_len, state_of};
 ghost use Rattle.table.specs.declared.Want.TheVariants.{Local, Remote, Live};
@@ -9,14 +11,14 @@ use slot::{ChannelSlot, is_closed};
 use state::{Header, slot_at};
 
 // A channel as its holder names it.
-#[derive(Drop)]
+#[derive(Clone, Copy)]
 pub struct ChannelId {
     pub slot: usize,
     pub local: LocalId,
 }
 
 // What a slot is looked for by.
-#[derive(Drop)]
+#[derive(Clone, Copy)]
 pub enum Want {
     Empty,
     Local(LocalId),
@@ -25,7 +27,7 @@ pub enum Want {
     Live(RemoteId),
 }
 
-#[derive(Drop)]
+#[derive(Clone, Copy)]
 pub enum Allocated {
     Channel(ChannelId),
     NoFree,
@@ -107,7 +109,7 @@ pub fn place_below(state: &[u8], n: usize, want: Want) -> usize
 pub fn next_local(n: u32) -> u32
     ensures { result ≡ next_local_id n }
 {
-    let next = std::num::wrapping_add_u32(n, 1);
+    let next = n.wrapping_add(1);
     if next == 0 {
         return 1;
     }

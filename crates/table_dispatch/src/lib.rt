@@ -1,4 +1,6 @@
 // One packet from the device: which slot it is for, and what it does there. The slot that changed is stored where it lies.
+#![tactic(auto)]
+
 ghost use Rattle.std.specs.Prelude.{◌≡◌, ◌+◌, ◌*◌, ◌≤◌, ◌<◌, length};
 ghost use Rattle.state.specs.Change.{Steps};
 ghost use Rattle.state.specs.State.{state_of, slot_at};
@@ -14,7 +16,7 @@ use state::{put_slot, slot_at};
 use table::{Want, place_below};
 
 // What a packet was, and what it did.
-#[derive(Drop)]
+#[derive(Clone, Copy)]
 pub enum DispatchOutcome {
     // A WRTE was buffered and is to be acknowledged at once, with this length.
     AckWrite(usize, ChannelIds, usize),

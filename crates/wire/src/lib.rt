@@ -1,4 +1,6 @@
 // Outgoing frames, written into a buffer that the caller lends, at a place of it.
+#![tactic(auto)]
+
 ghost use Rattle.std.specs.Prelude.{[], ◌+◌, ◌≤◌, length};
 ghost use Rattle.protocol.specs.Packet.{frame_for, FrameRoom, Puts};
 ghost use Rattle.wire.specs.Wire.{okay_bytes, close_bytes, open_bytes, write_bytes};
