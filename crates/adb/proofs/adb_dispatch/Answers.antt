@@ -1,0 +1,24 @@
+use Rattle.adb.proofs.ExportLaws.{does-short, does_call, long-answer, dispatch-is}
+use Rattle.adb.specs.Export.{world_of}
+use Rattle.history.specs.Run.{dispatch_call}
+use mathlib.Core.List.{[]}
+use mathlib.Core.Path.{sym, ◌∙◌}
+use Rattle.adb.proofs.adb_dispatch.Goals as goal
+
+pub returns-then-is_short : goal.returns-then-is_short
+returns-then-is_short c =
+    does-short (world_of c.args.state.now c.args.rx.now c.args.opens.now)
+    (dispatch_call c.args.out.now c.args.received.now) c.args.out.now [] c.args.answer.now
+    (sym c.is_short.ensures ∙ c.if-is_short.true)
+
+pub answered-requires : goal.answered-requires
+answered-requires c = (long-answer _ _ (sym c.is_short.ensures ∙ c.if-is_short.false)).1
+
+pub returns : goal.returns
+returns c =
+    does_call (world_of c.args.state.now c.args.rx.now c.args.opens.now)
+    (dispatch_call c.args.out.now c.args.received.now) c.args.out.now [] c.args.answer.now _
+    c.dispatch-reply.result _ _ _ _ _ _ _ (sym c.is_short.ensures ∙ c.if-is_short.false)
+    (dispatch-is c.args.state.now c.args.rx.now c.args.opens.now c.args.out.now c.args.received.now
+    (λ j. (c.type_inv.received j).fits)) c.dispatch-reply.ensures c.answered.ensures.0
+    c.answered.ensures.1 c.answered.ensures.2

@@ -1,0 +1,21 @@
+use Rattle.adb.proofs.ExportLaws.{does-short, does_call, long-answer, let-go-is}
+use Rattle.adb.specs.Export.{world_of}
+use Rattle.history.specs.Run.{let_go_call}
+use mathlib.Core.List.{[]}
+use mathlib.Core.Path.{sym, ◌∙◌}
+use Rattle.adb.proofs.adb_let_go.Goals as goal
+
+pub returns-then-is_short : goal.returns-then-is_short
+returns-then-is_short c =
+    does-short (world_of c.args.state.now c.args.rx.now c.args.opens.now) let_go_call [] [] c.args.answer.now
+    (sym c.is_short.ensures ∙ c.if-is_short.true)
+
+pub answered-requires : goal.answered-requires
+answered-requires c = (long-answer _ _ (sym c.is_short.ensures ∙ c.if-is_short.false)).1
+
+pub returns : goal.returns
+returns c =
+    does_call (world_of c.args.state.now c.args.rx.now c.args.opens.now) let_go_call [] [] c.args.answer.now _
+    c.let_go-reply.result _ _ _ _ _ _ _ (sym c.is_short.ensures ∙ c.if-is_short.false)
+    (let-go-is c.args.state.now c.args.rx.now c.args.opens.now) c.let_go-reply.ensures
+    c.answered.ensures.0 c.answered.ensures.1 c.answered.ensures.2

@@ -1,0 +1,21 @@
+use Rattle.adb.proofs.ExportLaws.{does-short, does_call, long-answer, front-is}
+use Rattle.adb.specs.Export.{world_of}
+use Rattle.history.specs.Run.{front_taken}
+use mathlib.Core.List.{[]}
+use mathlib.Core.Path.{sym, ◌∙◌}
+use Rattle.adb.proofs.adb_take_front.Goals as goal
+
+pub returns-then-is_short : goal.returns-then-is_short
+returns-then-is_short c =
+    does-short (world_of c.args.state.now c.args.rx.now c.args.opens.now) front_taken [] [] c.args.answer.now
+    (sym c.is_short.ensures ∙ c.if-is_short.true)
+
+pub answered-requires : goal.answered-requires
+answered-requires c = (long-answer _ _ (sym c.is_short.ensures ∙ c.if-is_short.false)).1
+
+pub returns : goal.returns
+returns c =
+    does_call (world_of c.args.state.now c.args.rx.now c.args.opens.now) front_taken [] [] c.args.answer.now _
+    c.take_front-reply.result _ _ _ _ _ _ _ (sym c.is_short.ensures ∙ c.if-is_short.false)
+    (front-is c.args.state.now c.args.rx.now c.args.opens.now) c.take_front-reply.ensures
+    c.answered.ensures.0 c.answered.ensures.1 c.answered.ensures.2

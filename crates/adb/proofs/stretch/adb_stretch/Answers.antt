@@ -1,0 +1,15 @@
+use mathlib.Core.Path.{sym, ◌∙◌}
+use Rattle.adb.proofs.ExportLaws.{long-answer}
+use Rattle.adb.proofs.StretchLaws.{stretch-short, stretch-called}
+use Rattle.adb.proofs.stretch.adb_stretch.Goals as goal
+
+pub returns-then-is_short : goal.returns-then-is_short
+returns-then-is_short c = stretch-short c.args.state.now c.args.rx.now c.args.opens.now c.args.received.now c.args.spare_rx.now c.args.spare_opens.now c.args.answer.now (sym c.is_short.ensures ∙ c.if-is_short.true)
+
+pub put_answer-requires : goal.put_answer-requires
+put_answer-requires c = (long-answer _ _ (sym c.is_short.ensures ∙ c.if-is_short.false)).1
+
+pub returns : goal.returns
+returns c =
+    stretch-called c.args.state.now c.args.rx.now c.args.opens.now c.args.received.now c.args.spare_rx.now c.args.spare_opens.now c.args.answer.now (sym c.is_short.ensures ∙ c.if-is_short.false)
+    c.stretch-found.result _ _ c.stretch-found.ensures c.stretch_values.result c.stretch_values.ensures _ c.put_answer.ensures _ c.number.ensures
