@@ -1,0 +1,6 @@
+use Rattle.sync_write.proofs.WriteLaws.{put_three}
+use borrow.Author.Rules.{rules}
+use Rattle.sync_write.proofs.put_stat.Goals as goal
+
+pub returns : goal.returns
+returns c = cc (put_three c.args.out.now c.args.stat c.requires)
