@@ -6,10 +6,6 @@ use borrow.Author.Tests.{lt-ltb, le-ltb}
 use Rattle.stat_convert.specs.Convert.{narrow_of}
 use borrow.Author.Rules.{rules}
 use Rattle.stat_convert.proofs.narrow.Goals as goal
-use Rattle.stat_convert.proofs.narrow.Goals.{Start}
-
-time-fits : (c : Start) → SFits w64 c.args.stat.mtime
-time-fits c = search rules
 
 pub returns-then-stat-gt0 : goal.returns-then-stat-gt0
 unfolding narrow_of
@@ -21,4 +17,6 @@ returns-then-stat-gt4294967295 c = rw (le-ltb 0 c.args.stat.error (omega arith),
 
 pub returns : goal.returns
 unfolding narrow_of
-returns c = rw (le-ltb 0 c.args.stat.error (omega arith), le-ltb 0xffff_ffff c.args.stat.size (omega arith)) (cc (to_z-of_z (time-fits c)))
+returns c =
+    let time-fits : SFits w64 c.args.stat.mtime = search rules in
+    rw (le-ltb 0 c.args.stat.error (omega arith), le-ltb 0xffff_ffff c.args.stat.size (omega arith)) (cc (to_z-of_z time-fits))

@@ -3,7 +3,6 @@ use mathlib.Core.Bool.{true, false}
 use mir.Facts.{to_z-of_z}
 use Rattle.stat_convert.specs.Convert.{is_far, narrow_at}
 use Rattle.stat_convert.proofs.ConvertLaws.{time-fits}
-use borrow.Author.Rules.{rules}
 use Rattle.stat_convert.proofs.narrow_at.Goals as goal
 
 pub returns-then-is_far : goal.returns-then-is_far

@@ -2,7 +2,6 @@ use native.Mathlib.Omega.{arith}
 use mir.Syntax.{w64}
 use mir.Facts.{to_z_pos}
 use Rattle.stat_convert.specs.Convert.{widen_of}
-use borrow.Author.Rules.{rules}
 use Rattle.stat_convert.proofs.widen.Goals as goal
 
 pub returns : goal.returns

@@ -1,5 +1,4 @@
 use Rattle.sync_write.specs.Write.{is_other}
-use borrow.Author.Rules.{rules}
 use Rattle.sync_write.proofs.is_other.Goals as goal
 
 pub returns : goal.returns

@@ -1,5 +1,4 @@
 use Rattle.sync_write.specs.Write.{layout_of}
-use borrow.Author.Rules.{rules}
 use Rattle.sync_write.proofs.layout_of.Goals as goal
 
 pub returns-in-Text : goal.returns-in-Text

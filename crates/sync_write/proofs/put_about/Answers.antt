@@ -1,5 +1,4 @@
 use Rattle.sync_write.proofs.WriteLaws.{put-seven}
-use borrow.Author.Rules.{rules}
 use Rattle.sync_write.proofs.put_about.Goals as goal
 
 pub returns : goal.returns

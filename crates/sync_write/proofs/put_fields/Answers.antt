@@ -2,7 +2,6 @@ use native.Mathlib.Omega.{arith}
 use Rattle.exchange.specs.Exchange.{head_of}
 use Rattle.sync_write.specs.Write.{layout_of, field_bytes}
 use Rattle.sync_write.proofs.WriteLaws.{put-behind, put-behind-wide}
-use borrow.Author.Rules.{rules}
 use Rattle.sync_write.proofs.put_fields.Goals as goal
 
 pub put_u32-requires : goal.put_u32-requires

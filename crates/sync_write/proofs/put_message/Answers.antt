@@ -4,7 +4,6 @@ use Rattle.exchange.specs.Exchange.{head_of}
 use Rattle.sync_write.specs.Write.{layout_of}
 use Rattle.exchange.proofs.ExchangeLaws.{heads}
 use Rattle.sync_write.proofs.WriteLaws.{put-message}
-use borrow.Author.Rules.{rules}
 use Rattle.sync_write.proofs.put_message.Goals as goal
 
 pub put_u32-requires : goal.put_u32-requires

@@ -1,5 +1,4 @@
 use Rattle.sync_write.proofs.WriteLaws.{put-wide}
-use borrow.Author.Rules.{rules}
 use Rattle.sync_write.proofs.put_stat_v2.Goals as goal
 
 pub returns : goal.returns

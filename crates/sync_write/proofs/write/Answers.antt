@@ -1,7 +1,6 @@
 use mathlib.Core.Path.{refl, sym, ◌∙◌}
 use Rattle.sync_write.specs.Write.{write_named}
 use Rattle.sync_write.proofs.WriteLaws.{named-write}
-use borrow.Author.Rules.{rules}
 use Rattle.sync_write.proofs.write.Goals as goal
 
 pub returns-in-Known : goal.returns-in-Known

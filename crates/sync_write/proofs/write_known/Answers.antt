@@ -7,7 +7,6 @@ use Rattle.exchange.specs.Exchange.{head_of, longest_of}
 use Rattle.sync_write.specs.Write.{write_known}
 use Rattle.exchange.proofs.ExchangeLaws.{heads}
 use Rattle.sync_write.proofs.WriteLaws.{room, written}
-use borrow.Author.Rules.{rules}
 use Rattle.sync_write.proofs.write_known.Goals as goal
 
 pub returns-then-is_other : goal.returns-then-is_other

@@ -1,5 +1,4 @@
 use Rattle.stat_convert.specs.Convert.{narrow_number}
-use borrow.Author.Rules.{rules}
 use Rattle.stat_convert.proofs.Narrowed.number.Goals as goal
 
 pub returns-in-Stat : goal.returns-in-Stat

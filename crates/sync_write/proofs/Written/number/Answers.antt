@@ -1,5 +1,4 @@
 use Rattle.sync_write.specs.Write.{written_number}
-use borrow.Author.Rules.{rules}
 use Rattle.sync_write.proofs.Written.number.Goals as goal
 
 pub returns-in-Bytes : goal.returns-in-Bytes
