@@ -1,7 +1,7 @@
 -- The exported conversions. Assumes nothing.
 --     four-enough         of a stat of the second layout, narrowing asks the four numbers that it is handed
 --     widened-narrowed    what widening says, handed to narrowing, says the first stat again
-use mathlib.Core.Path.{◌≡◌, refl, ap, ◌∙◌}
+use mathlib.Core.Path.{◌≡◌, refl}
 use mathlib.Core.List.{List, [], ◌∷◌}
 use Prim.Native.Nat.{ℕ, ◌^◌, ◌≤◌, ◌<◌}
 use lib.ListN.{length}
@@ -9,13 +9,11 @@ use borrow.Author.Tests.{le-ltb}
 use Rattle.le.specs.Le.{put}
 use Rattle.sync.specs.declared.StatV1.{StatV1}
 use Rattle.sync.specs.declared.StatV2.{StatV2}
-use Rattle.sync.specs.declared.Fields.TheVariants.{Stat as StatFields}
-use Rattle.stat_convert.specs.declared.Narrowed.TheVariants.{Stat}
 use Rattle.stat_convert.specs.Convert.{narrow_of, narrow_number, widen_of}
 use Rattle.stat_convert.proofs.BothWays.{old-wide-old}
 use Rattle.sync_write.specs.Write.{numbers_of}
 use Rattle.adb_sync.specs.declared.Said.{Said}
-use Rattle.adb_sync.specs.Export.{values_of, numbers_in, said_bytes, ReadOutcome}
+use Rattle.adb_sync.specs.Export.{values_of, said_bytes}
 use Rattle.adb_sync.specs.ExportV2.{narrow_said, narrows_in, four_of}
 
 pub four-enough : (s : StatV2) → narrow_of (four_of s.error s.mode.0 s.size s.mtime) ≡ narrow_of s
