@@ -1,8 +1,11 @@
 // Bytes of standard input, held in a lent buffer until they are used: those from `at` to `end`.
 #![tactic(auto)]
 
-ghost use Rattle.std.specs.Prelude.{◌≡◌, true};
+ghost use Rattle.std.specs.Prelude.{◌≡◌, ◌≤◌, length, true, IfOk};
 ghost use Rattle.intake.specs.Intake.{Within, ReadsMore};
+
+use std::io;
+use std::io::Read;
 
 #[derive(Clone, Copy)]
 pub struct Held {
@@ -23,18 +26,42 @@ pub fn begin() -> Held
     }
 }
 
+// How many bytes one read put at the start of buf: none where it failed, as where the input has ended.
+fn came<R: Read>(input: &mut R, buf: &mut [u8]) -> usize
+    ensures { result ≤ length buf.new }
+{
+    match input.read(buf) {
+        Ok(n) => n,
+        Err(_) => 0,
+    }
+}
+
 // One read, behind what is held, which is moved to the buffer's start. Where nothing comes, there is no more.
-pub fn read_more(buf: &mut [u8], at: usize, end: usize) -> Held
+pub fn read_more<R: Read>(input: &mut R, buf: &mut [u8], at: usize, end: usize) -> Held
     requires { Within at end buf.old }
     ensures { ReadsMore buf.old at end result buf.new }
 {
     let n = end - at;
     rx_store::move_down(buf, at, n);
-    let got = libc::read(libc::STDIN_FILENO, &mut buf[n..]);
-    let came = io::count(got, &buf[n..]);
+    let came = came(input, &mut buf[n..]);
     Held {
         at: 0,
         end: n + came,
         more: came > 0,
     }
+}
+
+// Reads until buf is full or the input ends, and returns how many bytes came. They stand at the start of buf.
+pub fn read_full<R: Read>(input: &mut R, buf: &mut [u8]) -> io::Result<usize>
+    ensures { IfOk result (λ n. n ≤ length buf.new) }
+{
+    let mut done = 0;
+    while done < buf.len() {
+        let came = input.read(&mut buf[done..])?;
+        if came == 0 {
+            return Ok(done);
+        }
+        done += came;
+    }
+    Ok(done)
 }

@@ -1,0 +1,9 @@
+-- What was read stands in the buffer, which stays as long as it was.
+use Rattle.std.specs.Prelude.{◌≡◌, ◌-◌, ◌≤◌, length}
+use Rattle.intake.proofs.read_full.Given as goal
+
+abbrev pub invariant-loop-done : goal.invariant-loop-done
+invariant-loop-done g l = (length l.buf ≡ length l.initial.buf) × (l.done ≤ length l.buf)
+
+abbrev pub decreases-loop-done : goal.decreases-loop-done
+decreases-loop-done g l = length l.initial.buf - l.done
