@@ -1,7 +1,9 @@
 // Bytes of standard input, held in a lent buffer until they are used: those from `at` to `end`.
 #![tactic(auto)]
 
-ghost use Rattle.std.specs.Prelude.{◌≡◌, ◌≤◌, length, true, IfOk};
+ghost use Rattle.std.specs.Prelude.{◌≡◌, ◌-◌, ◌<◌, ◌≤◌, length, take, true, IfOk};
+ghost use Rattle.std.specs.Io.KnownBytes.{Consumes, IsAtEnd};
+ghost use Rattle.le.specs.Le.{part};
 ghost use Rattle.intake.specs.Intake.{Within, ReadsMore};
 
 use std::io;
@@ -28,7 +30,8 @@ pub fn begin() -> Held
 
 // How many bytes one read put at the start of buf: none where it failed, as where the input has ended.
 fn came<R: Read>(input: &mut R, buf: &mut [u8]) -> usize
-    ensures { result ≤ length buf.new }
+    ensures bound { result ≤ length buf.new }
+    ensures bytes { Consumes (R.remaining input.old) (R.remaining input.new) (take result buf.new) }
 {
     match input.read(buf) {
         Ok(n) => n,
@@ -39,7 +42,8 @@ fn came<R: Read>(input: &mut R, buf: &mut [u8]) -> usize
 // One read, behind what is held, which is moved to the buffer's start. Where nothing comes, there is no more.
 pub fn read_more<R: Read>(input: &mut R, buf: &mut [u8], at: usize, end: usize) -> Held
     requires { Within at end buf.old }
-    ensures { ReadsMore buf.old at end result buf.new }
+    ensures held { ReadsMore buf.old at end result buf.new }
+    ensures bytes { Consumes (R.remaining input.old) (R.remaining input.new) (part buf.new (end - at) (result.end - (end - at))) }
 {
     let n = end - at;
     rx_store::move_down(buf, at, n);
@@ -53,7 +57,9 @@ pub fn read_more<R: Read>(input: &mut R, buf: &mut [u8], at: usize, end: usize) 
 
 // Reads until buf is full or the input ends, and returns how many bytes came. They stand at the start of buf.
 pub fn read_full<R: Read>(input: &mut R, buf: &mut [u8]) -> io::Result<usize>
-    ensures { IfOk result (λ n. n ≤ length buf.new) }
+    ensures bound { IfOk result (λ n. n ≤ length buf.new) }
+    ensures bytes { IfOk result (λ n. Consumes (R.remaining input.old) (R.remaining input.new) (take n buf.new)) }
+    ensures end { IfOk result (λ n. n < length buf.new → IsAtEnd (R.remaining input.new)) }
 {
     let mut done = 0;
     while done < buf.len() {
