@@ -10,7 +10,7 @@ use Prim.Native.Nat.{ℕ, ◌≤◌, ◌<◌, ◌^◌}
 use native.Mathlib.Omega.{arith}
 use lib.Dec.{T, ltb}
 use lib.IntN.{ℤ, pos, negsuc, nat_abs}
-use borrow.Author.Tests.{ltb-true, ltb-false, lt-ltb, le-ltb}
+use borrow.Author.Tests.{ltb-false, lt-ltb, le-ltb}
 use Rattle.le.proofs.Parts.{by-test}
 use Rattle.sync.specs.declared.FileMode.{FileMode}
 use Rattle.sync.specs.declared.StatV1.{StatV1}

@@ -4,7 +4,7 @@ use mathlib.Core.List.{List, [], ◌∷◌, ◌++◌, append_assoc, append-nil}
 use Prim.Native.Nat.{ℕ, ◌+◌, ◌^◌, ◌≤◌, ◌<◌}
 use native.Mathlib.Omega.{arith}
 use lib.ListN.{length, drop, length-append}
-use Rattle.le.specs.Le.{num_of, bytes_of, unsigned, put}
+use Rattle.le.specs.Le.{num_of, bytes_of, put}
 use Rattle.le.specs.Rows.{flat, rows}
 use Rattle.le.proofs.Laws.{length-bytes_of, write_read, unsigned_small}
 use Rattle.le.proofs.Parts.{put-put, put-seq}

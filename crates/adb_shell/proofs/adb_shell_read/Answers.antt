@@ -1,0 +1,11 @@
+use native.Mathlib.Omega.{arith}
+use Rattle.adb_shell.proofs.ExportLaws.{read_short, read_done}
+use Rattle.adb_shell.proofs.adb_shell_read.Goals as goal
+
+pub returns-then-answer-lt40 : goal.returns-then-answer-lt40
+returns-then-answer-lt40 c = read_short c.args.received.now c.args.answer.now (omega arith)
+
+pub returns : goal.returns
+returns c =
+    read_done c.args.received.now c.args.answer.now _ c.read_frame-read.result _ (omega arith) c.read_frame-read.ensures c.put_read.ensures
+    c.number.ensures

@@ -1,0 +1,17 @@
+use native.Mathlib.Omega.{arith}
+use borrow.Author.Tests.{ne_eqb}
+use Rattle.le.specs.Le.{num_of}
+use Rattle.exchange.specs.Exchange.{among_of, list_replies, word_of, letters_of}
+use Rattle.exchange.proofs.list_reply.Goals as goal
+
+pub returns-in-1414415684 : goal.returns-in-1414415684
+unfolding among_of list_replies word_of letters_of num_of
+returns-in-1414415684 c = rw c.in-1414415684.is
+
+pub returns-in-1162760004 : goal.returns-in-1162760004
+unfolding among_of list_replies word_of letters_of num_of
+returns-in-1162760004 c = rw c.in-1162760004.is
+
+pub returns-in_default : goal.returns-in_default
+unfolding among_of list_replies word_of letters_of num_of
+returns-in_default c = rw (ne_eqb c.args.word 0x544e_4544 (omega arith), ne_eqb c.args.word 0x454e_4f44 (omega arith))

@@ -1,0 +1,21 @@
+use native.Mathlib.Omega.{arith}
+use borrow.Author.Tests.{ne_eqb}
+use Rattle.le.specs.Le.{num_of}
+use Rattle.exchange.specs.Exchange.{among_of, recv_replies, word_of, letters_of}
+use Rattle.exchange.proofs.recv_reply.Goals as goal
+
+pub returns-in-1096040772 : goal.returns-in-1096040772
+unfolding among_of recv_replies word_of letters_of num_of
+returns-in-1096040772 c = rw c.in-1096040772.is
+
+pub returns-in-1162760004 : goal.returns-in-1162760004
+unfolding among_of recv_replies word_of letters_of num_of
+returns-in-1162760004 c = rw c.in-1162760004.is
+
+pub returns-in-1279869254 : goal.returns-in-1279869254
+unfolding among_of recv_replies word_of letters_of num_of
+returns-in-1279869254 c = rw c.in-1279869254.is
+
+pub returns-in_default : goal.returns-in_default
+unfolding among_of recv_replies word_of letters_of num_of
+returns-in_default c = rw (ne_eqb c.args.word 0x4154_4144 (omega arith), ne_eqb c.args.word 0x454e_4f44 (omega arith), ne_eqb c.args.word 0x4c49_4146 (omega arith))
