@@ -45,7 +45,7 @@ clamp-small z = record { sfits = held_fits z }
 
 -- what the code passes on for a credit of 32 bits is the credit
 pub widened : (z : ℤ) → SFits w32 z → to_z w64 (of_z w64 (to_z w32 (of_z w32 z))) ≡ z
-widened z f = rw (to_z-of_z f) (to_z-of_z (sfits_widen tt f))
+widened z f = rw (to_z-of_z f) (to_z-of_z {w = w64} (sfits_widen tt f))
 
 -- what it adds for a length that is spent is its negative
 pub negated : (z : ℤ) (n : ℕ) → z ≡ pos (min n 9223372036854775807)

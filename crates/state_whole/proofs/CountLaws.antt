@@ -4,7 +4,6 @@ use mathlib.Core.Bool.{true}
 use mathlib.Core.List.{List}
 use Prim.Native.Nat.{ℕ}
 use native.Mathlib.Omega.{arith}
-use lib.ListN.{get_or}
 use Rattle.le.specs.Le.{Bytes}
 use Rattle.config.proofs.Laws.{and-true}
 use Rattle.slot.specs.Slot.{empty_slot, with_numbers, slot_ok}

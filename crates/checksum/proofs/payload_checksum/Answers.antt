@@ -1,4 +1,4 @@
-use Rattle.std.proofs.Common.{arith, rules}
+use Rattle.std.proofs.Common.{arith}
 use Rattle.checksum.proofs.ChecksumLaws.{sum-all}
 use Rattle.checksum.proofs.payload_checksum.Goals as goal
 

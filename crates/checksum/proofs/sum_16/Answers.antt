@@ -1,4 +1,4 @@
-use Rattle.std.proofs.Common.{arith, rules}
+use Rattle.std.proofs.Common.{arith}
 use Rattle.checksum.proofs.ChecksumLaws.{total-four}
 use Rattle.checksum.proofs.sum_16.Goals as goal
 

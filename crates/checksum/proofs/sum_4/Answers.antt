@@ -1,4 +1,4 @@
-use Rattle.std.proofs.Common.{arith, rules}
+use Rattle.std.proofs.Common.{arith}
 use Rattle.checksum.proofs.ChecksumLaws.{total-bytes}
 use Rattle.checksum.proofs.sum_4.Goals as goal
 

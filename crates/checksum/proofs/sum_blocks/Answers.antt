@@ -1,5 +1,4 @@
-use Rattle.std.proofs.Common.{◌≡◌, ◌+◌, ◌-◌, ◌*◌, ◌%◌, ◌≤◌, drop, arith}
-use Rattle.checksum.specs.Checksum.{total}
+use Rattle.std.proofs.Common.{◌≡◌, arith}
 use Rattle.checksum.proofs.ChecksumLaws.{total-drop, total-between}
 use Rattle.checksum.proofs.sum_blocks.Goals as goal
 

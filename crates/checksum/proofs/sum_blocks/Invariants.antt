@@ -1,6 +1,5 @@
-use Rattle.std.proofs.Common.{◌≡◌, ◌+◌, ◌-◌, ◌*◌, ◌%◌, ◌≤◌, drop, arith}
+use Rattle.std.proofs.Common.{◌≡◌, ◌+◌, ◌-◌, ◌*◌, ◌%◌, ◌≤◌, drop}
 use Rattle.checksum.specs.Checksum.{total}
-use Rattle.checksum.proofs.ChecksumLaws.{total-drop, total-between}
 use Rattle.checksum.proofs.sum_blocks.Given as goal
 
 abbrev pub invariant-loop-i : goal.invariant-loop-i

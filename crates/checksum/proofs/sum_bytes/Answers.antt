@@ -1,5 +1,4 @@
-use Rattle.std.proofs.Common.{◌≡◌, ◌+◌, ◌-◌, ◌*◌, ◌≤◌, length, drop, arith}
-use Rattle.checksum.specs.Checksum.{total}
+use Rattle.std.proofs.Common.{arith}
 use Rattle.checksum.proofs.ChecksumLaws.{total-byte, total-drop, total-end}
 use Rattle.checksum.proofs.sum_bytes.Goals as goal
 

@@ -1,6 +1,5 @@
-use Rattle.std.proofs.Common.{◌≡◌, ◌+◌, ◌-◌, ◌*◌, ◌≤◌, length, drop, arith}
+use Rattle.std.proofs.Common.{◌≡◌, ◌+◌, ◌-◌, ◌*◌, ◌≤◌, length, drop}
 use Rattle.checksum.specs.Checksum.{total}
-use Rattle.checksum.proofs.ChecksumLaws.{total-byte, total-drop, total-end}
 use Rattle.checksum.proofs.sum_bytes.Given as goal
 
 abbrev pub invariant-loop-i : goal.invariant-loop-i

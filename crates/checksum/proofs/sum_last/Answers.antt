@@ -1,5 +1,4 @@
-use Rattle.std.proofs.Common.{◌≡◌, ◌+◌, ◌-◌, ◌*◌, ◌≤◌, length, drop, arith}
-use Rattle.checksum.specs.Checksum.{total}
+use Rattle.std.proofs.Common.{arith}
 use Rattle.checksum.proofs.ChecksumLaws.{total-drop}
 use Rattle.checksum.proofs.sum_last.Goals as goal
 

@@ -1,6 +1,5 @@
-use Rattle.std.proofs.Common.{◌≡◌, ◌+◌, ◌-◌, ◌*◌, ◌≤◌, length, drop, arith}
+use Rattle.std.proofs.Common.{◌≡◌, ◌+◌, ◌-◌, ◌*◌, ◌≤◌, length, drop}
 use Rattle.checksum.specs.Checksum.{total}
-use Rattle.checksum.proofs.ChecksumLaws.{total-drop}
 use Rattle.checksum.proofs.sum_last.Given as goal
 
 abbrev pub invariant-loop-i : goal.invariant-loop-i

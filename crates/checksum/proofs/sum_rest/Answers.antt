@@ -1,4 +1,4 @@
-use Rattle.std.proofs.Common.{◌-◌, ◌%◌, length, arith, rules}
+use Rattle.std.proofs.Common.{◌-◌, ◌%◌, length, arith}
 use Rattle.checksum.proofs.ChecksumLaws.{total-between, total-end}
 use Rattle.checksum.proofs.sum_rest.Goals as goal
 

@@ -1,6 +1,4 @@
-use Rattle.std.proofs.Common.{◌≡◌, ◌+◌, ◌-◌, ◌*◌, ◌%◌, ◌≤◌, arith}
-use Rattle.le.specs.Le.{part}
-use Rattle.checksum.specs.Checksum.{total}
+use Rattle.std.proofs.Common.{◌≡◌, ◌+◌, arith}
 use Rattle.checksum.proofs.ChecksumLaws.{total-byte, total-join, total-none}
 use Rattle.checksum.proofs.sum_run.Goals as goal
 

@@ -1,7 +1,6 @@
-use Rattle.std.proofs.Common.{◌≡◌, ◌+◌, ◌-◌, ◌*◌, ◌%◌, ◌≤◌, arith}
+use Rattle.std.proofs.Common.{◌≡◌, ◌-◌, ◌*◌, ◌%◌, ◌≤◌}
 use Rattle.le.specs.Le.{part}
 use Rattle.checksum.specs.Checksum.{total}
-use Rattle.checksum.proofs.ChecksumLaws.{total-byte, total-join, total-none}
 use Rattle.checksum.proofs.sum_run.Given as goal
 
 abbrev pub invariant-loop-k : goal.invariant-loop-k

@@ -1,5 +1,4 @@
-use Rattle.std.proofs.Common.{◌≡◌, ◌-◌, ◌%◌, ◌≤◌, take, arith}
-use Rattle.checksum.specs.Checksum.{sum_of}
+use Rattle.std.proofs.Common.{◌≡◌, arith}
 use Rattle.checksum.proofs.ChecksumLaws.{sum-none, sum_more}
 use Rattle.checksum.proofs.sum_runs.Goals as goal
 

@@ -1,6 +1,5 @@
-use Rattle.std.proofs.Common.{◌≡◌, ◌-◌, ◌%◌, ◌≤◌, take, arith}
+use Rattle.std.proofs.Common.{◌≡◌, ◌-◌, ◌%◌, ◌≤◌, take}
 use Rattle.checksum.specs.Checksum.{sum_of}
-use Rattle.checksum.proofs.ChecksumLaws.{sum-none, sum_more}
 use Rattle.checksum.proofs.sum_runs.Given as goal
 
 abbrev pub invariant-loop-i : goal.invariant-loop-i

@@ -3,7 +3,6 @@ use mathlib.Core.Path.{◌∙◌, ap}
 use borrow.Author.Tests.{lt-ltb, le-ltb}
 use mir.Syntax.{w32}
 use mir.Facts.{to_z-of_z}
-use lib.IntN.{ℤ}
 use lib.ListN.{length}
 use borrow.Author.Rules.{rules}
 use Rattle.credit.specs.Credit.{credit_of, at_least_zero}

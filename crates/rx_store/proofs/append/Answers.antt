@@ -1,6 +1,5 @@
 use native.Mathlib.Omega.{arith}
 use Rattle.rx_store.proofs.Laws.{appends-behind, appends-moved}
-use borrow.Author.Rules.{rules}
 use Rattle.rx_store.proofs.append.Goals as goal
 
 pub returns-then-end-payload : goal.returns-then-end-payload

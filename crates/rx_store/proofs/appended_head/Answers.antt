@@ -2,7 +2,6 @@ use native.Mathlib.Omega.{arith}
 use Prim.Native.Nat.{◌+◌}
 use borrow.Author.Tests.{le-leb, lt-leb}
 use Rattle.rx_store.specs.RxStore.{appended_head, fits_behind}
-use borrow.Author.Rules.{rules}
 use Rattle.rx_store.proofs.appended_head.Goals as goal
 
 pub returns-then-k-len : goal.returns-then-k-len

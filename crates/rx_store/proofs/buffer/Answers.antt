@@ -1,5 +1,4 @@
 use Rattle.rx_store.proofs.ShareLaws.{buffered-is}
-use borrow.Author.Rules.{rules}
 use Rattle.rx_store.proofs.buffer.Goals as goal
 
 pub returns : goal.returns

@@ -1,5 +1,4 @@
 use Rattle.rx_store.proofs.ShareLaws.{handed-is}
-use borrow.Author.Rules.{rules}
 use Rattle.rx_store.proofs.hand_over.Goals as goal
 
 pub returns : goal.returns

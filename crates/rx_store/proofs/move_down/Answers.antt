@@ -1,8 +1,6 @@
 use mathlib.Core.Path.{◌≡◌, refl}
-use Prim.Native.Nat.{◌-◌, ◌≤◌}
 use native.Mathlib.Omega.{arith}
-use lib.ListN.{length, length-set}
-use Rattle.rx_store.specs.RxStore.{slid}
+use lib.ListN.{length-set}
 use Rattle.rx_store.proofs.Laws.{slid-none, slid-step}
 use Rattle.rx_store.proofs.move_down.Goals as goal
 

@@ -1,9 +1,7 @@
-use mathlib.Core.Path.{◌≡◌, refl}
+use mathlib.Core.Path.{◌≡◌}
 use Prim.Native.Nat.{◌-◌, ◌≤◌}
-use native.Mathlib.Omega.{arith}
-use lib.ListN.{length, length-set}
+use lib.ListN.{length}
 use Rattle.rx_store.specs.RxStore.{slid}
-use Rattle.rx_store.proofs.Laws.{slid-none, slid-step}
 use Rattle.rx_store.proofs.move_down.Given as goal
 
 abbrev pub invariant-loop-i : goal.invariant-loop-i

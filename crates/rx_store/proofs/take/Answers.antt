@@ -1,7 +1,6 @@
 use mathlib.Core.Path.{ap, ◌∙◌}
 use Rattle.le.specs.Le.{put}
 use Rattle.le.proofs.Parts.{lent-part}
-use borrow.Author.Rules.{rules}
 use Rattle.rx_store.proofs.take.Goals as goal
 
 pub returns : goal.returns

@@ -1,6 +1,5 @@
 use native.Mathlib.Omega.{arith}
 use Rattle.rx_store.proofs.Laws.{taken-all, taken-some}
-use borrow.Author.Rules.{rules}
 use Rattle.rx_store.proofs.taken_head.Goals as goal
 
 pub returns-then-n-buffered : goal.returns-then-n-buffered

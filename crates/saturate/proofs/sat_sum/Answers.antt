@@ -1,6 +1,5 @@
 use native.Mathlib.Omega.{arith}
 use Rattle.saturate.specs.Saturate.{sat_sum}
-use borrow.Author.Rules.{rules}
 use Rattle.saturate.proofs.sat_sum.Goals as goal
 
 pub returns-then-a-b : goal.returns-then-a-b

@@ -1,5 +1,4 @@
 use Rattle.checksum.specs.Checksum.{check_for}
-use Rattle.std.proofs.Common.{rules}
 use Rattle.checksum.proofs.Checksum.of.Goals as goal
 
 pub returns-in-Skip : goal.returns-in-Skip

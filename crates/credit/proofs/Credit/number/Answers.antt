@@ -1,5 +1,4 @@
 use Rattle.credit.specs.Credit.{credit_number}
-use borrow.Author.Rules.{rules}
 use Rattle.credit.proofs.Credit.number.Goals as goal
 
 pub returns-in-Of : goal.returns-in-Of

@@ -1,5 +1,4 @@
 use Rattle.credit.specs.Credit.{credit_fault_number}
-use borrow.Author.Rules.{rules}
 use Rattle.credit.proofs.CreditFault.number.Goals as goal
 
 pub returns-in-Short : goal.returns-in-Short

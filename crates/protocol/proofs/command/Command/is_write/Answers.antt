@@ -1,0 +1,9 @@
+use mathlib.Core.Path.{ap}
+use lib.Dec.{eqb}
+use Rattle.le.specs.Le.{num_of}
+use Rattle.protocol.specs.Command.{letters_of, word_of, is_the, is_write}
+use Rattle.protocol.proofs.command.Command.is_write.Goals as goal
+
+pub returns : goal.returns
+unfolding is_write is_the word_of letters_of num_of
+returns c = ap (λ w. eqb w 0x4554_5257) c.word.ensures

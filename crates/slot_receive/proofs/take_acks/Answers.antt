@@ -1,0 +1,15 @@
+use Rattle.std.proofs.Common.{sym, ◌∙◌, eq-eqb, ne_eqb}
+use Rattle.slot.specs.Slot.{take_acks}
+use Rattle.slot_receive.proofs.take_acks.Goals as goal
+
+pub returns-then-slot-eq0 : goal.returns-then-slot-eq0
+unfolding take_acks
+returns-then-slot-eq0 c = rw (sym c.has_data.ensures ∙ c.if-has_data.true, eq-eqb c.args.slot.settled 0 c.if-slot-eq0.true) (cc)
+
+pub returns-else-slot-eq0 : goal.returns-else-slot-eq0
+unfolding take_acks
+returns-else-slot-eq0 c = rw (sym c.has_data.ensures ∙ c.if-has_data.true, ne_eqb c.args.slot.settled 0 c.if-slot-eq0.false)
+
+pub returns-else-has_data : goal.returns-else-has_data
+unfolding take_acks
+returns-else-has_data c = rw (sym c.has_data.ensures ∙ c.if-has_data.false)

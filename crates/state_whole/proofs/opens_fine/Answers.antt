@@ -1,0 +1,12 @@
+use mathlib.Core.Path.{sym, ◌∙◌}
+use Rattle.state_whole.specs.Whole.{opens_fine}
+use Rattle.state_whole.proofs.ValidLaws.{and-goes, and-stops}
+use Rattle.state_whole.proofs.opens_fine.Goals as goal
+
+pub returns-then-queue_fine : goal.returns-then-queue_fine
+unfolding opens_fine
+returns-then-queue_fine c = and-goes _ _ _ (sym c.queue_fine.ensures ∙ c.if-queue_fine.true) c.offer_fine.ensures
+
+pub returns : goal.returns
+unfolding opens_fine
+returns c = and-stops _ _ (sym c.queue_fine.ensures ∙ c.if-queue_fine.false)
