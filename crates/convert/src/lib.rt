@@ -79,7 +79,13 @@ fn take<W: Write>(output: &mut W, way: Way, buf: &[u8], at: usize, end: usize, n
 }
 
 // One frame, or one read.
-fn turn<R: Read, W: Write>(input: &mut R, output: &mut W, way: Way, buf: &mut [u8], held: Held) -> Held
+fn turn<R: Read, W: Write>(
+    input: &mut R,
+    output: &mut W,
+    way: Way,
+    buf: &mut [u8],
+    held: Held,
+) -> Held
     requires { Within held.at held.end buf.old }
     ensures { Within result.at result.end buf.new }
 {
