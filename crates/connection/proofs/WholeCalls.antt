@@ -57,7 +57,7 @@ use Rattle.table_dispatch.proofs.KeepLaws.{place_found}
 use Rattle.incoming.proofs.QueueLaws.{QueueKeeps, NoOffer, ours-alone, every-get_d, FrontAs, pop-keeps, return-keeps}
 use Rattle.connection.proofs.WholeAct.{ActedKeeps, acted-keeps}
 use Rattle.connection.proofs.Decoding.{Admitted, fault-fine, error-fine, unless-fine, ReceivedFits, received-fits}
-use Rattle.connection.proofs.WholeWork.{looked-kept, negotiated, Kept, WorkWhole, At, drop-whole, begun-whole, frames-whole, slot_whole, act-whole, ends-kept, at-frames, at_slot, at-act, at-ends, untouched-kept, dropped-whole, there-live, there-at, Long, long}
+use Rattle.connection.proofs.WholeWork.{looked-kept, negotiated, Kept, WorkWhole, At, drop-whole, begun-whole, frames-whole, slot_whole, act-whole, ends-kept, at-frames, at_slot, at-act, at-ends, untouched-kept, dropped-whole, there-live, there-at, Long}
 
 -- ---- answers that are neither refusal 13 nor 8
 

@@ -41,7 +41,7 @@ use Rattle.incoming.specs.declared.Front.{Front}
 use Rattle.incoming.specs.declared.Front.TheVariants.{Open as FrontOpen, Nothing as NoFront}
 use Rattle.incoming.specs.Incoming.{popped, returned}
 use Rattle.connection.specs.Frames.{Frame, close_frame, write_frame, frames_bytes, Sent}
-use Rattle.table.specs.Table.{slot_in, first, wanted_by}
+use Rattle.table.specs.Table.{slot_in, wanted_by}
 use Rattle.rx_store.specs.RxStore.{share_of, front_of}
 use Rattle.connection.specs.declared.Answer.{Answer}
 use Rattle.connection.specs.declared.Answer.TheVariants.{Done, Waiting, Nothing, Settled as SettledIs, Read, Written, Front as FrontIs, Refused}
@@ -52,7 +52,7 @@ use Rattle.connection.specs.Act.{Acted, act_on}
 use Rattle.connection.specs.Answer.{refusal_number, answer_number}
 use Rattle.table.specs.declared.ChannelId.{ChannelId}
 use Rattle.table_dispatch.specs.Dispatch.{named_place}
-use Rattle.connection.specs.Calls.{looked, untouched, send_len, send_some, send_by, send_again, write_readied, write_acted, write_act, write_by, write_first, write_on, write_step, fault_refusal, read_direct, read_acted, read_settled, reread, is_direct, read_by, read_taken, read_first, read_step, ids_in, close_step, take_front_by, take_front_step, error_refusal, taken_by, take_step, ack_frames, settled_as, settle_step, is_there, slot_for, Lent, Outcome, Work, begun, then, then_acted, ends, dropped, policy, body_of, frame_len, received_of, unless_fault, dispatch_by, dispatch_step, offer_in, is_offered, reject_on, reject_step, let_go_step}
+use Rattle.connection.specs.Calls.{untouched, send_len, send_some, send_by, send_again, write_readied, write_acted, write_act, write_by, write_first, write_on, write_step, fault_refusal, read_direct, read_acted, read_settled, reread, is_direct, read_by, read_taken, read_first, read_step, ids_in, close_step, take_front_by, take_front_step, error_refusal, taken_by, take_step, ack_frames, settled_as, settle_step, is_there, slot_for, Lent, Outcome, Work, begun, then, then_acted, ends, dropped, policy, body_of, frame_len, received_of, unless_fault, dispatch_by, dispatch_step, offer_in, is_offered, reject_on, reject_step, let_go_step}
 use Rattle.history.specs.Book.{write_b, is_clse, named_in, ends_other, own_end, accepted_b, sent_b, closed_b, damaged_b, is_wrte, payload_at, read_b, read_used_b, is_refused, handed_b, is_early, settle_b, is_on, Book, acked_b, acks_of, packet_b, frame_b, header_at, never}
 use Rattle.history.specs.Demand3.{run_of}
 use Rattle.history.proofs.Acts.{frame-none, at-keeps, at-stays, at_named, at-sound, at-fits, at-live, acted-length, acks-own, acks-other, acks_in, acks-append, mine_of, ends_of, acted-acks, acted-at, Tells, good-by}

@@ -1,0 +1,16 @@
+use mathlib.Core.Path.{◌≡◌, refl, subst}
+use native.Mathlib.Omega.{arith}
+use Prim.Native.Nat.{ℕ, ◌-◌, ◌≤◌}
+use lib.ListN.{length}
+use borrow.Author.Rules.{rules}
+use Rattle.le.specs.Le.{put}
+use Rattle.call_make.specs.Make.{empty_queue}
+use Rattle.call_make.proofs.MakeLaws.{opens-none, opens-more}
+use Rattle.state.specs.State.{queue_at}
+use Rattle.call_make.proofs.clear_queue.Given as goal
+
+abbrev pub invariant-loop-i : goal.invariant-loop-i
+invariant-loop-i l = (l.i ≤ 64) × (length l.state ≡ length l.initial.state) × (l.state ≡ put l.initial.state queue_at (empty_queue l.i))
+
+abbrev pub decreases-loop-i : goal.decreases-loop-i
+decreases-loop-i l = 64 - l.i

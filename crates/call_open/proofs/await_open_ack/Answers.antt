@@ -1,0 +1,25 @@
+use Rattle.call_open.proofs.OpenLaws.{await-packet, await-stops, await-goes}
+use mathlib.Core.Path.{refl}
+use Rattle.call_open.proofs.await_open_ack.Goals as goal
+
+pub open_packet-requires : goal.open_packet-requires
+open_packet-requires c = (
+  c.requires.0,
+  c.requires.1,
+  c.requires.2,
+  await-packet c.args.state.now c.args.rx.now c.args.store.now
+      c.args.out.now c.args.h c.requires.1 c.args.received.now c.recv_pkt-found.result
+      c.recv_pkt-found.ensures _ c.in-Packet.is,
+)
+
+pub returns-in-Stop : goal.returns-in-Stop
+returns-in-Stop c =
+    await-stops c.args.state.now c.args.rx.now c.args.store.now c.args.out.now c.args.h c.requires.1
+    c.args.received.now c.recv_pkt-found.result c.recv_pkt-found.ensures _ _ c.still_pending.result _ _
+    c.in-Stop.is c.still_pending.ensures c.put_header.ensures refl
+
+pub returns-in-Packet : goal.returns-in-Packet
+returns-in-Packet c =
+    await-goes c.args.state.now c.args.rx.now c.args.store.now c.args.out.now c.args.h c.requires.1
+    c.args.received.now c.recv_pkt-found.result c.recv_pkt-found.ensures _ _ _ _ _ _ c.in-Packet.is
+    c.open_packet.ensures

@@ -1,0 +1,32 @@
+use Rattle.call_read.proofs.ReadSteps.{found-is, look-stops, look-found}
+use Rattle.call_read.proofs.LookLaws.{look-place}
+use mathlib.Core.Path.{refl}
+use Rattle.call_read.proofs.read_more.Goals as goal
+
+pub store_slot-requires : goal.store_slot-requires
+store_slot-requires c = (
+  look-place c.args.state.now c.args.rx.now c.args.store.now c.args.out.now c.args.h c.args.ch
+      c.args.s _ c.args.at c.requires.0 c.requires.1,
+  c.requires.0.state-fits,
+)
+
+pub read_packet-requires : goal.read_packet-requires
+read_packet-requires c = (
+  c.requires.0,
+  c.requires.1,
+  found-is c.args.state.now c.args.rx.now c.args.store.now c.args.out.now
+      c.args.h c.args.ch c.args.s _ c.args.at c.requires.0 c.requires.1 c.args.received.now
+      c.recv_pkt-found.result c.recv_pkt-found.ensures _ c.in-Packet.is,
+)
+
+pub returns-in-Stop : goal.returns-in-Stop
+returns-in-Stop c =
+    look-stops c.args.state.now c.args.rx.now c.args.store.now c.args.out.now c.args.h c.args.ch
+    c.args.s _ c.args.at c.requires.0 c.requires.1 c.args.received.now c.recv_pkt-found.result
+    c.recv_pkt-found.ensures _ _ c.args.buf.now _ _ c.in-Stop.is c.store_slot.ensures refl
+
+pub returns-in-Packet : goal.returns-in-Packet
+returns-in-Packet c =
+    look-found c.args.state.now c.args.rx.now c.args.store.now c.args.out.now c.args.h c.args.ch
+    c.args.s _ c.args.at c.requires.0 c.requires.1 c.args.received.now c.recv_pkt-found.result
+    c.recv_pkt-found.ensures _ c.args.buf.now _ _ _ _ _ _ c.in-Packet.is c.read_packet.ensures

@@ -1,0 +1,49 @@
+use Rattle.call_read.proofs.ReadLaws.{ack-due, set-sound, take-room-is, tries-nothing, tries-closed, tries-data}
+use Rattle.call_read.proofs.take_buffered.Goals as goal
+
+pub put_ack-end-requires : goal.put_ack-end-requires
+put_ack-end-requires c =
+    ack-due c.args.h c.args.ch c.args.used c.args.fault c.args.at c.args.state.now
+    c.args.rx.now c.args.rx.now c.args.out.now c.args.buf.now c.args.slot
+    c.rx_policy-policy.result c.settle_take-settled.result c.requires.1 c.rx_policy-policy.ensures
+    c.settle_take-settled.ensures c.requires.0
+
+pub take_buffered-taken-requires : goal.take_buffered-taken-requires
+take_buffered-taken-requires c =
+    set-sound c.args.h c.args.ch c.args.used c.args.fault c.args.at c.args.state.now
+    c.args.rx.now c.args.rx.now c.args.out.now c.args.buf.now c.args.slot
+    c.rx_policy-policy.result c.settle_take-settled.result c.requires.1 c.rx_policy-policy.ensures
+    c.settle_take-settled.ensures c.requires.0
+
+pub hand_over-requires : goal.hand_over-requires
+hand_over-requires c =
+    take-room-is c.args.h c.args.ch c.args.used c.args.fault c.args.at c.args.state.now
+    c.args.rx.now c.args.rx.now c.args.out.now c.args.buf.now c.args.slot
+    c.rx_policy-policy.result c.settle_take-settled.result c.requires.1 c.rx_policy-policy.ensures
+    c.settle_take-settled.ensures c.requires.0 _ _ _ c.take_buffered-taken.ensures c.in-Data.is
+
+pub store_slot-requires-in-Data : goal.store_slot-requires-in-Data
+store_slot-requires-in-Data c = (c.requires.0.place-fits, c.requires.0.state-fits)
+
+pub returns-in-Nothing : goal.returns-in-Nothing
+returns-in-Nothing c =
+    λ store. tries-nothing c.args.h c.args.ch c.args.used c.args.fault c.args.at c.args.state.now
+    c.args.rx.now store c.args.out.now c.args.buf.now c.args.slot c.rx_policy-policy.result
+    c.settle_take-settled.result c.requires.1 c.rx_policy-policy.ensures c.settle_take-settled.ensures c.requires.0 _
+    _ c.put_ack-end.ensures _ c.take_buffered-taken.ensures c.in-Nothing.is
+
+pub returns-in-Closed : goal.returns-in-Closed
+returns-in-Closed c =
+    λ store. tries-closed c.args.h c.args.ch c.args.used c.args.fault c.args.at c.args.state.now
+    c.args.rx.now store c.args.out.now c.args.buf.now c.args.slot c.rx_policy-policy.result
+    c.settle_take-settled.result c.requires.1 c.rx_policy-policy.ensures c.settle_take-settled.ensures c.requires.0 _
+    _ c.put_ack-end.ensures _ _ c.unless_fault.result c.error_refusal.result _ c.take_buffered-taken.ensures
+    c.in-Closed.is c.error_refusal.ensures c.unless_fault.ensures c.store_slot.ensures
+
+pub returns-in-Data : goal.returns-in-Data
+returns-in-Data c =
+    λ store. tries-data c.args.h c.args.ch c.args.used c.args.fault c.args.at c.args.state.now
+    c.args.rx.now store c.args.out.now c.args.buf.now c.args.slot c.rx_policy-policy.result
+    c.settle_take-settled.result c.requires.1 c.rx_policy-policy.ensures c.settle_take-settled.ensures c.requires.0 _
+    _ c.put_ack-end.ensures _ _ _ _ _ c.take_buffered-taken.ensures c.in-Data.is
+    c.hand_over.ensures c.store_slot-in-Data.ensures

@@ -1,0 +1,24 @@
+use Rattle.call_write.proofs.WriteLaws.{again-closed, again-sends, again-waits}
+use mathlib.Core.Path.{refl}
+use borrow.Author.Rules.{rules}
+use Rattle.call_write.proofs.send_again.Goals as goal
+
+pub returns-then-is_closed : goal.returns-then-is_closed
+returns-then-is_closed c =
+    λ rx store. again-closed c.args.state.now c.args.out.now c.args.bytes.now c.args.ch c.args.h
+    c.requires c.args.used c.args.s c.is_closed.result c.is_closed.ensures rx store _ _
+    c.if-is_closed.true c.store_slot.ensures refl
+
+pub returns-in-Bytes : goal.returns-in-Bytes
+returns-in-Bytes c =
+    λ rx store. again-sends c.args.state.now c.args.out.now c.args.bytes.now c.args.ch c.args.h
+    c.requires c.args.used c.args.s c.is_closed.result c.is_closed.ensures rx store
+    c.if-is_closed.false c.budget-budget.result c.rx_policy.result c.rx_policy.ensures c.budget-budget.ensures
+    _ _ _ _ c.in-Bytes.is (c.send_some.ensures rx store)
+
+pub returns-in-Nothing : goal.returns-in-Nothing
+returns-in-Nothing c =
+    λ rx store. again-waits c.args.state.now c.args.out.now c.args.bytes.now c.args.ch c.args.h
+    c.requires c.args.used c.args.s c.is_closed.result c.is_closed.ensures rx store
+    c.if-is_closed.false c.budget-budget.result c.rx_policy.result c.rx_policy.ensures c.budget-budget.ensures
+    _ _ c.in-Nothing.is c.store_slot-in-Nothing.ensures refl

@@ -1,0 +1,41 @@
+use Rattle.call_write.proofs.WriteLaws.{finds-sends, on-closed, on-sends, on-waits, on-packet}
+use mathlib.Core.Path.{refl}
+use borrow.Author.Rules.{rules}
+use Rattle.call_write.proofs.write_channel.Goals as goal
+
+pub returns-then-is_closed : goal.returns-then-is_closed
+returns-then-is_closed c =
+    on-closed c.args.state.now c.args.rx.now c.args.store.now c.args.out.now c.args.received.now
+    c.args.bytes.now c.args.ch c.args.h c.args.s c.requires c.is_closed.result
+    c.is_closed.ensures _ _ c.if-is_closed.true c.put_header.ensures refl
+
+pub rx_policy-requires : goal.rx_policy-requires
+rx_policy-requires c =
+    (finds-sends c.args.state.now c.args.rx.now c.args.store.now _ c.args.ch c.args.h c.args.s
+    c.requires).within
+
+pub send_some-requires : goal.send_some-requires
+send_some-requires c =
+    finds-sends c.args.state.now c.args.rx.now c.args.store.now _ c.args.ch c.args.h c.args.s
+    c.requires
+
+pub wait_ack-requires : goal.wait_ack-requires
+wait_ack-requires c =
+    on-waits c.args.state.now c.args.rx.now c.args.store.now c.args.out.now c.args.received.now
+    c.args.bytes.now c.args.ch c.args.h c.args.s c.requires c.is_closed.result
+    c.is_closed.ensures c.if-is_closed.false c.budget-budget.result c.rx_policy.result
+    c.rx_policy.ensures c.budget-budget.ensures c.in-Nothing.is
+
+pub returns-in-Bytes : goal.returns-in-Bytes
+returns-in-Bytes c =
+    on-sends c.args.state.now c.args.rx.now c.args.store.now c.args.out.now c.args.received.now
+    c.args.bytes.now c.args.ch c.args.h c.args.s c.requires c.is_closed.result
+    c.is_closed.ensures c.if-is_closed.false c.budget-budget.result c.rx_policy.result
+    c.rx_policy.ensures c.budget-budget.ensures _ _ _ _ c.in-Bytes.is (c.send_some.ensures _ _)
+
+pub returns-in-Nothing : goal.returns-in-Nothing
+returns-in-Nothing c =
+    on-packet c.args.state.now c.args.rx.now c.args.store.now c.args.out.now c.args.received.now
+    c.args.bytes.now c.args.ch c.args.h c.args.s c.requires c.is_closed.result
+    c.is_closed.ensures c.if-is_closed.false c.budget-budget.result c.rx_policy.result
+    c.rx_policy.ensures c.budget-budget.ensures _ _ _ _ _ c.in-Nothing.is c.wait_ack.ensures

@@ -1,0 +1,33 @@
+use Rattle.call_write.proofs.WriteLaws.{step-none, step-finds, step-there, step_gone}
+use Rattle.call.proofs.ThereLaws.{looks}
+use native.Mathlib.Omega.{arith}
+use mathlib.Core.Path.{refl}
+use borrow.Author.Rules.{rules}
+use Rattle.call_write.proofs.write_step.Goals as goal
+
+pub returns-then-bytes-eq0 : goal.returns-then-bytes-eq0
+returns-then-bytes-eq0 c =
+    step-none c.args.state.now c.args.rx.now c.args.store.now c.args.out.now c.args.received.now
+    c.args.bytes.now c.args.ch c.args.h c.requires.0 c.requires.1 _ _ (omega (arith, c.if-bytes-eq0.true))
+    c.put_header.ensures refl
+
+pub get-found-requires : goal.get-found-requires
+get-found-requires c = looks c.args.state.now c.args.rx.now c.args.store.now c.args.h c.requires.1 _ c.requires.0
+
+pub write_channel-requires : goal.write_channel-requires
+write_channel-requires c =
+    step-finds c.args.state.now c.args.rx.now c.args.store.now c.args.out.now c.args.received.now
+    c.args.bytes.now c.args.ch c.args.h c.requires.0 c.requires.1 c.get-found.result c.get-found.ensures _
+    c.in-Slot.is
+
+pub returns-in-Slot : goal.returns-in-Slot
+returns-in-Slot c =
+    step-there c.args.state.now c.args.rx.now c.args.store.now c.args.out.now c.args.received.now
+    c.args.bytes.now c.args.ch c.args.h c.requires.0 c.requires.1 c.get-found.result c.get-found.ensures
+    (λ z. omega (arith, c.if-bytes-eq0.false)) _ _ _ _ _ _ c.in-Slot.is c.write_channel.ensures
+
+pub returns-in-Nothing : goal.returns-in-Nothing
+returns-in-Nothing c =
+    step_gone c.args.state.now c.args.rx.now c.args.store.now c.args.out.now c.args.received.now
+    c.args.bytes.now c.args.ch c.args.h c.requires.0 c.requires.1 c.get-found.result c.get-found.ensures
+    (λ z. omega (arith, c.if-bytes-eq0.false)) _ _ c.in-Nothing.is c.put_header-in-Nothing.ensures c.refused.ensures

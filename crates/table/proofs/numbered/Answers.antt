@@ -1,0 +1,4 @@
+use Rattle.table.proofs.numbered.Goals as goal
+
+pub returns : goal.returns
+returns c = rw c.next_local.ensures
