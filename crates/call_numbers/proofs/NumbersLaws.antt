@@ -6,7 +6,6 @@ use Prim.Native.Nat.{ℕ, ◌≤◌}
 use lib.ListN.{length}
 use Rattle.le.specs.Le.{Bytes}
 use Rattle.slot.specs.declared.ChannelSlot.{ChannelSlot}
-use Rattle.slot.proofs.Laws.{cond-true, cond-false}
 use Rattle.state.specs.declared.Header.{Header}
 use Rattle.state.specs.State.{state_len, state_of}
 use Rattle.table.specs.declared.ChannelId.{ChannelId}
@@ -14,13 +13,13 @@ use Rattle.table.specs.Table.{there_in, slot_in}
 use Rattle.connection.specs.declared.Answer.{Answer}
 use Rattle.connection.specs.declared.Answer.TheVariants.{Refused}
 use Rattle.connection.specs.declared.Refusal.TheVariants.{ChannelClosed}
-use Rattle.connection.specs.Calls.{dropped, Outcome, looked, is_there, slot_for, numbers_in, numbers_for, numbers_outcome}
+use Rattle.connection.specs.Calls.{dropped, looked, is_there, slot_for, numbers_in, numbers_for, numbers_outcome}
 use Rattle.call.specs.declared.Reply.{Reply}
 use Rattle.call.specs.declared.admit.Admitted.{Admitted}
 use Rattle.call.specs.declared.admit.Admitted.TheVariants.{Yes}
 use Rattle.call.specs.declared.admit.Found.{Found}
 use Rattle.call.specs.declared.admit.Found.TheVariants.{Slot, Nothing}
-use Rattle.call.specs.Promise.{lent_of, agreed_in, Leaves, admitted, found_in}
+use Rattle.call.specs.Promise.{lent_of, agreed_in, admitted, found_in}
 use Rattle.call.proofs.LeaveLaws.{Goes, admitted-goes, goes-admits, looked-leaves}
 use Rattle.call.proofs.ThereLaws.{looks}
 use Rattle.call.proofs.WideLaws.{wide-leaves}

@@ -3,7 +3,6 @@ use Rattle.call.proofs.WideLaws.{wide-refuses}
 use Rattle.call.specs.Promise.{agreed_in}
 use Rattle.connection.specs.Calls.{numbers_outcome}
 use Rattle.call_numbers.proofs.NumbersLaws.{look-room, look-leaves}
-use borrow.Author.Rules.{rules}
 use Rattle.call_numbers.proofs.numbers.Goals as goal
 
 pub numbers_of-requires : goal.numbers_of-requires

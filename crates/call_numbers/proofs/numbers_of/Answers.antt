@@ -1,7 +1,6 @@
 use mathlib.Core.Path.{◌∙◌}
 use Rattle.state.specs.State.{state_of}
 use Rattle.call_numbers.proofs.NumbersLaws.{found-numbers}
-use borrow.Author.Rules.{rules}
 use Rattle.call_numbers.proofs.numbers_of.Goals as goal
 
 pub returns-in-Slot : goal.returns-in-Slot

@@ -1,6 +1,5 @@
 use Rattle.call_write.proofs.WriteLaws.{again-closed, again-sends, again-waits}
 use mathlib.Core.Path.{refl}
-use borrow.Author.Rules.{rules}
 use Rattle.call_write.proofs.send_again.Goals as goal
 
 pub returns-then-is_closed : goal.returns-then-is_closed

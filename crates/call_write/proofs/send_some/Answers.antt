@@ -1,7 +1,6 @@
 use Rattle.call_write.proofs.WriteLaws.{part-first, send-short, send-sent}
 use native.Mathlib.Omega.{arith}
 use mathlib.Core.Path.{refl}
-use borrow.Author.Rules.{rules}
 use Rattle.call_write.proofs.send_some.Goals as goal
 
 pub returns-then-out-len : goal.returns-then-out-len

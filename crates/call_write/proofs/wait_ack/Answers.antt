@@ -1,16 +1,14 @@
 use Rattle.call_write.proofs.WriteLaws.{wait-gone, wait-received, wait-stops, wait-packet}
 use mathlib.Core.Path.{refl}
-use borrow.Author.Rules.{rules}
 use Rattle.call_write.proofs.wait_ack.Goals as goal
 
 pub write_packet-requires : goal.write_packet-requires
-write_packet-requires c =
-    (
-      c.requires,
-      wait-received c.args.state.now c.args.rx.now c.args.store.now c.args.out.now
-          c.args.received.now c.args.bytes.now c.args.ch c.args.h c.args.s c.requires.finds.header
-          c.recv_pkt-found.result c.recv_pkt-found.ensures _ c.in-Packet.is,
-    )
+write_packet-requires c = (
+  c.requires,
+  wait-received c.args.state.now c.args.rx.now c.args.store.now c.args.out.now
+      c.args.received.now c.args.bytes.now c.args.ch c.args.h c.args.s c.requires.finds.header
+      c.recv_pkt-found.result c.recv_pkt-found.ensures _ c.in-Packet.is,
+)
 
 pub returns-in-Stop : goal.returns-in-Stop
 returns-in-Stop c =

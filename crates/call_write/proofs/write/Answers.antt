@@ -1,7 +1,6 @@
 use Rattle.call.proofs.LeaveLaws.{refused-leaves, admitted-goes, begins-is, goes-leaves}
 use Rattle.call.specs.Promise.{agreed_in}
 use Rattle.connection.specs.Calls.{write_outcome}
-use borrow.Author.Rules.{rules}
 use Rattle.call_write.proofs.write.Goals as goal
 
 pub write_step-requires : goal.write_step-requires

@@ -1,6 +1,5 @@
 use Rattle.call_write.proofs.WriteLaws.{finds-sends, on-closed, on-sends, on-waits, on-packet}
 use mathlib.Core.Path.{refl}
-use borrow.Author.Rules.{rules}
 use Rattle.call_write.proofs.write_channel.Goals as goal
 
 pub returns-then-is_closed : goal.returns-then-is_closed

@@ -5,7 +5,6 @@ use Rattle.call_write.proofs.WriteLaws.{finds-place, finds-sends, packet-place, 
 use Rattle.call.proofs.CallLaws.{call-room, own_is}
 use native.Mathlib.Omega.{arith}
 use mathlib.Core.Path.{ap}
-use borrow.Author.Rules.{rules}
 use Rattle.call_write.proofs.write_packet.Goals as goal
 
 pub payload-payload-requires : goal.payload-payload-requires
@@ -32,12 +31,11 @@ returns-then-is_own c =
     (rw c.frame_len-used.ensures at (c.write_ready.ensures c.args.rx.now c.args.store.now))
 
 pub store_slot-requires : goal.store_slot-requires
-store_slot-requires c =
-    (
-      finds-place c.args.state.now c.args.rx.now c.args.store.now _ c.args.ch c.args.h c.args.s
-          c.requires.0.finds,
-      c.requires.0.finds.admits.state-fits,
-    )
+store_slot-requires c = (
+  finds-place c.args.state.now c.args.rx.now c.args.store.now _ c.args.ch c.args.h c.args.s
+      c.requires.0.finds,
+  c.requires.0.finds.admits.state-fits,
+)
 
 pub returns-then-closed_by : goal.returns-then-closed_by
 returns-then-closed_by c =

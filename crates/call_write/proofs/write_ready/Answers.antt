@@ -1,6 +1,5 @@
 use Rattle.call_write.proofs.WriteLaws.{ready-again, ready-bad}
 use mathlib.Core.Path.{refl}
-use borrow.Author.Rules.{rules}
 use Rattle.call_write.proofs.write_ready.Goals as goal
 
 pub returns-in-Slot : goal.returns-in-Slot

@@ -2,7 +2,6 @@ use Rattle.call_write.proofs.WriteLaws.{step-none, step-finds, step-there, step_
 use Rattle.call.proofs.ThereLaws.{looks}
 use native.Mathlib.Omega.{arith}
 use mathlib.Core.Path.{refl}
-use borrow.Author.Rules.{rules}
 use Rattle.call_write.proofs.write_step.Goals as goal
 
 pub returns-then-bytes-eq0 : goal.returns-then-bytes-eq0

@@ -1,0 +1,41 @@
+use mathlib.Core.Path.{refl, sym, ◌∙◌}
+use lib.ListN.{length-set}
+use native.Mathlib.Omega.{arith}
+use borrow.Author.Rules.{rules}
+use Rattle.stretch.specs.Stretch.{world_of}
+use Rattle.stretch.proofs.TellLaws.{telling-starts, telling-goes, telling-stops, telling-ends}
+use Rattle.stretch.proofs.tell.Goals as goal
+
+pub loop-n-init : goal.loop-n-init
+loop-n-init c = (refl, refl, refl, c.requires, telling-starts _ _ _)
+
+pub dispatch_at-met-requires : goal.dispatch_at-met-requires
+dispatch_at-met-requires c = c.loop-n.invariant.4.inside
+
+pub shape_of-places-then-met-ne0 : goal.shape_of-places-then-met-ne0
+shape_of-places-then-met-ne0 c = length-set c.loop-n.places c.loop-n.n c.loop-n.at ∙ c.loop-n.invariant.3 ∙ sym c.requires
+
+pub returns-then-met-ne0 : goal.returns-then-met-ne0
+returns-then-met-ne0 c =
+    telling-stops (world_of c.args.state.now c.args.rx.now c.args.store.now) c.args.received.now c.loop-n.state c.loop-n.rx c.loop-n.store c.loop-n.n c.loop-n.at c.loop-n.places c.loop-n.invariant.4 c.loop-n.invariant.3
+    (omega arith) c.dispatch_at-met.result _ _ _ c.dispatch_at-met.ensures (λ e. omega arith)
+
+pub overflow_add-at : goal.overflow_add-at
+overflow_add-at c =
+    let g = telling-goes (world_of c.args.state.now c.args.rx.now c.args.store.now) c.args.received.now c.loop-n.state c.loop-n.rx c.loop-n.store c.loop-n.n c.loop-n.at c.loop-n.places c.loop-n.invariant.4 c.loop-n.invariant.3
+    (omega arith) c.dispatch_at-met.result _ _ _ c.dispatch_at-met.ensures (omega arith) in
+    let h = g.inside in
+    search rules
+
+pub loop-n-preserved : goal.loop-n-preserved
+loop-n-preserved c = (
+  search rules,
+  search rules,
+  search rules,
+  search rules,
+  telling-goes (world_of c.args.state.now c.args.rx.now c.args.store.now) c.args.received.now c.loop-n.state c.loop-n.rx c.loop-n.store c.loop-n.n c.loop-n.at c.loop-n.places c.loop-n.invariant.4 c.loop-n.invariant.3
+      (omega arith) c.dispatch_at-met.result _ _ _ c.dispatch_at-met.ensures (omega arith),
+)
+
+pub returns : goal.returns
+returns c = telling-ends (world_of c.args.state.now c.args.rx.now c.args.store.now) c.args.received.now c.loop-n.state c.loop-n.rx c.loop-n.store c.loop-n.n c.loop-n.at c.loop-n.places c.loop-n.invariant.4 c.loop-n.invariant.3 (omega arith)
