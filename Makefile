@@ -156,14 +156,19 @@ $(OUT)/console: demo/console.c include/adb_shell.h $(SHELL_LIB)
 	@mkdir -p $(OUT)
 	$(CC) -std=c99 $(WARNINGS) $(CFLAGS) -Iinclude demo/console.c $(SHELL_LIB) -o $@
 
-# The programs that convert captures: proved, built and run on their own stored input.
-$(CONVERTERS): crates.txt $(shell find crates -name '*.rt' -o -name '*.antt')
-	rt check $(@F)
-	@touch $@
+# What a crate's file or program is made from; `out` is what rt makes.
+SOURCES = crates.txt $(shell find crates -name out -prune -o \( -name '*.rt' -o -name '*.antt' \) -print)
 
-target/staticlib/lib%.a: crates.txt $(shell find crates -name '*.rt' -o -name '*.antt')
-	rt staticlib $*
-	@touch $@
+# The programs that convert captures: proved, built and run on their own stored input.
+$(CONVERTERS): $(SOURCES)
+	@mkdir -p $(@D)
+	cd crates/$(@F) && rt run < stdin | cmp - stdout
+	cp crates/$(@F)/out/$(@F) $@
+
+target/staticlib/lib%.a: $(SOURCES)
+	@mkdir -p $(@D)
+	cd crates/$* && rt lib
+	cp crates/$*/out/$(@F) $@
 
 clean:
 	rm -rf $(OUT) target/oracle

@@ -14,11 +14,11 @@ export BUILD="${BUILD:-$root/target/oracle}"
 TREE_ONLY=1 "$root/oracle/build.sh" >&2
 BUILD=$(cd "$BUILD" && pwd)
 if [ -z "${LIB:-}" ]; then
-    (cd "$root" && rt staticlib adb) >&2
+    make -s -C "$root" target/staticlib/libadb.a >&2
     LIB=$root/target/staticlib/libadb.a
 fi
 if [ -z "${SUM_LIB:-}" ]; then
-    (cd "$root" && rt staticlib bench_sum) >&2
+    make -s -C "$root" target/staticlib/libbench_sum.a >&2
     SUM_LIB=$root/target/staticlib/libbench_sum.a
 fi
 export LIB SUM_LIB

@@ -15,7 +15,7 @@ CC=${CC:-cc}
 "$here/build.sh" >&2
 BUILD=$(cd "$BUILD" && pwd)
 if [ -z "${LIB:-}" ]; then
-    (cd "$root" && rt staticlib adb) >&2
+    make -s -C "$root" target/staticlib/libadb.a >&2
     LIB=$root/target/staticlib/libadb.a
 fi
 port() { # NAME FLAGS..

@@ -13,7 +13,7 @@ export BUILD="${BUILD:-$root/target/oracle}"
 "$here/build.sh" >&2
 BUILD=$(cd "$BUILD" && pwd)
 if [ -z "${SYNC_LIB:-}" ]; then
-    (cd "$root" && rt staticlib adb_sync) >&2
+    make -s -C "$root" target/staticlib/libadb_sync.a >&2
     SYNC_LIB=$root/target/staticlib/libadb_sync.a
 fi
 ${CC:-cc} -std=c99 -Wall -Wextra -pedantic ${CFLAGS:--O2} -I "$root/include" "$here/port/stat2.c" "$SYNC_LIB" -o "$BUILD/stat2"

@@ -2,15 +2,28 @@
 // more than 65,536 bytes with its header, and one that does not come whole.
 #![tactic(auto)]
 
-use convert::Way;
+ghost use Rattle.std.specs.Prelude.{◌≡◌, length};
 
-fn main() {
+use convert::Way;
+use std::io::Write;
+
+type Buffer = [u8; 65536];
+
+// Room for such a frame. The `ensures` gives the length, which a proof would otherwise count out.
+fn room() -> Buffer
+    ensures { 65536 ≡ length result }
+{
+    [0; 65536]
+}
+
+fn main(rt: HostRuntime) {
+    let mut output = rt.stdout();
     let mut header = [0u8; 24];
     pcap::write_header(&mut header);
-    let is_written = io::write_all(libc::STDOUT_FILENO, &header);
+    let is_written = output.write_all(&header).is_ok();
     if !is_written {
         return;
     }
-    let mut buf = io::large_buffer();
-    convert::convert(Way::ToRecords, &mut buf);
+    let mut buf = room();
+    convert::convert(&mut rt.stdin(), &mut output, Way::ToRecords, &mut buf);
 }

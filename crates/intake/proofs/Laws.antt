@@ -1,13 +1,13 @@
 -- What one read leaves. Assumes nothing.
-use mathlib.Core.Path.{◌≡◌, refl, ap, ◌∙◌}
+use mathlib.Core.Path.{◌≡◌, refl, sym, ap, ◌∙◌}
 use mathlib.Core.List.{List, ◌++◌}
 use Prim.Native.Nat.{ℕ, ◌+◌, ◌-◌, ◌≤◌}
 use native.Mathlib.Omega.{arith}
 use lib.Dec.{ltb}
 use lib.ListN.{length, take, drop, length-take}
-use lib.Seq.{take_at}
+use lib.Seq.{take_at, drop_at, take-add, take-append-le, length-take-le}
 use borrow.Author.Tests.{ltb-true, ltb-false, lt-ltb, le-ltb}
-use borrow.Rule.Slice.PartMut.{put_mid}
+use borrow.Rule.Slice.PartMut.{put_mid, post_of}
 use Rattle.le.specs.Le.{part}
 use Rattle.le.proofs.Parts.{by-test, length_part}
 use Rattle.rx_store.specs.RxStore.{slid}
@@ -45,3 +45,14 @@ reads_more d m ys at end k j o i e inside =
 -- what a reader of the bytes held used is held
 pub used-held : (d : List ℕ) (at end n : ℕ) → at ≤ end → n ≤ length (take (end - at) (drop at d)) → at + n ≤ end
 used-held d at end n h g = let k = length-take (end - at) (drop at d) in omega arith
+
+-- what a read put behind the front stands there
+pub behind : (m ys : List ℕ) (n j k : ℕ) → n ≤ length m → k ≤ length ys → take k (drop n (put_mid n j m ys)) ≡ take k ys
+behind m ys n j k within fits =
+    ap (take k) (drop_at (take n m) (ys ++ post_of n j m) n (length-take-le n m within)) ∙ take-append-le k ys (post_of n j m) fits
+
+-- and the front with it is all that was read
+pub read-on : (m ys : List ℕ) (n j k : ℕ) → n ≤ length m → k ≤ length ys → take n m ++ take k ys ≡ take (n + k) (put_mid n j m ys)
+read-on m ys n j k within fits =
+    let p = put_mid n j m ys in
+    ap (λ (l : List ℕ). take n m ++ l) (sym (behind m ys n j k within fits)) ∙ ap (λ (l : List ℕ). l ++ take k (drop n p)) (sym (front m ys n j within)) ∙ sym (take-add n k p)

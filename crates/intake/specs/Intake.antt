@@ -1,4 +1,4 @@
--- Bytes that are held in a buffer. What is read is not said: no contract of the toolchain's says it. Assumes nothing.
+-- Bytes that are held in a buffer. Which bytes a read adds is said by what the reader has left, where that is known. Assumes nothing.
 use Rattle.std.specs.Prelude.{ℕ, ◌-◌, ◌≤◌, ◌≡◌, List, ltb, length, take}
 use Rattle.le.specs.Le.{part}
 use Rattle.intake.specs.declared.Held.{Held}

@@ -5,6 +5,7 @@
 ghost use Rattle.std.specs.Prelude.{◌≡◌, length};
 
 use convert::Way;
+use std::io;
 
 type Buffer = [u8; 65552];
 
@@ -15,12 +16,14 @@ fn room() -> Buffer
     [0; 65552]
 }
 
-fn main() {
+fn main(rt: HostRuntime) -> io::Result<()> {
+    let mut input = rt.stdin();
     let mut header = [0u8; 24];
-    let n = io::read_full(libc::STDIN_FILENO, &mut header);
+    let n = intake::read_full(&mut input, &mut header)?;
     if pcap::read_header(&header[..n]).number() != 0 {
-        return;
+        return Ok(());
     }
     let mut buf = room();
-    convert::convert(Way::ToFrames, &mut buf);
+    convert::convert(&mut input, &mut rt.stdout(), Way::ToFrames, &mut buf);
+    Ok(())
 }

@@ -11,8 +11,9 @@ use lib.ListN.{length, take, drop, get_or, set, length-take, length-drop, drop_o
 use lib.Signed.{mag}
 use lib.Seq.{drop-cons, drop-drop, drop-nil, take-length, paste, paste-suc}
 use borrow.Author.Tests.{ltb-true, ltb-false, lt-ltb, le-ltb}
-use Rattle.bytes.specs.Bytes.{index_of, slice}
-use Rattle.le.specs.Le.{put, signed}
+use Rattle.replay.specs.Words.{index_of}
+use Rattle.std.proofs.lemmas.Bool.{eq-eqb, ne_eqb}
+use Rattle.le.specs.Le.{put, part, signed}
 use Rattle.le.proofs.Parts.{by-test}
 use Rattle.saturate.specs.Saturate.{clamp}
 use Rattle.saturate.proofs.Laws.{held_fits}
@@ -21,9 +22,29 @@ use Rattle.replay.specs.Words.{from_word, word_of, is_digit, grown, spelled, is_
 use Rattle.replay.proofs.TextLaws.{puts-take}
 
 -- what the search for a space sees
-pub to_the_end : (l : List ℕ) (at : ℕ) → slice at (length l) l ≡ drop at l
-unfolding slice
-to_the_end l at = rw take-length
+pub to_the_end : (l : List ℕ) (at : ℕ) → part l at (length l - at) ≡ drop at l
+unfolding part
+to_the_end l at = ap (λ (n : ℕ). take n (drop at l)) (sym (length-drop at l)) ∙ take-length (drop at l)
+
+-- a search stops at the byte, goes past another one, and ends where there is none
+pub found : (l : List ℕ) (at end b : ℕ) → at < end → end ≤ length l → get_or l at 0 ≡ b → index_of b (part l at (end - at)) ≡ 0
+unfolding part index_of
+found l at end b h i e =
+    let n : end - at ≡ suc (end - suc at) = omega arith in
+    rw (n, drop-cons l at 0 (omega arith), eq-eqb (get_or l at 0) b e)
+
+pub passed : (l : List ℕ) (at end b : ℕ) → at < end → end ≤ length l → (get_or l at 0 ≡ b → ⊥)
+    → index_of b (part l at (end - at)) ≡ suc (index_of b (part l (at + 1) (end - (at + 1))))
+unfolding part index_of
+passed l at end b h i e =
+    let n : end - at ≡ suc (end - suc at) = omega arith in
+    rw (n, add-one, drop-cons l at 0 (omega arith), ne_eqb (get_or l at 0) b e)
+
+pub passed_all : (l : List ℕ) (at b : ℕ) → index_of b (part l at (at - at)) ≡ 0
+unfolding part index_of
+passed_all l at b =
+    let n : at - at ≡ 0 = omega arith in
+    rw n
 
 -- an empty line has no words
 from-nil : (k : ℕ) → from_word k [] ≡ []

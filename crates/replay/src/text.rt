@@ -1,7 +1,9 @@
 // A line, built in lent bytes. Each writer puts as much of its text as fits from `at` on, and answers where it ends.
 ghost use Rattle.std.specs.Prelude.{◌≡◌, ◌++◌, ◌<◌, take};
-ghost use Rattle.io.specs.Digits.{last_digits, hex_digit_ascii as Digits·glyph};
+ghost use Rattle.replay.specs.Digits.{last_digits, glyph as Digits·glyph};
 ghost use Rattle.replay.specs.Text.{Puts, decimal_of, signed_text, hex_of, hex_text};
+
+use crate::decimal::decimal;
 
 pub fn put(line: &mut [u8], at: usize, s: &[u8]) -> usize
     ensures { Puts line.old at s.now line.new result }
@@ -19,7 +21,7 @@ pub fn put_number(line: &mut [u8], at: usize, n: u64) -> usize
     ensures { Puts line.old at (decimal_of n) line.new result }
 {
     let mut text = [0u8; 20];
-    let k = io::decimal(n, &mut text);
+    let k = decimal(n, &mut text);
     put(line, at, &text[..k])
 }
 

@@ -1,10 +1,11 @@
 // The words of a line, and the numbers and bytes that they spell. A word ends at a space or with the line.
 ghost use Rattle.std.specs.Prelude.{◌≡◌, ◌+◌, ◌*◌, ◌≤◌, ◌<◌, min, pos, neg_ℤ, length, drop};
-ghost use Rattle.bytes.specs.Bytes.{index_of};
-ghost use Rattle.io.specs.Counts.{IsPrefixLen};
+ghost use Rattle.replay.specs.Counts.{IsPrefixLen};
 ghost use Rattle.saturate.specs.Saturate.{clamp};
-ghost use Rattle.replay.specs.Words.{from_word, word_of, is_digit, grown, spelled, is_negative, signed_of, nibble_of, unhexed};
+ghost use Rattle.replay.specs.Words.{index_of, from_word, word_of, is_digit, grown, spelled, is_negative, signed_of, nibble_of, unhexed};
 ghost use Rattle.replay.specs.Text.{Puts};
+
+use crate::scan::find;
 
 const MAX: usize = 0xffff_ffff_ffff_ffff;
 
@@ -13,7 +14,7 @@ fn word_end(line: &[u8], at: usize) -> usize
     requires { at ≤ length line.now }
     ensures { (result ≡ at + index_of 32 (drop at line.now)) × (result ≤ length line.now) }
 {
-    bytes::scan::find(line, at, line.len(), b' ')
+    find(line, at, line.len(), b' ')
 }
 
 // Where word k begins: past k spaces, or at the line's end.

@@ -7,8 +7,12 @@ pub mod wide;
 ghost use Rattle.std.specs.Prelude.{◌≤◌, length};
 
 use exchange::{Exchange, SyncId};
+use intake::read_full;
+use replay::scan::find;
 use replay::text::{put, put_field, put_hex, written};
 use replay::words::{bytes_at, number_at, size_at};
+use std::io;
+use std::io::Write;
 use sync::{Fields, FileMode, Message, Read, StatV1};
 use sync_write::Written;
 
@@ -262,28 +266,29 @@ fn call(line: &[u8], first: &mut [u8], back: &mut [u8], out: &mut [u8]) -> usize
     write_call(line, kind, x, &first[0..n], back, out)
 }
 
-fn answer(line: &[u8]) {
+fn answer<W: Write>(output: &mut W, line: &[u8]) -> io::Result<()> {
     let mut first = replay::space();
     let mut back = replay::space();
     let mut out = replay::space();
     let end = call(line, &mut first, &mut back, &mut out);
-    io::write_all(1, written(&out, end));
+    output.write_all(written(&out, end))
 }
 
-fn replay(script: &[u8]) {
+fn replay<W: Write>(output: &mut W, script: &[u8]) -> io::Result<()> {
     let mut at = 0;
     while at < script.len() {
-        let end = bytes::scan::find(script, at, script.len(), b'\n');
-        answer(&script[at..end]);
+        let end = find(script, at, script.len(), b'\n');
+        answer(output, &script[at..end])?;
         if end == script.len() {
-            return;
+            return Ok(());
         }
         at = end + 1;
     }
+    Ok(())
 }
 
-fn main() {
+fn main(rt: HostRuntime) -> io::Result<()> {
     let mut script = replay::space();
-    let n = io::read_full(0, &mut script);
-    replay(&script[..n]);
+    let n = read_full(&mut rt.stdin(), &mut script)?;
+    replay(&mut rt.stdout(), &script[..n])
 }
