@@ -3,7 +3,7 @@
 use Prim.Native.Nat.{ℕ}
 use mathlib.Core.List.{[], ◌∷◌, List}
 use seplogic.Ra.Ura.{Ura}
-use seplogic.Ra.TreeShare.{full_share}
+use base.Fraction.{full_share}
 use lib.Dec.{T as Holds}
 use mir.Val.{Val, WT, has_ty}
 use base.Fml.{GName, Lft, Share, flft, fobs, fauth, fbor, fobor}
