@@ -1,8 +1,6 @@
 use mathlib.Core.Path.{◌≡◌, refl, subst}
 use native.Mathlib.Omega.{arith}
-use Prim.Native.Nat.{ℕ, ◌-◌, ◌≤◌}
-use lib.ListN.{length}
-use borrow.Author.Rules.{rules}
+use Prim.Native.Nat.{ℕ}
 use Rattle.le.specs.Le.{put}
 use Rattle.call_make.specs.Make.{empty_queue}
 use Rattle.call_make.proofs.MakeLaws.{opens-none, opens-more}
@@ -13,13 +11,12 @@ pub loop-i-init : goal.loop-i-init
 loop-i-init c = (omega arith, refl, opens-none c.args.state.now)
 
 pub loop-i-preserved : goal.loop-i-preserved
-loop-i-preserved c =
-    (
-      omega arith,
-      omega arith,
-      opens-more c.args.state.now c.loop-i.state _ c.none_queued.result c.loop-i.i
-          (omega arith) (omega arith) c.loop-i.invariant.2 c.none_queued.ensures c.put_queued.ensures,
-    )
+loop-i-preserved c = (
+  omega arith,
+  omega arith,
+  opens-more c.args.state.now c.loop-i.state _ c.none_queued.result c.loop-i.i
+      (omega arith) (omega arith) c.loop-i.invariant.2 c.none_queued.ensures c.put_queued.ensures,
+)
 
 pub returns : goal.returns
 returns c =

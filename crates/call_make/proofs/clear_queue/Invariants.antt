@@ -1,11 +1,8 @@
-use mathlib.Core.Path.{◌≡◌, refl, subst}
-use native.Mathlib.Omega.{arith}
-use Prim.Native.Nat.{ℕ, ◌-◌, ◌≤◌}
+use mathlib.Core.Path.{◌≡◌}
+use Prim.Native.Nat.{◌-◌, ◌≤◌}
 use lib.ListN.{length}
-use borrow.Author.Rules.{rules}
 use Rattle.le.specs.Le.{put}
 use Rattle.call_make.specs.Make.{empty_queue}
-use Rattle.call_make.proofs.MakeLaws.{opens-none, opens-more}
 use Rattle.state.specs.State.{queue_at}
 use Rattle.call_make.proofs.clear_queue.Given as goal
 

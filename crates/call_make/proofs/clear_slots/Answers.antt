@@ -1,8 +1,6 @@
 use mathlib.Core.Path.{◌≡◌, refl, subst}
 use native.Mathlib.Omega.{arith}
-use Prim.Native.Nat.{ℕ, ◌-◌, ◌≤◌}
-use lib.ListN.{length}
-use borrow.Author.Rules.{rules}
+use Prim.Native.Nat.{ℕ}
 use Rattle.le.specs.Le.{put}
 use Rattle.call_make.specs.Make.{empty_slots}
 use Rattle.call_make.proofs.MakeLaws.{slots-none, slots-more}
@@ -13,13 +11,12 @@ pub loop-i-init : goal.loop-i-init
 loop-i-init c = (omega arith, refl, slots-none c.args.state.now)
 
 pub loop-i-preserved : goal.loop-i-preserved
-loop-i-preserved c =
-    (
-      omega arith,
-      omega arith,
-      slots-more c.args.state.now c.loop-i.state _ c.empty.result c.loop-i.i
-          (omega arith) (omega arith) c.loop-i.invariant.2 c.empty.ensures c.put_slot.ensures,
-    )
+loop-i-preserved c = (
+  omega arith,
+  omega arith,
+  slots-more c.args.state.now c.loop-i.state _ c.empty.result c.loop-i.i
+      (omega arith) (omega arith) c.loop-i.invariant.2 c.empty.ensures c.put_slot.ensures,
+)
 
 pub returns : goal.returns
 returns c =

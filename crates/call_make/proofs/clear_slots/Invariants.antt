@@ -1,11 +1,8 @@
-use mathlib.Core.Path.{◌≡◌, refl, subst}
-use native.Mathlib.Omega.{arith}
-use Prim.Native.Nat.{ℕ, ◌-◌, ◌≤◌}
+use mathlib.Core.Path.{◌≡◌}
+use Prim.Native.Nat.{◌-◌, ◌≤◌}
 use lib.ListN.{length}
-use borrow.Author.Rules.{rules}
 use Rattle.le.specs.Le.{put}
 use Rattle.call_make.specs.Make.{empty_slots}
-use Rattle.call_make.proofs.MakeLaws.{slots-none, slots-more}
 use Rattle.state.specs.State.{header_len}
 use Rattle.call_make.proofs.clear_slots.Given as goal
 

@@ -1,7 +1,6 @@
 use Rattle.call_make.proofs.MakeLaws.{make-short, make-bad, make-done}
 use native.Mathlib.Omega.{arith}
 use mathlib.Core.Path.{refl, sym, ◌∙◌}
-use borrow.Author.Rules.{rules}
 use Rattle.call_make.proofs.make.Goals as goal
 
 pub returns-then-state-lt-STATE_LEN : goal.returns-then-state-lt-STATE_LEN

@@ -1,4 +1,3 @@
-use borrow.Author.Rules.{rules}
 use Rattle.call_make.proofs.make_from.Goals as goal
 
 -- LOST slice-aggregate-has-feature : tie.Need-slice-aggregate-has-feature

@@ -1,7 +1,6 @@
 use Rattle.call.proofs.LeaveLaws.{admitted-goes, goes-admits, refused-leaves, goes-leaves}
 use Rattle.call.specs.Promise.{agreed_in}
 use Rattle.connection.specs.Calls.{reject_outcome}
-use borrow.Author.Rules.{rules}
 use Rattle.call_reject.proofs.reject.Goals as goal
 
 pub reject_step-requires : goal.reject_step-requires

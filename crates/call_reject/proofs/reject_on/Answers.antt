@@ -1,6 +1,5 @@
 use mathlib.Core.Path.{refl}
 use Rattle.call_reject.proofs.OfferLaws.{reject-leaves}
-use borrow.Author.Rules.{rules}
 use Rattle.call_reject.proofs.reject_on.Goals as goal
 
 pub returns : goal.returns
