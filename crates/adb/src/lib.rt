@@ -2,7 +2,7 @@
 // refused by 8 ahead of all else, and nothing is touched.
 #![tactic(auto)]
 
-pub mod stretch;
+pub mod shortest;
 
 ghost use Rattle.std.specs.Prelude.{◌≡◌, ◌∷◌, ◌≤◌, length};
 ghost use Rattle.le.specs.Le.{bytes_of, put};

@@ -1,7 +1,7 @@
 use mathlib.Core.Path.{sym, ◌∙◌}
 use Rattle.adb.proofs.ExportLaws.{long-answer}
 use Rattle.adb.proofs.StretchLaws.{stretch-short, stretch-called}
-use Rattle.adb.proofs.stretch.adb_stretch.Goals as goal
+use Rattle.adb.proofs.shortest.adb_stretch.Goals as goal
 
 pub returns-then-is_short : goal.returns-then-is_short
 returns-then-is_short c = stretch-short c.args.state.now c.args.rx.now c.args.opens.now c.args.received.now c.args.spare_rx.now c.args.spare_opens.now c.args.answer.now (sym c.is_short.ensures ∙ c.if-is_short.true)

@@ -1,5 +1,5 @@
 use Rattle.call_stretch.specs.Promise.{stretched_values}
-use Rattle.adb.proofs.stretch.stretch_values.Goals as goal
+use Rattle.adb.proofs.shortest.stretch_values.Goals as goal
 
 pub returns-in-Frames : goal.returns-in-Frames
 unfolding stretched_values
