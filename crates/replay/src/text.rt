@@ -1,6 +1,6 @@
 // A line, built in lent bytes. Each writer puts as much of its text as fits from `at` on, and answers where it ends.
 ghost use Rattle.std.specs.Prelude.{◌≡◌, ◌++◌, ◌<◌, take};
-ghost use Rattle.replay.specs.Digits.{last_digits, glyph as Digits·glyph};
+ghost use Rattle.replay.specs.Digits.{last_digits, glyph};
 ghost use Rattle.replay.specs.Text.{Puts, decimal_of, signed_text, hex_of, hex_text};
 
 use crate::decimal::decimal;
@@ -47,7 +47,7 @@ pub fn put_signed(line: &mut [u8], at: usize, z: i64) -> usize
 
 fn glyph(d: u8) -> u8
     requires { d < 16 }
-    ensures { result ≡ Digits·glyph d }
+    ensures { result ≡ glyph d }
 {
     if d < 10 {
         return 48 + d;
