@@ -2,19 +2,8 @@
 // more than 65,536 bytes with its header, and one that does not come whole.
 #![tactic(auto)]
 
-ghost use Rattle.std.specs.Prelude.{◌≡◌, length};
-
 use convert::Way;
 use std::io::Write;
-
-type Buffer = [u8; 65536];
-
-// Room for such a frame. The `ensures` gives the length, which a proof would otherwise count out.
-fn room() -> Buffer
-    ensures { 65536 ≡ length result }
-{
-    [0; 65536]
-}
 
 fn main(rt: HostRuntime) {
     let mut output = rt.stdout();
@@ -24,6 +13,6 @@ fn main(rt: HostRuntime) {
     if !is_written {
         return;
     }
-    let mut buf = room();
+    let mut buf = io::large_buffer();
     convert::convert(&mut rt.stdin(), &mut output, Way::ToRecords, &mut buf);
 }

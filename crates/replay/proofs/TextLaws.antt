@@ -11,7 +11,7 @@ use lib.ListN.{length, take, get_or, length-append, length-take}
 use lib.Seq.{take_all, take-nil, take-append-le, take-append-add, take-suc}
 use lib.Signed.{mag}
 use borrow.Author.Tests.{ltb-true, ltb-false, lt-ltb, le-ltb}
-use Rattle.replay.specs.Digits.{last_digits, IsDigitCount}
+use Rattle.io.specs.Digits.{last_digits, IsDigitCount}
 use Rattle.le.specs.Le.{put, unsigned}
 use Rattle.le.proofs.Parts.{by-test, put-none, put-put, length-put}
 use Rattle.replay.specs.Text.{fitting, Puts, places, decimal_of, signed_text, hex_of, hex_text}

@@ -1,4 +1,2 @@
-pub mod Counts
-pub mod Digits
 pub mod Text
 pub mod Words

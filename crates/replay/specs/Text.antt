@@ -1,6 +1,6 @@
 -- Text that is put into lent bytes, and numbers and bytes as text. Assumes nothing.
 use Rattle.std.specs.Prelude.{ℕ, zero, suc, ◌+◌, ◌-◌, ◌/◌, ◌≡◌, cond, List, [], ◌∷◌, ◌++◌, ltb, ℤ, pos, negsuc, length, take}
-use Rattle.replay.specs.Digits.{last_digits}
+use Rattle.io.specs.Digits.{last_digits}
 use Rattle.le.specs.Le.{put}
 
 -- as much of s as d has room for from place at

@@ -1,7 +1,6 @@
 // The lines of the scripts that the programs replay: the words of a call (`words`), and the line that answers it (`text`).
 #![tactic(auto)]
 
-mod decimal;
 pub mod scan;
 pub mod text;
 pub mod words;

@@ -1,9 +1,7 @@
 // A line, built in lent bytes. Each writer puts as much of its text as fits from `at` on, and answers where it ends.
 ghost use Rattle.std.specs.Prelude.{◌≡◌, ◌++◌, ◌<◌, take};
-ghost use Rattle.replay.specs.Digits.{last_digits, glyph};
+ghost use Rattle.io.specs.Digits.{last_digits, hex_digit_ascii};
 ghost use Rattle.replay.specs.Text.{Puts, decimal_of, signed_text, hex_of, hex_text};
-
-use crate::decimal::decimal;
 
 pub fn put(line: &mut [u8], at: usize, s: &[u8]) -> usize
     ensures { Puts line.old at s.now line.new result }
@@ -21,7 +19,7 @@ pub fn put_number(line: &mut [u8], at: usize, n: u64) -> usize
     ensures { Puts line.old at (decimal_of n) line.new result }
 {
     let mut text = [0u8; 20];
-    let k = decimal(n, &mut text);
+    let k = io::decimal(n, &mut text);
     put(line, at, &text[..k])
 }
 
@@ -47,7 +45,7 @@ pub fn put_signed(line: &mut [u8], at: usize, z: i64) -> usize
 
 fn glyph(d: u8) -> u8
     requires { d < 16 }
-    ensures { result ≡ glyph d }
+    ensures { result ≡ hex_digit_ascii d }
 {
     if d < 10 {
         return 48 + d;

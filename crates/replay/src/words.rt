@@ -1,6 +1,6 @@
 // The words of a line, and the numbers and bytes that they spell. A word ends at a space or with the line.
 ghost use Rattle.std.specs.Prelude.{◌≡◌, ◌+◌, ◌*◌, ◌≤◌, ◌<◌, min, pos, neg_ℤ, length, drop};
-ghost use Rattle.replay.specs.Counts.{IsPrefixLen};
+ghost use Rattle.io.specs.Counts.{IsPrefixLen};
 ghost use Rattle.saturate.specs.Saturate.{clamp};
 ghost use Rattle.replay.specs.Words.{index_of, from_word, word_of, is_digit, grown, spelled, is_negative, signed_of, nibble_of, unhexed};
 ghost use Rattle.replay.specs.Text.{Puts};

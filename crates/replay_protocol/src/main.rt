@@ -2,15 +2,12 @@
 // for it is to be the one recorded from libadb or, for the texts at the end, the one of a table (docs/VECTORS.md).
 #![tactic(auto)]
 
-ghost use Rattle.std.specs.Prelude.{◌≡◌, length};
-
 use intake::read_full;
 use protocol::command::Command;
 use protocol::packet::{Decoded, Packet};
 use replay::scan::find;
 use replay::text::{put, put_field, put_hex, written};
 use replay::words::{bytes_at, number_at};
-use std::io;
 use std::io::Write;
 
 fn put_command(out: &mut [u8], at: usize, c: Command) -> usize {
@@ -116,33 +113,16 @@ fn call(line: &[u8], first: &mut [u8], second: &mut [u8], out: &mut [u8]) -> usi
     has_feature(out, &first[..n], &second[..m])
 }
 
-type Payload = [u8; 65536];
-
-type Feature = [u8; 4096];
-
-// Room for the bytes of a call. The `ensures` give the lengths, which a proof would otherwise count out.
-fn payload() -> Payload
-    ensures { 65536 ≡ length result }
-{
-    [0; 65536]
-}
-
-fn feature() -> Feature
-    ensures { 4096 ≡ length result }
-{
-    [0; 4096]
-}
-
 // A line of `out` has two digits for each byte of `first`, and some words.
-fn answer<W: Write>(output: &mut W, line: &[u8]) -> io::Result<()> {
-    let mut first = payload();
-    let mut second = feature();
+fn answer<W: Write>(output: &mut W, line: &[u8]) -> std::io::Result<()> {
+    let mut first = io::large_buffer();
+    let mut second = io::buffer();
     let mut out = replay::space();
     let end = call(line, &mut first, &mut second, &mut out);
     output.write_all(written(&out, end))
 }
 
-fn replay<W: Write>(output: &mut W, script: &[u8]) -> io::Result<()> {
+fn replay<W: Write>(output: &mut W, script: &[u8]) -> std::io::Result<()> {
     let mut at = 0;
     while at < script.len() {
         let end = find(script, at, script.len(), b'\n');
@@ -155,7 +135,7 @@ fn replay<W: Write>(output: &mut W, script: &[u8]) -> io::Result<()> {
     Ok(())
 }
 
-fn main(rt: HostRuntime) -> io::Result<()> {
+fn main(rt: HostRuntime) -> std::io::Result<()> {
     let mut script = replay::space();
     let n = read_full(&mut rt.stdin(), &mut script)?;
     replay(&mut rt.stdout(), &script[..n])
