@@ -54,7 +54,7 @@ use Rattle.connection.specs.Frames.{Frame, frames_bytes}
 use Rattle.state_whole.proofs.WholeLaws.{Live, Whole, live-whole, emptied-whole}
 use Rattle.state_whole.proofs.LiveLaws.{ReadiedLive, ready-live, opened-live, accepted-live, TakenLive, taken_live, settled-live, delivered-live, spent-live, closed-live}
 use Rattle.table_dispatch.proofs.KeepLaws.{place_found}
-use Rattle.incoming.proofs.QueueLaws.{QueueKeeps, NoOffer, ours-alone, every-get_d, FrontAs, pop-keeps, return-keeps}
+use Rattle.incoming.proofs.QueueLaws.{QueueKeeps, NoOffer, ours-alone, every-get_or, FrontAs, pop-keeps, return-keeps}
 use Rattle.connection.proofs.WholeAct.{ActedKeeps, acted-keeps}
 use Rattle.connection.proofs.Decoding.{Admitted, fault-fine, error-fine, unless-fine, ReceivedFits, received-fits}
 use Rattle.connection.proofs.WholeWork.{looked-kept, negotiated, Kept, WorkWhole, At, drop-whole, begun-whole, frames-whole, slot_whole, act-whole, ends-kept, at-frames, at_slot, at-act, at-ends, untouched-kept, dropped-whole, there-live, there-at, Long}
@@ -264,7 +264,7 @@ module _ (l : Lent) (g : Whole (negotiated l) l.state.header l.state.slots l.sta
       let most = g.limits.within.most-channels in
       let room = o.room in
       let full = g.queue.full in
-      every-get_d OpenFits l.state.queue l.state.header.queued none_queued (omega arith) g.queue.fits
+      every-get_or OpenFits l.state.queue l.state.header.queued none_queued (omega arith) g.queue.fits
 
   accept-on : (remote : RemoteId) (credit : ℕ) → remote.0 < 2 ^ 32 → credit < 2 ^ 32 → (r : Allocated) → AllocatedFree r
       → Kept l (accept_on l (dropped l.state.header) remote credit r)

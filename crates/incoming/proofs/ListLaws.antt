@@ -40,8 +40,8 @@ unfolding queue_fine
 fine-parts channels payload q qs e = and-true (queued_fine channels payload q) (queue_fine channels payload qs) e
 
 -- what is put behind others stands there
-pub get_d-behind : {A : Type 0} (ks : List A) (o : A) (v : List A) (d : A) (i : ℕ) → length ks ≡ i → get_or (ks ++ o ∷ v) i d ≡ o
-get_d-behind ks o v d i n = let z : i ≡ length ks + 0 = omega arith in ap (λ (j : ℕ). get_or (ks ++ o ∷ v) j d) z ∙ get_or-append-add ks (o ∷ v) 0 d
+pub get_or-behind : {A : Type 0} (ks : List A) (o : A) (v : List A) (d : A) (i : ℕ) → length ks ≡ i → get_or (ks ++ o ∷ v) i d ≡ o
+get_or-behind ks o v d i n = let z : i ≡ length ks + 0 = omega arith in ap (λ (j : ℕ). get_or (ks ++ o ∷ v) j d) z ∙ get_or-append-add ks (o ∷ v) 0 d
 
 -- ---- a push
 
@@ -177,7 +177,7 @@ module _ (c : Connection) (h : Header) (store : List ℕ) where
       let front = get_or c.queue 0 none_queued in
       let v = drop (length (ks ++ front ∷ [])) c.queue in
       rw (t, ← k, ← a)
-      (ap (λ (y : List QueuedOpen). get_or y (h.queued - 1) none_queued) (append_assoc ks (front ∷ []) v) ∙ get_d-behind ks front v none_queued (h.queued - 1) n))
+      (ap (λ (y : List QueuedOpen). get_or y (h.queued - 1) none_queued) (append_assoc ks (front ∷ []) v) ∙ get_or-behind ks front v none_queued (h.queued - 1) n))
 
   -- one that is put back stands ahead of the others
   pub returned-waits : (q : QueuedOpen) → h.queued < length c.queue

@@ -29,7 +29,7 @@ use Rattle.incoming.specs.declared.Pushed.{Pushed}
 use Rattle.incoming.specs.declared.Pushed.TheVariants.{Queued, Full}
 use Rattle.incoming.specs.Incoming.{free_share, kept, with_queued, withdrawal, offering, popped, returned, next_share, PushOutcome, pushed}
 use Rattle.incoming.proofs.ShareLaws.{next-below, share-fits}
-use Rattle.incoming.proofs.ListLaws.{fine-parts, fine-cons, fine-snoc, get_d-behind, push-fine, kept_fine, kept-every, length-kept}
+use Rattle.incoming.proofs.ListLaws.{fine-parts, fine-cons, fine-snoc, get_or-behind, push-fine, kept_fine, kept-every, length-kept}
 use Rattle.state_whole.proofs.WholeLaws.{Whole, OpensWhole, OfferWhole}
 
 -- changes to the queued opens os alone, after which the header is `more`
@@ -43,10 +43,10 @@ abbrev pub NoOffer : Header → Type 0
 NoOffer h = is_offer h.pending.what ≡ false
 
 -- what holds of every one holds of the one at a place
-pub every-get_d : {A : Type 0} (P : A → Type 0) (l : List A) (i : ℕ) (d : A) → i < length l → Every P l → P (get_or l i d)
-every-get_d P [] i d h e = absurd (omega arith)
-every-get_d P (a ∷ l) zero d h e = e.0
-every-get_d P (a ∷ l) (suc i) d h e = every-get_d P l i d (omega arith) e.1
+pub every-get_or : {A : Type 0} (P : A → Type 0) (l : List A) (i : ℕ) (d : A) → i < length l → Every P l → P (get_or l i d)
+every-get_or P [] i d h e = absurd (omega arith)
+every-get_or P (a ∷ l) zero d h e = e.0
+every-get_or P (a ∷ l) (suc i) d h e = every-get_or P l i d (omega arith) e.1
 
 -- at most one thing is pending
 pub ours-alone : (w : Pending) → is_ours w ≡ true → is_offer w ≡ false
@@ -209,7 +209,7 @@ module _ (h : Header) (ss : List ChannelSlot) (os : List QueuedOpen) (g : Whole 
             let v = drop (length all) os in
             let j : all ++ v ≡ ks ++ first ∷ v = append_assoc ks (first ∷ []) v in
             let at : get_or (all ++ v) (h.queued - 1) none_queued ≡ first =
-            ap (λ (x : List QueuedOpen). get_or x (h.queued - 1) none_queued) j ∙ get_d-behind ks first v none_queued (h.queued - 1) e in
+            ap (λ (x : List QueuedOpen). get_or x (h.queued - 1) none_queued) j ∙ get_or-behind ks first v none_queued (h.queued - 1) e in
             whole-offer (h.queued - 1) (all ++ v) (omega arith)
             (record {
               full = o.full;

@@ -247,17 +247,17 @@ module _ (b : List ℕ) (n i : ℕ) where
 
 -- ---- the pending open
 
-filled-get_d : (ss : List ChannelSlot) (i : ℕ) (d : ChannelSlot) → i < length ss → filled_at ss i ≡ (get_or ss i d).filled
+filled-get_or : (ss : List ChannelSlot) (i : ℕ) (d : ChannelSlot) → i < length ss → filled_at ss i ≡ (get_or ss i d).filled
 unfolding filled_at
-filled-get_d [] i d h = absurd (omega arith)
-filled-get_d (s ∷ ss) zero d h = refl
-filled-get_d (s ∷ ss) (suc i) d h = filled-get_d ss i d (omega arith)
+filled-get_or [] i d h = absurd (omega arith)
+filled-get_or (s ∷ ss) zero d h = refl
+filled-get_or (s ∷ ss) (suc i) d h = filled-get_or ss i d (omega arith)
 
 pub filled-at : (b : List ℕ) (i : ℕ) → i < 64 → filled_at (state_of b).slots i ≡ (slot_at b i).filled
 filled-at b i h =
     let d = slot_at b 0 in
     let n = (state-full b).slots in
-    filled-get_d (state_of b).slots i d (omega arith) ∙ ap (λ (s : ChannelSlot). s.filled) (slot-in b i d h)
+    filled-get_or (state_of b).slots i d (omega arith) ∙ ap (λ (s : ChannelSlot). s.filled) (slot-in b i d h)
 
 module _ (h : Header) (b : List ℕ) where
   pub waits_in : (s : ChannelSlot) → is_ours h.pending.what ≡ true → h.pending.slot < h.negotiated.config.channels → h.negotiated.config.channels ≤ 64

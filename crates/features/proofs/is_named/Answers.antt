@@ -2,9 +2,6 @@ use mathlib.Core.Path.{sym, ◌∙◌}
 use Rattle.features.proofs.FeaturesLaws.{named-beginning, named-inside}
 use Rattle.features.proofs.is_named.Goals as goal
 
--- LOST slice-aggregate-same : tie.Need-slice-aggregate-same
--- slice-aggregate-same c = search rules
-
 pub returns-then-is_beginning : goal.returns-then-is_beginning
 returns-then-is_beginning c =
     let a = c.args in

@@ -2,9 +2,6 @@ use Rattle.std.proofs.Common.{sym, arith}
 use Rattle.slot.proofs.Kept.{unsound, sound-holds}
 use Rattle.slot_receive.proofs.is_sound.Goals as goal
 
--- LOST wrapping-sub-usize-requires : tie.Need-wrapping-sub-usize-requires
--- wrapping-sub-usize-requires c κs = search rules
-
 pub returns-then-settled-cap : goal.returns-then-settled-cap
 returns-then-settled-cap c = unsound c.args.slot c.args.cap (omega arith) (λ ok. omega arith)
 

@@ -2,9 +2,6 @@ use native.Mathlib.Omega.{arith}
 use Rattle.replay.proofs.TextLaws.{hex-none, hex-some}
 use Rattle.replay.proofs.text.put_hex.Goals as goal
 
--- LOST slice-aggregate-put : tie.Need-slice-aggregate-put
--- slice-aggregate-put c = search rules
-
 pub returns-then-s-eq0 : goal.returns-then-s-eq0
 returns-then-s-eq0 c = rw (hex-none c.args.s.now (omega arith)) c.put.ensures
 

@@ -4,9 +4,6 @@ use mir.Facts.{to_z-of_z}
 use Rattle.replay.proofs.TextLaws.{signed-plain, signed-minus, puts-puts}
 use Rattle.replay.proofs.text.put_signed.Goals as goal
 
--- LOST slice-aggregate-put : tie.Need-slice-aggregate-put
--- slice-aggregate-put c = search rules
-
 pub returns-then-bits-lt9223372036854775808 : goal.returns-then-bits-lt9223372036854775808
 returns-then-bits-lt9223372036854775808 c =
     let z = c.args.z in
