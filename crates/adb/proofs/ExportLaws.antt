@@ -6,14 +6,14 @@ use Prim.Native.Nat.{ℕ, suc, ◌+◌, ◌%◌, ◌^◌, ◌≤◌, ◌<◌}
 use native.Mathlib.Nat.{zero-add}
 use native.Mathlib.Omega.{arith}
 use lib.Dec.{ltb}
-use lib.ListN.{length, drop, length-append}
+use lib.ListN.{length, drop, get_or, length-append}
 use borrow.Author.Tests.{lt-ltb, le-ltb, ltb-false}
 use Rattle.le.specs.Le.{num_of, bytes_of, put, Bytes}
 use Rattle.le.proofs.Laws.{length-bytes_of, write_read}
 use Rattle.le.proofs.Parts.{put-put}
 use Rattle.config.specs.declared.ConnectionConfig.{ConnectionConfig}
 use Rattle.slot.proofs.Laws.{cond-true, cond-false}
-use Rattle.le.specs.Rows.{flat}
+use Rattle.le.specs.Rows.{flat, rows}
 use Rattle.le.proofs.RowLaws.{Every, rows-flat}
 use Rattle.state_whole.specs.Whole.{is_whole}
 use Rattle.table.specs.declared.ChannelId.{ChannelId}
@@ -24,8 +24,7 @@ use Rattle.connection.specs.Calls.{Outcome, written_by, open_outcome, dispatch_o
 use Rattle.call.specs.Promise.{lent_of, agreed_in, Leaves}
 use Rattle.call_make.specs.Make.{make_in, Makes}
 use Rattle.history.specs.Run.{bytes_in, Call, open_call, dispatch_call, settle_call, take_call, read_call, write_call, close_call, front_taken, look_call, numbers_look, look_outcome, accept_call, reject_call, let_go_call, World, outcome, after}
-use Rattle.adb.specs.declared.Values.{Values}
-use Rattle.adb.specs.Export.{world_of, values_in, numbers_of, answer_bytes, said_in, is_short, Exported, called, exported, Does, is_yes, MakesState}
+use Rattle.adb.specs.Export.{world_of, numbers_of, answer_bytes, said_in, is_short, Exported, called, exported, Does, is_yes, MakesState}
 use Rattle.state.specs.State.{state_len}
 
 -- ---- bytes
@@ -41,72 +40,17 @@ bytes_same (x ∷ l) y =
 
 -- ---- the answer's bytes
 
-pub values-put : (d : List ℕ) (v : Values) (d₁ d₂ d₃ d₄ : List ℕ) → 48 ≤ length d → d₁ ≡ put d 16 (bytes_of 8 v.a) → d₂ ≡ put d₁ 24 (bytes_of 8 v.b) → d₃ ≡ put d₂ 32 (bytes_of 8 v.c)
-    → d₄ ≡ put d₃ 40 (bytes_of 8 v.d) → d₄ ≡ put d 16 (flat (bytes_of 8) (values_in v))
-unfolding flat
-values-put d v d₁ d₂ d₃ d₄ k e₁ e₂ e₃ e₄ =
-    let a = bytes_of 8 v.a in
-    let b = bytes_of 8 v.b in
-    let c = bytes_of 8 v.c in
-    let x = bytes_of 8 v.d in
-    let la = length-bytes_of 8 v.a in
-    let lb = length-bytes_of 8 v.b in
-    let lc = length-bytes_of 8 v.c in
-    let lx = length-bytes_of 8 v.d in
-    let m₂ = length-append a b in
-    let m₃ = length-append (a ++ b) c in
-    let f₂ = e₂ ∙ ap (λ (y : List ℕ). put y 24 b) e₁ ∙ put-put d 16 a 24 b (omega arith) (omega arith) in
-    let f₃ = e₃ ∙ ap (λ (y : List ℕ). put y 32 c) f₂ ∙ put-put d 16 (a ++ b) 32 c (omega arith) (omega arith) in
-    let f₄ = e₄ ∙ ap (λ (y : List ℕ). put y 40 x) f₃ ∙ put-put d 16 (a ++ b ++ c) 40 x (omega arith) (omega arith) in
-    let z : a ++ b ++ c ++ x ≡ a ++ (b ++ (c ++ (x ++ []))) = simp (append_assoc, append-nil) in
-    f₄ ∙ ap (put d 16) z
+pub each-fits : (l : List ℕ) → ((i : ℕ) → get_or l i 0 < 2 ^ 64) → Every (λ (x : ℕ). x < 2 ^ 64) l
+each-fits [] h = tt
+each-fits (x ∷ l) h = (h 0, each-fits l (λ i. h (suc i)))
 
-values_length : (v : Values) → length (flat (bytes_of 8) (values_in v)) ≡ 32
-unfolding flat
-values_length v =
-    let la = length-bytes_of 8 v.a in
-    let lb = length-bytes_of 8 v.b in
-    let lc = length-bytes_of 8 v.c in
-    let ld = length-bytes_of 8 v.d in
-    simp length-append (omega arith)
-
-pub answer-put : (d : List ℕ) (used written : ℕ) (v : Values) (d₁ d₂ d₃ : List ℕ) → 48 ≤ length d → d₁ ≡ put d 0 (bytes_of 8 used) → d₂ ≡ put d₁ 8 (bytes_of 8 written)
-    → d₃ ≡ put d₂ 16 (flat (bytes_of 8) (values_in v)) → d₃ ≡ put d 0 (flat (bytes_of 8) (used ∷ written ∷ values_in v))
-unfolding flat
-answer-put d used written v d₁ d₂ d₃ k e₁ e₂ e₃ =
-    let a = bytes_of 8 used in
-    let b = bytes_of 8 written in
-    let c = flat (bytes_of 8) (values_in v) in
-    let la = length-bytes_of 8 used in
-    let lb = length-bytes_of 8 written in
-    let lc = values_length v in
-    let m = length-append a b in
-    let f₂ = e₂ ∙ ap (λ (y : List ℕ). put y 8 b) e₁ ∙ put-put d 0 a 8 b (omega arith) (omega arith) in
-    e₃ ∙ ap (λ (y : List ℕ). put y 16 c) f₂ ∙ put-put d 0 (a ++ b) 16 c (omega arith) (omega arith) ∙ ap (put d 0) (append_assoc a b c)
-
--- four values of 64 bits
-abbrev Words : Values → Type 0
-Words v = (v.a < 2 ^ 64) × (v.b < 2 ^ 64) × (v.c < 2 ^ 64) × (v.d < 2 ^ 64)
-
-values-fit : (v : Values) → Words v → Every (λ (x : ℕ). x < 2 ^ 64) (values_in v)
-values-fit v h = (h.0, (h.1, (h.2, (h.3, tt))))
-
--- the answer's bytes say the six numbers
-pub answer-said : (d d₃ : List ℕ) (used written : ℕ) (v : Values) → 48 ≤ length d → used < 2 ^ 64 → written < 2 ^ 64 → Words v
-    → d₃ ≡ put d 0 (flat (bytes_of 8) (used ∷ written ∷ values_in v)) → said_in d₃ ≡ used ∷ written ∷ values_in v
+-- they say its numbers
+pub answer-said : (d d₂ numbers : List ℕ) → 48 ≤ length d → length numbers ≡ 6 → Every (λ (x : ℕ). x < 2 ^ 64) numbers
+    → d₂ ≡ put d 0 (flat (bytes_of 8) numbers) → said_in d₂ ≡ numbers
 unfolding said_in put
-answer-said d d₃ used written v k u w h e =
-    let xs : List ℕ = used ∷ written ∷ values_in v in
-    ap said_in e ∙ rows-flat 8 (bytes_of 8) num_of (λ (x : ℕ). x < 2 ^ 64) (λ x. length-bytes_of 8 x) (λ x q. write_read 8 x q) xs (drop (0 + length (flat (bytes_of 8) xs)) d) (u, (w, values-fit v h))
-
--- so of a reply
-pub answer-is : (d d₃ : List ℕ) (r : Reply) (v : Values) → values_in v ≡ answer_values r.answer
-    → (d₃ ≡ put d 0 (flat (bytes_of 8) (r.used ∷ r.written ∷ values_in v))) × (said_in d₃ ≡ r.used ∷ r.written ∷ values_in v)
-    → (d₃ ≡ put d 0 (answer_bytes r.used r.written r.answer)) × (said_in d₃ ≡ numbers_of r.used r.written r.answer)
-unfolding answer_bytes
-answer-is d d₃ r v f g =
-    let z : r.used ∷ r.written ∷ values_in v ≡ numbers_of r.used r.written r.answer = ap (λ (y : List ℕ). r.used ∷ r.written ∷ y) f in
-    (g.0 ∙ ap (λ (y : List ℕ). put d 0 (flat (bytes_of 8) y)) z, g.1 ∙ z)
+answer-said d d₂ numbers k n fit e =
+    ap said_in e ∙ ap (λ (m : ℕ). rows 8 num_of m (flat (bytes_of 8) numbers ++ drop (0 + length (flat (bytes_of 8) numbers)) d)) (sym n)
+    ∙ rows-flat 8 (bytes_of 8) num_of (λ (x : ℕ). x < 2 ^ 64) (λ x. length-bytes_of 8 x) (λ x q. write_read 8 x q) numbers (drop (0 + length (flat (bytes_of 8) numbers)) d) fit
 
 -- ---- too few bytes
 

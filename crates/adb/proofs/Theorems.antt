@@ -153,14 +153,14 @@ not-7 k e f = omega arith
 
 module _ (m : Making) where
   makes-long : ltb (length m.state) state_len ≡ false
-  unfolding make_in answer_number refusal_number
+  unfolding make_in answer_number
   makes-long =
       by-test (ltb (length m.state) state_len)
       (λ t. absurd (not-8 m.number m.done (m.makes.number_is ∙ ap (λ (x : Made). answer_number x.answer) (cond-true (ltb (length m.state) state_len) _ _ t))))
       (λ t. t)
 
   makes-within : within_limits m.config ≡ true
-  unfolding make_in make_of answer_number refusal_number
+  unfolding make_in make_of answer_number
   makes-within =
       by-test (within_limits m.config) (λ t. t)
       (λ t. absurd (not-7 m.number m.done

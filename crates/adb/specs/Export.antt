@@ -7,17 +7,12 @@ use Rattle.connection.specs.declared.Answer.{Answer}
 use Rattle.connection.specs.Answer.{answer_number, answer_values}
 use Rattle.connection.specs.Calls.{written_by, Made}
 use Rattle.connection.specs.Frames.{frames_bytes}
-use Rattle.adb.specs.declared.Values.{Values}
 use Rattle.history.specs.Run.{Call, World, lent, outcome, after}
 use Rattle.state.specs.State.{state_len}
 
 -- lent bytes that last from call to call
 abbrev pub world_of : List ℕ → List ℕ → List ℕ → World
 world_of state rx store = record { state = state; rx = rx; store = store }
-
--- four values in a row
-abbrev pub values_in : Values → List ℕ
-values_in v = v.a ∷ v.b ∷ v.c ∷ v.d ∷ []
 
 -- an answer's six numbers: used, written, then the answer's four values
 abbrev pub numbers_of : ℕ → ℕ → Answer → List ℕ

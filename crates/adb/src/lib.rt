@@ -4,11 +4,11 @@
 
 pub mod shortest;
 
-ghost use Rattle.std.specs.Prelude.{◌≡◌, ◌∷◌, ◌≤◌, length};
+ghost use Rattle.std.specs.Prelude.{◌≡◌, ◌≤◌, length};
 ghost use Rattle.le.specs.Le.{bytes_of, put};
 ghost use Rattle.le.specs.Rows.{flat};
-ghost use Rattle.connection.specs.Answer.{answer_number, answer_values, ack_length, refusal_word};
-ghost use Rattle.adb.specs.Export.{values_in, numbers_of, answer_bytes, said_in, is_short, is_yes};
+ghost use Rattle.connection.specs.Answer.{answer_number, ack_length, refusal_word};
+ghost use Rattle.adb.specs.Export.{numbers_of, answer_bytes, said_in, is_short, is_yes};
 ghost use Rattle.adb.specs.Promise.{AdbMakeFromCnxnDoes};
 ghost use Rattle.adb.specs.Promise.{AdbCloseDoes, AdbDispatchDoes, AdbMakeDoes, AdbOpenDoes, AdbReadDoes, AdbSettleDoes, AdbTakeDoes};
 ghost use Rattle.adb.specs.Promise.{AdbTakeFrontDoes, AdbNumbersDoes, AdbWriteDoes, AdbAcceptDoes, AdbRejectDoes, AdbLetGoDoes};
@@ -29,38 +29,14 @@ use call_take_front::take_front;
 use call_write::write;
 use config::ConnectionConfig;
 use connection::{Answer, Refusal};
-use slot::PendingAck;
 use slot::ids::LocalId;
 use state::STATE_LEN;
 use table::ChannelId;
 
-// An answer's four values.
-#[derive(Clone, Copy)]
-pub struct Values {
-    pub a: u64,
-    pub b: u64,
-    pub c: u64,
-    pub d: u64,
-}
-
-fn one(a: u64) -> Values
-    ensures { result ≡ record { a = a; b = 0; c = 0; d = 0 } }
-{
-    Values {
-        a,
-        b: 0,
-        c: 0,
-        d: 0,
-    }
-}
-
-fn ack_length(ack: PendingAck) -> u64
+fn ack_length(ack: Option<usize>) -> u64
     ensures { result ≡ ack_length ack }
 {
-    match ack {
-        PendingAck::Len(n) => n as u64,
-        PendingAck::Nothing => 0,
-    }
+    ack.unwrap_or(0) as u64
 }
 
 fn refusal_word(refusal: Refusal) -> u64
@@ -68,75 +44,50 @@ fn refusal_word(refusal: Refusal) -> u64
 {
     match refusal {
         Refusal::InvalidCommand(word) => word,
-        Refusal::InvalidMagic => 0,
-        Refusal::PayloadTooLarge => 0,
-        Refusal::InvalidChecksum => 0,
-        Refusal::BadCredit(_) => 0,
-        Refusal::UnexpectedCommand => 0,
-        Refusal::BadConfig => 0,
-        Refusal::StoreShort => 0,
-        Refusal::OutShort => 0,
-        Refusal::ChannelClosed => 0,
-        Refusal::ChannelRxOverflow => 0,
-        Refusal::NoFreeChannels => 0,
-        Refusal::BrokenState => 0,
+        _ => 0,
     }
 }
 
-fn values_of(answer: Answer) -> Values
-    ensures { values_in result ≡ answer_values answer }
+// An answer's six numbers: used, written, then the answer's four values.
+fn numbers_of(reply: Reply) -> [u64; 6]
+    ensures { result ≡ numbers_of reply.used reply.written reply.answer }
 {
-    match answer {
-        Answer::Done => one(0),
-        Answer::Waiting => one(0),
-        Answer::Nothing => one(0),
-        Answer::Opened(ch) => {
-            let local = ch.local;
-            Values {
-                a: ch.slot as u64,
-                b: local.0 as u64,
-                c: 0,
-                d: 0,
-            }
-        }
-        Answer::Settled(ack) => one(ack_length(ack)),
-        Answer::Read(n) => one(n as u64),
-        Answer::Written(n) => one(n as u64),
-        Answer::Front(remote, credit, place, len) => Values {
-            a: remote.0 as u64,
-            b: credit as u64,
-            c: place as u64,
-            d: len as u64,
-        },
-        Answer::Numbers(_, total, buffered, unacked, budget) => Values {
-            a: total as u64,
-            b: buffered as u64,
-            c: unacked as u64,
-            d: budget,
-        },
-        Answer::Refused(refusal) => one(refusal_word(refusal)),
+    let used = reply.used as u64;
+    let written = reply.written as u64;
+    match reply.answer {
+        Answer::Done => [used, written, 0, 0, 0, 0],
+        Answer::Waiting => [used, written, 0, 0, 0, 0],
+        Answer::Nothing => [used, written, 0, 0, 0, 0],
+        Answer::Opened(ch) => [used, written, ch.slot as u64, u64::from(ch.local.0), 0, 0],
+        Answer::Settled(ack) => [used, written, ack_length(ack), 0, 0, 0],
+        Answer::Read(n) => [used, written, n as u64, 0, 0, 0],
+        Answer::Written(n) => [used, written, n as u64, 0, 0, 0],
+        Answer::Front(remote, credit, place, len) => [
+            used,
+            written,
+            u64::from(remote.0),
+            u64::from(credit),
+            place as u64,
+            len as u64,
+        ],
+        Answer::Numbers(_, total, buffered, unacked, budget) => [
+            used,
+            written,
+            total as u64,
+            u64::from(buffered),
+            unacked as u64,
+            budget,
+        ],
+        Answer::Refused(refusal) => [used, written, refusal_word(refusal), 0, 0, 0],
     }
-}
-
-fn put_values(answer: &mut [u8], v: Values)
-    requires { 48 ≤ length answer.old }
-    ensures { answer.new ≡ put answer.old 16 (flat (bytes_of 8) (values_in v)) }
-{
-    le::put_u64(answer, 16, v.a);
-    le::put_u64(answer, 24, v.b);
-    le::put_u64(answer, 32, v.c);
-    le::put_u64(answer, 40, v.d);
 }
 
 // The answer's 48 bytes.
-fn put_answer(answer: &mut [u8], used: usize, written: usize, v: Values)
+fn put_answer(answer: &mut [u8], numbers: &[u64; 6])
     requires { 48 ≤ length answer.old }
-    ensures { (answer.new ≡ put answer.old 0 (flat (bytes_of 8) (used ∷ written ∷ values_in v))) ×
-        (said_in answer.new ≡ used ∷ written ∷ values_in v) }
+    ensures { (answer.new ≡ put answer.old 0 (flat (bytes_of 8) numbers.now)) × (said_in answer.new ≡ numbers.now) }
 {
-    le::put_usize(answer, 0, used);
-    le::put_usize(answer, 8, written);
-    put_values(answer, v);
+    le::put_all(answer, 0, numbers);
 }
 
 // The answer's 48 bytes, and the call's number.
@@ -146,9 +97,8 @@ fn answered(answer: &mut [u8], reply: Reply) -> u32
         (answer.new ≡ put answer.old 0 (answer_bytes reply.used reply.written reply.answer)) ×
         (said_in answer.new ≡ numbers_of reply.used reply.written reply.answer) }
 {
-    let said = reply.answer;
-    put_answer(answer, reply.used, reply.written, values_of(said));
-    said.number()
+    put_answer(answer, &numbers_of(reply));
+    reply.answer.number()
 }
 
 fn is_short(state: usize, answer: usize) -> bool

@@ -1,34 +1,19 @@
 // The call that looks for the shortest stretch. It changes nothing that lasts from call to call.
-ghost use Rattle.std.specs.Prelude.{◌≡◌};
+ghost use Rattle.std.specs.Prelude.{◌≡◌, ◌∷◌};
 ghost use Rattle.call_stretch.specs.Promise.{stretched_values};
-ghost use Rattle.adb.specs.Export.{values_in};
 ghost use Rattle.adb.specs.Stretch.{AdbStretchDoes};
 
-use crate::{Values, is_short, put_answer};
-use call_stretch::{Stretched, stretch};
+use crate::{is_short, put_answer};
+use call_stretch::{Stretched, stretch, stretched_number};
 
-fn stretch_values(found: Stretched) -> Values
-    ensures { values_in result ≡ stretched_values found }
+// What is said of a stretch: nothing is used or written, and two values of the answer.
+fn stretch_numbers(found: Stretched) -> [u64; 6]
+    ensures { result ≡ 0 ∷ 0 ∷ stretched_values found }
 {
     match found {
-        Stretched::Frames(first, count) => Values {
-            a: first as u64,
-            b: count as u64,
-            c: 0,
-            d: 0,
-        },
-        Stretched::Nothing => Values {
-            a: 0,
-            b: 0,
-            c: 0,
-            d: 0,
-        },
-        Stretched::Refused(_) => Values {
-            a: 0,
-            b: 0,
-            c: 0,
-            d: 0,
-        },
+        Ok(Some((first, count))) => [0, 0, first as u64, count as u64, 0, 0],
+        Ok(None) => [0; 6],
+        Err(_) => [0; 6],
     }
 }
 
@@ -51,6 +36,6 @@ pub extern "C" fn adb_stretch(
         return 8;
     }
     let found = stretch(state, rx, opens, received, spare_rx, spare_opens);
-    put_answer(answer, 0, 0, stretch_values(found));
-    found.number()
+    put_answer(answer, &stretch_numbers(found));
+    stretched_number(found)
 }

@@ -1,26 +1,30 @@
 -- What the exported functions of captures leave (docs/ARCHITECTURE.md, "Captures"). Assumes nothing.
-use Rattle.std.specs.Prelude.{ℕ, ◌≡◌, cond, List, [], ◌∷◌, ltb, length}
+use Rattle.std.specs.Prelude.{ℕ, ◌≡◌, cond, List, [], ◌∷◌, ltb, Some, None, Ok, Err, length}
 use Rattle.le.specs.Le.{num_of, bytes_of, part, put}
 use Rattle.le.specs.Rows.{flat, rows}
-use Rattle.pcap.specs.declared.Read.{Read}
-use Rattle.pcap.specs.declared.Read.TheVariants.{Waiting, InvalidLength, Whole}
-use Rattle.pcap.specs.Record.{snap_length, read_record, read_number, Composed, write_record, written_number}
-use Rattle.adb_pcap.specs.declared.Said.{Said}
+use Rattle.pcap.specs.Record.{snap_length, Read, read_record, read_number, Composed, write_record, written_number}
 
 -- what a write promises: the number of what the writer answers, and every byte of out
 pub record WriteDoes (o : Composed) (r : ℕ) (out : List ℕ) : Type 0 where
   pub number_is : r ≡ written_number o.result
   pub out-is : out ≡ o.out
 
+-- what is said of received bytes
+pub record Said : Type 0 where
+  pub used : ℕ
+  pub length : ℕ
+  pub seconds : ℕ
+  pub micros : ℕ
+
 -- what is said where there is no record
 abbrev pub nothing_said : Said
 nothing_said = record { used = 0; length = 0; seconds = 0; micros = 0 }
 
--- what is said of received bytes: of a record the bytes used, its frame's length, its time
+-- of a record the bytes used, its frame's length, its time
 unfoldable pub said_of : Read → Said
-said_of Waiting = nothing_said
-said_of InvalidLength = nothing_said
-said_of (Whole t n used) = record { used = used; length = n; seconds = t.seconds; micros = t.micros }
+said_of (Ok None) = nothing_said
+said_of (Ok (Some r)) = record { used = r.used; length = r.length; seconds = r.time.seconds; micros = r.time.micros }
+said_of (Err e) = nothing_said
 
 -- the answer's four numbers
 abbrev pub numbers_in : Said → List ℕ

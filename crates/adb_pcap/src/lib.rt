@@ -2,30 +2,20 @@
 // ahead of all else, and nothing is touched.
 #![tactic(auto)]
 
-ghost use Rattle.std.specs.Prelude.{◌≡◌, ◌≤◌, length};
-ghost use Rattle.le.specs.Le.{num_of, put};
-ghost use Rattle.le.specs.Rows.{rows};
+ghost use Rattle.std.specs.Prelude.{◌≡◌};
 ghost use Rattle.pcap.specs.Header.{read_header, header_number, write_header};
 ghost use Rattle.pcap.specs.Record.{write_record};
-ghost use Rattle.adb_pcap.specs.Export.{WriteDoes, said_of, numbers_in, said_bytes, reads_in, ReadDoes};
+ghost use Rattle.adb_pcap.specs.Export.{WriteDoes, said_of, numbers_in, reads_in, ReadDoes};
 
-use pcap::{Read, Time};
-
-// What is said of received bytes.
-#[derive(Clone, Copy)]
-pub struct Said {
-    pub used: usize,
-    pub length: usize,
-    pub seconds: u32,
-    pub micros: u32,
-}
+use pcap::{ReadError, Record, Time};
+use refusal::{number_of, read_number_of};
 
 // A file's header, written at the start of out.
 #[unsafe(no_mangle)]
 pub extern "C" fn adb_pcap_write_header(out: &mut [u8]) -> u32
     ensures { WriteDoes (write_header out.old) result out.new }
 {
-    pcap::write_header(out).number()
+    number_of(pcap::write_header(out))
 }
 
 // Whether received bytes begin with a file's header.
@@ -33,7 +23,7 @@ pub extern "C" fn adb_pcap_write_header(out: &mut [u8]) -> u32
 pub extern "C" fn adb_pcap_read_header(received: &[u8]) -> u32
     ensures { result ≡ header_number (read_header received.now) }
 {
-    pcap::read_header(received).number()
+    read_number_of(pcap::read_header(received))
 }
 
 // A record, written at the start of out.
@@ -48,44 +38,23 @@ pub extern "C" fn adb_pcap_write_record(
         (write_record (record { seconds = seconds; micros = micros }) frame.now out.old) result out.new }
 {
     let time = Time { seconds, micros };
-    pcap::write_record(time, frame, out).number()
+    number_of(pcap::write_record(time, frame, out))
 }
 
-fn nothing() -> Said
-    ensures { result ≡ record { used = 0; length = 0; seconds = 0; micros = 0 } }
-{
-    Said {
-        used: 0,
-        length: 0,
-        seconds: 0,
-        micros: 0,
-    }
-}
-
-fn said_of(read: Read) -> Said
-    ensures { result ≡ said_of read }
+// What is said of received bytes: of a record the bytes used, its frame's length, its time; else zeros.
+#[tactic(auto, unfolding(crate::specs::Export::said_of))]
+fn said_of(read: Result<Option<Record>, ReadError>) -> [u64; 4]
+    ensures { result ≡ numbers_in (said_of read) }
 {
     match read {
-        Read::Waiting => nothing(),
-        Read::InvalidLength => nothing(),
-        Read::Whole { time, length, used } => Said {
-            used,
-            length,
-            seconds: time.seconds,
-            micros: time.micros,
-        },
+        Ok(Some(record)) => [
+            record.used as u64,
+            record.length as u64,
+            u64::from(record.time.seconds),
+            u64::from(record.time.micros),
+        ],
+        _ => [0; 4],
     }
-}
-
-// The answer's 32 bytes.
-fn put_said(answer: &mut [u8], said: Said)
-    requires { 32 ≤ length answer.old }
-    ensures { (answer.new ≡ put answer.old 0 (said_bytes said)) × (rows 8 num_of 4 answer.new ≡ numbers_in said) }
-{
-    le::put_usize(answer, 0, said.used);
-    le::put_usize(answer, 8, said.length);
-    le::put_u64(answer, 16, said.seconds as u64);
-    le::put_u64(answer, 24, said.micros as u64);
 }
 
 // The record that received bytes begin with.
@@ -97,6 +66,6 @@ pub extern "C" fn adb_pcap_read_record(received: &[u8], answer: &mut [u8]) -> u3
         return 8;
     }
     let read = pcap::read_record(received, pcap::SNAP_LENGTH);
-    put_said(answer, said_of(read));
-    read.number()
+    le::put_all(answer, 0, &said_of(read));
+    read_number_of(read)
 }

@@ -11,26 +11,25 @@ use borrow.Author.Tests.{le-ltb}
 use Rattle.le.specs.Le.{Bytes}
 use Rattle.stream.specs.Stream.{more, joined, begun, feed_all, Stable, Every, written}
 use Rattle.stream.proofs.Cut.{every, stable-as, same-cut, arrives}
-use Rattle.shell.specs.declared.Read.{Read}
-use Rattle.shell.specs.declared.Read.TheVariants.{Waiting, InvalidKind, EmptyExit, Whole}
-use Rattle.shell.specs.Frame.{read_frame, read_number, used_of}
+use Rattle.std.proofs.Common.{Some, None, Ok, Err}
+use Rattle.shell.specs.declared.ReadError.TheVariants.{InvalidKind, EmptyExit}
+use Rattle.shell.specs.Frame.{Read, read_frame, read_number, used_of}
 use Rattle.shell.specs.Pieces.{Frame, answer_of, receives}
-use Rattle.shell_write.specs.Write.{written_number}
 use Rattle.shell_write.specs.Sent.{bytes_for, Sent}
 use Rattle.shell.proofs.Pieces.{stable}
 use Rattle.shell_write.proofs.RoundTrip.{read-write}
 use Rattle.shell_write.proofs.Arrives.{reads-back}
-use Rattle.adb_shell.specs.Export.{said_of, reads_in, count_of, counted, writes_in}
+use Rattle.adb_shell.specs.Export.{said_of, reads_in, counted, writes_in}
 use Rattle.adb_shell.specs.Seen.{frame_in, seen_in, seen, writes_said, used_written}
 
 -- ---- reading
 
 seen_by : (lent : List ℕ → List ℕ) (s : List ℕ) (r : Read) → 40 ≤ length (lent s) → read_frame s ≡ r → seen lent s ≡ answer_of s r
-unfolding seen seen_in reads_in frame_in said_of read_number answer_of used_of
-seen_by lent s Waiting h e = rw (le-ltb (length (lent s)) 40 h, e)
-seen_by lent s InvalidKind h e = rw (le-ltb (length (lent s)) 40 h, e)
-seen_by lent s EmptyExit h e = rw (le-ltb (length (lent s)) 40 h, e)
-seen_by lent s (Whole kind at n used code) h e = rw (le-ltb (length (lent s)) 40 h, e)
+unfolding seen seen_in reads_in frame_in said_of answer_of used_of
+seen_by lent s (Ok None) h e = rw (le-ltb (length (lent s)) 40 h, e)
+seen_by lent s (Err InvalidKind) h e = rw (le-ltb (length (lent s)) 40 h, e)
+seen_by lent s (Err EmptyExit) h e = rw (le-ltb (length (lent s)) 40 h, e)
+seen_by lent s (Ok (Some f)) h e = rw (le-ltb (length (lent s)) 40 h, e)
 
 module _ (lent : List ℕ → List ℕ) (long : (s : List ℕ) → 40 ≤ length (lent s)) where
   pub seen-is : (s : List ℕ) → seen lent s ≡ receives s
@@ -51,12 +50,12 @@ module _ (lent : List ℕ → List ℕ) (long : (s : List ℕ) → 40 ≤ length
 
 handed : (s out answer : List ℕ) (r : Read) → Bytes s → read_frame s ≡ r → read_number r ≡ 0 → get_or (said_of r) 0 0 ≤ length out → 8 ≤ length answer
     → writes_said (said_of r) s out answer ≡ used_written (said_of r) s out answer
-unfolding read_number said_of writes_in counted written_number count_of
-handed s out answer Waiting h e z room fit = absurd (omega arith)
-handed s out answer InvalidKind h e z room fit = absurd (omega arith)
-handed s out answer EmptyExit h e z room fit = absurd (omega arith)
-handed s out answer (Whole kind at n used code) h e z room fit =
-    rw (le-ltb (length answer) 8 fit, read-write s kind at n used code out h e room)
+unfolding said_of writes_in counted
+handed s out answer (Ok None) h e z room fit = absurd (omega arith)
+handed s out answer (Err InvalidKind) h e z room fit = absurd (omega arith)
+handed s out answer (Err EmptyExit) h e z room fit = absurd (omega arith)
+handed s out answer (Ok (Some f)) h e z room fit =
+    rw (le-ltb (length answer) 8 fit, read-write s f out h e room)
 
 pub handed-back : (s out answer : List ℕ) → Bytes s → read_number (read_frame s) ≡ 0 → get_or (said_of (read_frame s)) 0 0 ≤ length out → 8 ≤ length answer
     → writes_said (said_of (read_frame s)) s out answer ≡ used_written (said_of (read_frame s)) s out answer

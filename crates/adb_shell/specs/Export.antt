@@ -1,13 +1,12 @@
 -- What the exported functions of the shell frames leave (docs/ARCHITECTURE.md, "Shell frames"). Assumes nothing.
-use Rattle.std.specs.Prelude.{ℕ, ◌≡◌, cond, List, [], ◌∷◌, ltb, length}
+use Rattle.std.specs.Prelude.{ℕ, ◌≡◌, cond, List, [], ◌∷◌, ltb, Some, None, Ok, Err, length}
+use Rattle.std.specs.Option.{unwrap_or}
+use Rattle.std.specs.Result.{result_unwrap_or}
 use Rattle.le.specs.Le.{num_of, bytes_of, put}
 use Rattle.le.specs.Rows.{flat, rows}
-use Rattle.shell.specs.declared.Read.{Read}
-use Rattle.shell.specs.declared.Read.TheVariants.{Waiting, InvalidKind, EmptyExit, Whole}
-use Rattle.shell.specs.Frame.{read_frame, read_number}
-use Rattle.shell_write.specs.declared.Written.{Written}
-use Rattle.shell_write.specs.declared.Written.TheVariants.{Bytes, OutShort, InvalidKind as NotWritten, EmptyExit as NoCode}
-use Rattle.shell_write.specs.Write.{Composed, write_frame, written_number}
+use Rattle.shell.specs.Kind.{kind_number}
+use Rattle.shell.specs.Frame.{Read, read_frame, read_number}
+use Rattle.shell_write.specs.Write.{Written, Composed, write_frame, written_number}
 
 -- ---- reading
 
@@ -17,15 +16,9 @@ nothing_said = 0 ∷ 0 ∷ 0 ∷ 0 ∷ 0 ∷ []
 
 -- what is said of received bytes: of a frame the bytes used, its data's place and length, its kind, and an exit's code
 unfoldable pub said_of : Read → List ℕ
-said_of Waiting = nothing_said
-said_of InvalidKind = nothing_said
-said_of EmptyExit = nothing_said
-said_of (Whole kind at n used code) = used ∷ at ∷ n ∷ kind ∷ code ∷ []
-
--- numbers at the start of an answer, 64 bits each, and that its bytes say them (each is below 2^64)
-pub record Told (before said after : List ℕ) : Type 0 where
-  pub bytes-are : after ≡ put before 0 (flat (bytes_of 8) said)
-  pub said-is : rows 8 num_of (length said) after ≡ said
+said_of (Ok None) = nothing_said
+said_of (Ok (Some f)) = f.used ∷ f.at ∷ f.length ∷ kind_number f.kind ∷ unwrap_or f.code 0 ∷ []
+said_of (Err e) = nothing_said
 
 -- a read's number, the answer's bytes after it, and the five numbers that they say
 pub record ReadOutcome : Type 0 where
@@ -52,11 +45,8 @@ pub record ReadDoes (o : ReadOutcome) (r : ℕ) (answer : List ℕ) : Type 0 whe
 -- ---- writing
 
 -- bytes written: those of a frame with its data, none otherwise
-unfoldable pub count_of : Written → ℕ
-count_of (Bytes n) = n
-count_of NotWritten = 0
-count_of NoCode = 0
-count_of OutShort = 0
+abbrev pub count_of : Written → ℕ
+count_of w = result_unwrap_or w 0
 
 -- a write's number, the outgoing bytes and the answer's after it, and the count that these say
 pub record WriteOutcome : Type 0 where

@@ -2,39 +2,27 @@
 // refused by 8 ahead of all else, and nothing is touched.
 #![tactic(auto)]
 
-ghost use Rattle.std.specs.Prelude.{◌≡◌, [], ◌∷◌, ◌≤◌, length};
-ghost use Rattle.adb_shell.specs.Export.{Told, said_of, reads_in, ReadDoes, count_of, writes_in, WriteDoes};
+ghost use Rattle.std.specs.Prelude.{◌≡◌};
+ghost use Rattle.adb_shell.specs.Export.{said_of, reads_in, ReadDoes, writes_in, WriteDoes};
 
-use shell::{Read, read_frame};
-use shell_write::{Written, write_frame};
+use refusal::{number_of, read_number_of};
+use shell::{Frame, ReadError, read_frame};
+use shell_write::write_frame;
 
-// The answer's 40 bytes.
-fn put_said(answer: &mut [u8], used: usize, at: usize, len: usize, kind: u32, code: u32)
-    requires { 40 ≤ length answer.old }
-    ensures { Told answer.old (used ∷ at ∷ len ∷ kind ∷ code ∷ []) answer.new }
-{
-    le::put_usize(answer, 0, used);
-    le::put_usize(answer, 8, at);
-    le::put_usize(answer, 16, len);
-    le::put_u64(answer, 24, kind as u64);
-    le::put_u64(answer, 32, code as u64);
-}
-
-fn put_read(answer: &mut [u8], read: Read)
-    requires { 40 ≤ length answer.old }
-    ensures { Told answer.old (said_of read) answer.new }
+// What is said of received bytes: of a frame the bytes used, its data's place and length, its kind, and an exit's code; else zeros.
+#[tactic(auto, unfolding(crate::specs::Export::said_of))]
+fn said_of(read: Result<Option<Frame>, ReadError>) -> [u64; 5]
+    ensures { result ≡ said_of read }
 {
     match read {
-        Read::Waiting => put_said(answer, 0, 0, 0, 0, 0),
-        Read::InvalidKind => put_said(answer, 0, 0, 0, 0, 0),
-        Read::EmptyExit => put_said(answer, 0, 0, 0, 0, 0),
-        Read::Whole {
-            kind,
-            at,
-            length,
-            used,
-            code,
-        } => put_said(answer, used, at, length, kind, code),
+        Ok(Some(frame)) => [
+            frame.used as u64,
+            frame.at as u64,
+            frame.length as u64,
+            u64::from(u8::from(frame.kind)),
+            u64::from(frame.code.unwrap_or(0)),
+        ],
+        _ => [0; 5],
     }
 }
 
@@ -47,19 +35,8 @@ pub extern "C" fn adb_shell_read(received: &[u8], answer: &mut [u8]) -> u32
         return 8;
     }
     let read = read_frame(received);
-    put_read(answer, read);
-    read.number()
-}
-
-fn count_of(written: Written) -> usize
-    ensures { result ≡ count_of written }
-{
-    match written {
-        Written::Bytes(n) => n,
-        Written::InvalidKind => 0,
-        Written::EmptyExit => 0,
-        Written::OutShort => 0,
-    }
+    le::put_all(answer, 0, &said_of(read));
+    read_number_of(read)
 }
 
 // A frame with its data, written at the start of out.
@@ -77,6 +54,6 @@ pub extern "C" fn adb_shell_write(
         return 8;
     }
     let written = write_frame(kind, payload, out);
-    le::put_usize(answer, 0, count_of(written));
-    written.number()
+    le::put(answer, 0, written.unwrap_or(0));
+    number_of(written)
 }

@@ -8,19 +8,11 @@ use lib.Dec.{eqb, ltb, leb}
 use lib.ListN.{length}
 use Rattle.config.specs.declared.negotiated.RxPolicy.{RxPolicy}
 use Rattle.config.specs.Negotiated.{policy_of}
-use Rattle.incoming.specs.declared.Pushed.{Pushed}
-use Rattle.incoming.specs.declared.Pushed.TheVariants.{Queued, Full}
 use Rattle.incoming.specs.Incoming.{PushOutcome, Pushes, pushed, withdrawal}
 use Rattle.protocol.specs.declared.command.Command.{Command}
 use Rattle.protocol.specs.declared.packet.Packet.{Packet}
 use Rattle.protocol.specs.Packet.{Puts}
-use Rattle.slot.specs.declared.AckDecision.{AckDecision}
-use Rattle.slot.specs.declared.AckDecision.TheVariants.{Now, Hold, Overflow, Early}
 use Rattle.slot.specs.declared.ChannelSlot.{ChannelSlot}
-use Rattle.slot.specs.declared.Failed.{Failed}
-use Rattle.slot.specs.declared.Failed.TheVariants.{No, By}
-use Rattle.slot.specs.declared.Readied.{Readied}
-use Rattle.slot.specs.declared.Readied.TheVariants.{Slot, Bad}
 use Rattle.slot.specs.declared.ChannelFault.{ChannelFault as Fault}
 use Rattle.slot.specs.declared.ids.ChannelIds.{ChannelIds}
 use Rattle.slot.specs.declared.ids.RemoteId.{RemoteId}
@@ -42,6 +34,9 @@ use Rattle.connection.specs.Act.{Acted, tabled, pushed_by, acted_by, table_of, a
 use Rattle.connection.specs.Frames.{Frame, okay_frame, close_frame, frames_bytes, frame_bytes}
 use Rattle.call.specs.Promise.{ActsOn}
 use Rattle.call.proofs.FrameLaws.{okay-short, close-short, puts_none, puts_one, one-frame}
+use Rattle.std.specs.Prelude.{Option, Some, None, Result, Ok, Err}
+use Rattle.credit.specs.declared.CreditFault.{CreditFault}
+use Rattle.slot.specs.declared.ChannelFault.TheVariants.{RxOverflow, UnexpectedCommand}
 
 -- ---- what goes to the queue changes no slot
 
@@ -64,17 +59,16 @@ module _ (p : RxPolicy) (n : ℕ) (ss : List ChannelSlot) where
   unfolding closed_at
   quiet-closed i other = pick Quiet (ltb i n) (λ t e. absurd (true≢false (sym e))) (λ t e. refl)
 
-  quiet-granted : (i : ℕ) (s : ChannelSlot) (remote : RemoteId) (r : Readied) → Quiet (granted i s remote r)
+  quiet-granted : (i : ℕ) (s : ChannelSlot) (remote : RemoteId) (r : Result ChannelSlot CreditFault) → Quiet (granted i s remote r)
   unfolding granted
-  quiet-granted i s remote (Slot t) e = absurd (true≢false (sym e))
-  quiet-granted i s remote (Bad f) e = refl
+  quiet-granted i s remote (Ok t) e = absurd (true≢false (sym e))
+  quiet-granted i s remote (Err f) e = refl
 
-  quiet-wrote : (i : ℕ) (s : ChannelSlot) (remote : RemoteId) (payload rx : List ℕ) (t : ChannelSlot) (a : AckDecision) → Quiet (wrote_by p i s remote payload rx t a).step
+  quiet-wrote : (i : ℕ) (s : ChannelSlot) (remote : RemoteId) (payload rx : List ℕ) (t : ChannelSlot) (a : Result (Option ℕ) Fault) → Quiet (wrote_by p i s remote payload rx t a).step
   unfolding wrote_by
-  quiet-wrote i s remote payload rx t (Now len) e = absurd (true≢false (sym e))
-  quiet-wrote i s remote payload rx t Hold e = absurd (true≢false (sym e))
-  quiet-wrote i s remote payload rx t Overflow e = refl
-  quiet-wrote i s remote payload rx t Early e = refl
+  quiet-wrote i s remote payload rx t (Ok (Some len)) e = absurd (true≢false (sym e))
+  quiet-wrote i s remote payload rx t (Ok None) e = absurd (true≢false (sym e))
+  quiet-wrote i s remote payload rx t (Err why) e = refl
 
   quiet-route : (c : Command) (a b : ℕ) (payload rx : List ℕ) → Quiet (route_of p n ss c a b payload rx).step
   unfolding close_of write_of wrote_at grant_of ready_at
@@ -92,9 +86,9 @@ module _ (p : RxPolicy) (n : ℕ) (ss : List ChannelSlot) where
 
 -- ---- an OPEN that is refused
 
-abbrev is_full : Pushed → Bool
-is_full (Queued more) = false
-is_full Full = true
+abbrev is_full : Option Header → Bool
+is_full (Some more) = false
+is_full None = true
 
 full-leaves : (h : Header) (queue : List QueuedOpen) (remote : RemoteId) (credit : ℕ) (payload store : List ℕ) → is_full (pushed h queue remote credit payload store).result ≡ true
     → ((pushed h queue remote credit payload store).changes ≡ []) × ((pushed h queue remote credit payload store).store ≡ store)
@@ -125,7 +119,7 @@ module _ (h : Header) (b rx store payload out : List ℕ) (at : ℕ) (p : Packet
   acted-is = ap (acted_by h queue payload store d) (sym table-told.steps.result-is)
 
   -- what the table changed, and these frames
-  acts-tabled : (f : Failed) (fs : List Frame) (r : ActedOn) (end : ℕ) (out' : List ℕ) → acted_by h queue payload store d o ≡ tabled f h store d fs
+  acts-tabled : (f : Option Fault) (fs : List Frame) (r : ActedOn) (end : ℕ) (out' : List ℕ) → acted_by h queue payload store d o ≡ tabled f h store d fs
       → r ≡ record { fault = f; header = h; end = end } → Puts out at (frames_bytes h.negotiated fs) end out' → at + length (frames_bytes h.negotiated fs) ≤ length out
       → ActsOn h.negotiated acted at b out r b₁ rx₁ store out'
   acts-tabled f fs r end out' e g q k =
@@ -146,21 +140,21 @@ module _ (h : Header) (b rx store payload out : List ℕ) (at : ℕ) (p : Packet
       })
 
   -- with one frame
-  acts-frame : (frame : Frame) (r : ActedOn) (end : ℕ) (out' : List ℕ) → acted_by h queue payload store d o ≡ tabled No h store d (frame ∷ [])
-      → r ≡ record { fault = No; header = h; end = end } → Puts out at (frame_bytes h.negotiated frame) end out' → at + length (frame_bytes h.negotiated frame) ≤ length out
+  acts-frame : (frame : Frame) (r : ActedOn) (end : ℕ) (out' : List ℕ) → acted_by h queue payload store d o ≡ tabled None h store d (frame ∷ [])
+      → r ≡ record { fault = None; header = h; end = end } → Puts out at (frame_bytes h.negotiated frame) end out' → at + length (frame_bytes h.negotiated frame) ≤ length out
       → ActsOn h.negotiated acted at b out r b₁ rx₁ store out'
   acts-frame frame r end out' e g q k =
-      acts-tabled No (frame ∷ []) r end out' e g (puts_one h.negotiated frame out out' at end q)
+      acts-tabled None (frame ∷ []) r end out' e g (puts_one h.negotiated frame out out' at end q)
       (subst (λ (x : List ℕ). at + length x ≤ length out) (sym (one-frame h.negotiated frame)) k)
 
   -- with none
-  acts-silent : (f : Failed) (r : ActedOn) → acted_by h queue payload store d o ≡ tabled f h store d [] → r ≡ record { fault = f; header = h; end = at } → at ≤ length out
+  acts-silent : (f : Option Fault) (r : ActedOn) → acted_by h queue payload store d o ≡ tabled f h store d [] → r ≡ record { fault = f; header = h; end = at } → at ≤ length out
       → ActsOn h.negotiated acted at b out r b₁ rx₁ store out
   unfolding frames_bytes flat
   acts-silent f r e g k = acts-tabled f [] r at out e g (puts_none h.negotiated out at) (omega arith)
 
   -- a WRTE that is acknowledged at once
-  pub acts-okay : (i : ℕ) (ids : ChannelIds) (len : ℕ) (r : ActedOn) (end : ℕ) (out' : List ℕ) → o ≡ AckWrite i ids len → r ≡ record { fault = No; header = h; end = end }
+  pub acts-okay : (i : ℕ) (ids : ChannelIds) (len : ℕ) (r : ActedOn) (end : ℕ) (out' : List ℕ) → o ≡ AckWrite i ids len → r ≡ record { fault = None; header = h; end = end }
       → Puts out at (frame_bytes h.negotiated (okay_frame ids len)) end out' → at + 28 ≤ length out → ActsOn h.negotiated acted at b out r b₁ rx₁ store out'
   unfolding acted_by
   acts-okay i ids len r end out' e g q k =
@@ -168,7 +162,7 @@ module _ (h : Header) (b rx store payload out : List ℕ) (at : ℕ) (p : Packet
       acts-frame (okay_frame ids len) r end out' (ap (acted_by h queue payload store d) e) g q (omega arith)
 
   -- a stray OKAY
-  pub acts-stray : (ids : ChannelIds) (r : ActedOn) (end : ℕ) (out' : List ℕ) → o ≡ StrayReady ids → r ≡ record { fault = No; header = h; end = end }
+  pub acts-stray : (ids : ChannelIds) (r : ActedOn) (end : ℕ) (out' : List ℕ) → o ≡ StrayReady ids → r ≡ record { fault = None; header = h; end = end }
       → Puts out at (frame_bytes h.negotiated (close_frame ids)) end out' → at + 28 ≤ length out → ActsOn h.negotiated acted at b out r b₁ rx₁ store out'
   unfolding acted_by
   acts-stray ids r end out' e g q k =
@@ -176,15 +170,15 @@ module _ (h : Header) (b rx store payload out : List ℕ) (at : ℕ) (p : Packet
       acts-frame (close_frame ids) r end out' (ap (acted_by h queue payload store d) e) g q (omega arith)
 
   -- a fault
-  pub acts-fault : (i : ℕ) (ids : ChannelIds) (opening : Bool) (f : Fault) (r : ActedOn) → o ≡ ChannelFault i ids opening f → r ≡ record { fault = By f; header = h; end = at }
+  pub acts-fault : (i : ℕ) (ids : ChannelIds) (opening : Bool) (f : Fault) (r : ActedOn) → o ≡ ChannelFault i ids opening f → r ≡ record { fault = Some f; header = h; end = at }
       → at + 28 ≤ length out → ActsOn h.negotiated acted at b out r b₁ rx₁ store out
   unfolding acted_by
-  acts-fault i ids opening f r e g k = acts-silent (By f) r (ap (acted_by h queue payload store d) e) g (omega arith)
+  acts-fault i ids opening f r e g k = acts-silent (Some f) r (ap (acted_by h queue payload store d) e) g (omega arith)
 
   -- what the table did is all
-  pub acts-none : (x : DispatchOutcome) (r : ActedOn) → o ≡ x → acted_by h queue payload store d x ≡ tabled No h store d [] → r ≡ record { fault = No; header = h; end = at }
+  pub acts-none : (x : DispatchOutcome) (r : ActedOn) → o ≡ x → acted_by h queue payload store d x ≡ tabled None h store d [] → r ≡ record { fault = None; header = h; end = at }
       → at + 28 ≤ length out → ActsOn h.negotiated acted at b out r b₁ rx₁ store out
-  acts-none x r e z g k = acts-silent No r (ap (acted_by h queue payload store d) e ∙ z) g (omega arith)
+  acts-none x r e z g k = acts-silent None r (ap (acted_by h queue payload store d) e ∙ z) g (omega arith)
 
   no_slot : queues o ≡ true → b₁ ≡ b
   unfolding table_of dispatch_of
@@ -199,15 +193,15 @@ module _ (h : Header) (b rx store payload out : List ℕ) (at : ℕ) (p : Packet
       (ap queues (sym table-told.steps.result-is) ∙ q)
 
   -- an OPEN is queued
-  pub acts-queued : (remote : RemoteId) (credit : ℕ) (res : Pushed) (more : Header) (r : ActedOn) (b₂ store₂ : List ℕ) → o ≡ IncomingOpen remote credit → res ≡ Queued more
-      → Pushes (pushed h (state_of b₁).queue remote credit payload store) b₁ res b₂ store₂ → r ≡ record { fault = No; header = more; end = at } → at + 28 ≤ length out
+  pub acts-queued : (remote : RemoteId) (credit : ℕ) (res : Option Header) (more : Header) (r : ActedOn) (b₂ store₂ : List ℕ) → o ≡ IncomingOpen remote credit → res ≡ Some more
+      → Pushes (pushed h (state_of b₁).queue remote credit payload store) b₁ res b₂ store₂ → r ≡ record { fault = None; header = more; end = at } → at + 28 ≤ length out
       → ActsOn h.negotiated acted at b out r b₂ rx₁ store₂ out
   unfolding acted_by pushed_by frames_bytes flat
   acts-queued remote credit res more r b₂ store₂ e f q g k =
       let z = no_slot (ap queues e) in
-      let w : Pushes (pushed h queue remote credit payload store) b (Queued more) b₂ store₂ =
-      subst (λ (x : List ℕ). Pushes (pushed h (state_of x).queue remote credit payload store) x (Queued more) b₂ store₂) z
-      (subst (λ (x : Pushed). Pushes (pushed h (state_of b₁).queue remote credit payload store) b₁ x b₂ store₂) f q) in
+      let w : Pushes (pushed h queue remote credit payload store) b (Some more) b₂ store₂ =
+      subst (λ (x : List ℕ). Pushes (pushed h (state_of x).queue remote credit payload store) x (Some more) b₂ store₂) z
+      (subst (λ (x : Option Header). Pushes (pushed h (state_of b₁).queue remote credit payload store) b₁ x b₂ store₂) f q) in
       let c = none-changed (ap queues e) in
       let push = pushed h queue remote credit payload store in
       let x = table-told.rx-is in
@@ -226,14 +220,14 @@ module _ (h : Header) (b rx store payload out : List ℕ) (at : ℕ) (p : Packet
       })
 
   -- an OPEN is refused by a CLSE
-  pub acts-full : (remote : RemoteId) (credit : ℕ) (res : Pushed) (r : ActedOn) (b₂ store₂ : List ℕ) (end : ℕ) (out' : List ℕ) → o ≡ IncomingOpen remote credit → res ≡ Full
-      → Pushes (pushed h (state_of b₁).queue remote credit payload store) b₁ res b₂ store₂ → r ≡ record { fault = No; header = h; end = end }
+  pub acts-full : (remote : RemoteId) (credit : ℕ) (res : Option Header) (r : ActedOn) (b₂ store₂ : List ℕ) (end : ℕ) (out' : List ℕ) → o ≡ IncomingOpen remote credit → res ≡ None
+      → Pushes (pushed h (state_of b₁).queue remote credit payload store) b₁ res b₂ store₂ → r ≡ record { fault = None; header = h; end = end }
       → Puts out at (frame_bytes h.negotiated (close_frame (record { local = record { 0 = 0 }; remote = remote }))) end out' → at + 28 ≤ length out
       → ActsOn h.negotiated acted at b out r b₂ rx₁ store₂ out'
   unfolding acted_by pushed_by
   acts-full remote credit res r b₂ store₂ end out' e f q₀ g p k =
-      let q : Pushes (pushed h (state_of b₁).queue remote credit payload store) b₁ Full b₂ store₂ =
-      subst (λ (x : Pushed). Pushes (pushed h (state_of b₁).queue remote credit payload store) b₁ x b₂ store₂) f q₀ in
+      let q : Pushes (pushed h (state_of b₁).queue remote credit payload store) b₁ None b₂ store₂ =
+      subst (λ (x : Option Header). Pushes (pushed h (state_of b₁).queue remote credit payload store) b₁ x b₂ store₂) f q₀ in
       let push = pushed h (state_of b₁).queue remote credit payload store in
       let none = full-leaves h (state_of b₁).queue remote credit payload store (ap is_full (sym q.result-is)) in
       let same-state : b₂ ≡ b₁ = q.state-is ∙ ap (put_all b₁) none.0 in
@@ -249,7 +243,7 @@ module _ (h : Header) (b rx store payload out : List ℕ) (at : ℕ) (p : Packet
 
   -- those of a remote number are withdrawn
   pub acts-withdrawn : (remote : RemoteId) (r : ActedOn) (m : Header) (b₂ : List ℕ) → o ≡ CancelQueuedOpen remote
-      → Steps (withdrawal h (state_of b₁).queue remote) b₁ m b₂ → r ≡ record { fault = No; header = m; end = at } → at + 28 ≤ length out
+      → Steps (withdrawal h (state_of b₁).queue remote) b₁ m b₂ → r ≡ record { fault = None; header = m; end = at } → at + 28 ≤ length out
       → ActsOn h.negotiated acted at b out r b₂ rx₁ store out
   unfolding acted_by frames_bytes flat
   acts-withdrawn remote r m b₂ e q g k =

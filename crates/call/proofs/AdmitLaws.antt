@@ -19,11 +19,11 @@ use Rattle.state_whole.specs.Whole.{whole, is_whole, HeaderOk}
 use Rattle.state.proofs.StateLaws.{state-tests, state-fits, header-in, slot-in}
 use Rattle.state_whole.proofs.ValidLaws.{header_ok}
 use Rattle.state_whole.proofs.WholeLaws.{Whole, whole-facts}
-use Rattle.call.specs.declared.admit.Admitted.TheVariants.{Yes, No}
 use Rattle.connection.specs.declared.Refusal.TheVariants.{StoreShort, OutShort, BrokenState}
 use Rattle.connection.specs.Calls.{dropped}
 use Rattle.call.specs.Promise.{agreed_in, admitted, Admits, ActRoom}
 use Rattle.connection.proofs.WholeWork.{drop-whole, Long, long}
+use Rattle.std.specs.Prelude.{Option, Some, None, Result, Ok, Err}
 
 -- ---- a whole state's bytes
 
@@ -42,7 +42,7 @@ module _ (b : List ℕ) (e : is_whole b ≡ true) where
 -- ---- the refusals ahead of every step
 
 module _ (b : List ℕ) (rx store out : ℕ) where
-  pub admits-not : is_whole b ≡ false → No BrokenState ≡ admitted b rx store out
+  pub admits-not : is_whole b ≡ false → (Err BrokenState) ≡ admitted b rx store out
   unfolding admitted
   admits-not e = sym (cond-false (is_whole b) _ _ e)
 
@@ -50,19 +50,19 @@ module _ (b : List ℕ) (rx store out : ℕ) where
     config-is : (t : Bool) → stores_fit h.negotiated.config rx store ≡ t → stores_fit (agreed_in b).config rx store ≡ t
     config-is t f = ap (λ (x : Header). stores_fit x.negotiated.config rx store) (header-in b ∙ sym i) ∙ f
 
-    pub admits-short : stores_fit h.negotiated.config rx store ≡ false → No StoreShort ≡ admitted b rx store out
+    pub admits-short : stores_fit h.negotiated.config rx store ≡ false → (Err StoreShort) ≡ admitted b rx store out
     unfolding admitted
     admits-short f = sym (cond-true (is_whole b) _ _ e ∙ cond-false (stores_fit (agreed_in b).config rx store) _ _ (config-is false f))
 
-    pub admits-out : stores_fit h.negotiated.config rx store ≡ true → out < 56 → No OutShort ≡ admitted b rx store out
+    pub admits-out : stores_fit h.negotiated.config rx store ≡ true → out < 56 → (Err OutShort) ≡ admitted b rx store out
     unfolding admitted
     admits-out f o =
         sym (cond-true (is_whole b) _ _ e ∙ cond-true (stores_fit (agreed_in b).config rx store) _ _ (config-is true f) ∙ cond-true (ltb out 56) _ _ (lt-ltb out 56 o))
 
-    pub admits-yes : stores_fit h.negotiated.config rx store ≡ true → 56 ≤ out → Yes h ≡ admitted b rx store out
+    pub admits-yes : stores_fit h.negotiated.config rx store ≡ true → 56 ≤ out → (Ok h) ≡ admitted b rx store out
     unfolding admitted
     admits-yes f o =
-        ap Yes (i ∙ sym (header-in b))
+        ap Ok (i ∙ sym (header-in b))
         ∙ sym (cond-true (is_whole b) _ _ e ∙ cond-true (stores_fit (agreed_in b).config rx store) _ _ (config-is true f) ∙ cond-false (ltb out 56) _ _ (le-ltb out 56 o))
 
 -- ---- what an admitted call may ask

@@ -15,8 +15,6 @@ use Rattle.state.specs.State.{state_of, put_header}
 use Rattle.table.specs.Table.{allocated}
 use Rattle.connection.specs.declared.Answer.{Answer}
 use Rattle.connection.specs.declared.Answer.TheVariants.{Done}
-use Rattle.connection.specs.declared.Received.{Received}
-use Rattle.connection.specs.declared.Received.TheVariants.{Packet as PacketIs, Stop}
 use Rattle.call.specs.declared.Reply.{Reply}
 use Rattle.call.specs.declared.act.ActedOn.{ActedOn}
 use Rattle.connection.specs.Act.{act_on}
@@ -27,9 +25,10 @@ use Rattle.connection.proofs.Decoding.{PacketRoom}
 use Rattle.call.proofs.LeaveLaws.{did-begun, did-acted, did-stops, stops-leaves}
 use Rattle.connection.proofs.WholeWork.{Long}
 use Rattle.state_whole.proofs.WholeLaws.{Whole}
+use Rattle.std.specs.Prelude.{Option, Some, None, Result, Ok, Err}
 
 -- the packet that a call looks at
-pub received_is : (state rx store : List ℕ) (h : Header) → h.negotiated ≡ agreed_in state → (received : List ℕ) (r : Received)
+pub received_is : (state rx store : List ℕ) (h : Header) → h.negotiated ≡ agreed_in state → (received : List ℕ) (r : Result Packet (Answer × ℕ))
     → r ≡ received_by (decode_of received h.negotiated.config.max_payload) → r ≡ received_of (lent_of state rx store) received
 unfolding received_of
 received_is state rx store h i received r e = e ∙ ap (λ (x : Negotiated). received_by (decode_of received x.config.max_payload)) i
@@ -63,17 +62,17 @@ module _ (state rx store out : List ℕ) (h : Header) (i : h ≡ dropped (state_
 
   -- ---- dispatch
 
-  module _ (received : List ℕ) (found : Received) (e : found ≡ received_by (decode_of received h.negotiated.config.max_payload)) where
+  module _ (received : List ℕ) (found : Result Packet (Answer × ℕ)) (e : found ≡ received_by (decode_of received h.negotiated.config.max_payload)) where
     packet-is : found ≡ received_of lent received
     packet-is = received_is state rx store h (ap (λ (x : Header). x.negotiated) i) received found e
 
-    pub dispatch-stops : (a : Answer) (used : ℕ) (r : Reply) (state' : List ℕ) → found ≡ Stop a used → state' ≡ put_header state h → r ≡ record { answer = a; used = used; written = 0 }
+    pub dispatch-stops : (a : Answer) (used : ℕ) (r : Reply) (state' : List ℕ) → found ≡ Err (a, used) → state' ≡ put_header state h → r ≡ record { answer = a; used = used; written = 0 }
         → Leaves (agreed_in state) (dispatch_step lent received) 0 state out [] r state' rx store out []
     unfolding dispatch_step dispatch_by
     dispatch-stops a used r state' f s q =
         stops-leaves state rx store h i out [] _ a used r state' (ap (dispatch_by lent (dropped (state_of state).header) received) (sym packet-is ∙ f)) s q
 
-    pub dispatch-acts : (p : Packet) (payload : List ℕ) (acted : ActedOn) (a : Answer) (r : Reply) (state₁ rx₁ store₁ out₁ state₂ : List ℕ) → found ≡ PacketIs p → payload ≡ body_of received p
+    pub dispatch-acts : (p : Packet) (payload : List ℕ) (acted : ActedOn) (a : Answer) (r : Reply) (state₁ rx₁ store₁ out₁ state₂ : List ℕ) → found ≡ Ok p → payload ≡ body_of received p
         → ActsOn h.negotiated (act_on h (state_of state).slots (state_of state).queue rx store p payload) 0 state out acted state₁ rx₁ store₁ out₁
         → a ≡ unless_fault acted.fault Done → state₂ ≡ put_header state₁ acted.header → r ≡ record { answer = a; used = frame_len p; written = acted.end }
         → Leaves (agreed_in state) (dispatch_step lent received) 0 state out [] r state₂ rx₁ store₁ out₁ []
@@ -87,6 +86,6 @@ module _ (state rx store out : List ℕ) (h : Header) (i : h ≡ dropped (state_
         (subst (λ (x : Header). ActsOn x.negotiated (act_on x (state_of state).slots (state_of state).queue rx store p payload) 0 state out acted state₁ rx₁ store₁ out₁) i g) in
         let w = did-begun n 0 state out hd lent (omega arith) in
         let w₁ = did-acted n 0 state out _ _ _ _ _ _ w act acted state₁ rx₁ store₁ out₁ g₁ in
-        subst (λ (x : Received). Leaves n (dispatch_by lent hd received x) 0 state out [] r state₂ rx₁ store₁ out₁ []) (sym f ∙ packet-is)
+        subst (λ (x : Result Packet (Answer × ℕ)). Leaves n (dispatch_by lent hd received x) 0 state out [] r state₂ rx₁ store₁ out₁ []) (sym f ∙ packet-is)
         (did-stops n 0 state out _ _ _ _ _ _ w₁ [] state₂ acted.header _ (frame_len p) r g₁.header_is s
         (q ∙ ap (λ (x : Answer). record { answer = x; used = frame_len p; written = acted.end }) (u ∙ ap (λ x. unless_fault x Done) g₁.fault-is)))

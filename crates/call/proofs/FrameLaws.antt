@@ -13,8 +13,6 @@ use Rattle.protocol.specs.Packet.{Puts}
 use Rattle.checksum.specs.Checksum.{policy_for}
 use Rattle.slot.specs.declared.ids.ChannelIds.{ChannelIds}
 use Rattle.slot.specs.declared.ChannelSlot.{ChannelSlot}
-use Rattle.slot.specs.declared.PendingAck.{PendingAck}
-use Rattle.slot.specs.declared.PendingAck.TheVariants.{Len, Nothing as NoAck}
 use Rattle.slot.specs.Slot.{is_ack}
 use Rattle.slot.proofs.Kept.{pick}
 use Rattle.le.specs.Rows.{flat}
@@ -22,6 +20,7 @@ use Rattle.wire.specs.Wire.{okay_bytes, credit_bytes}
 use Rattle.wire.proofs.Laws.{okay-length, close-length}
 use Rattle.connection.specs.Calls.{ack_frames, ids_in}
 use Rattle.connection.specs.Frames.{Frame, okay_frame, close_frame, frame_bytes, frames_bytes}
+use Rattle.std.specs.Prelude.{Option, Some, None, Result, Ok, Err}
 
 -- ---- bytes
 
@@ -86,29 +85,29 @@ frames-append n (f ∷ fs) gs = ap (λ (x : List ℕ). frame_bytes n f ++ x) (fr
 
 -- ---- acknowledgements
 
-pub ack-none : (n : Negotiated) (s : ChannelSlot) (d : List ℕ) (at : ℕ) (a : PendingAck) → a ≡ NoAck → Puts d at (frames_bytes n (ack_frames s a)) at d
+pub ack-none : (n : Negotiated) (s : ChannelSlot) (d : List ℕ) (at : ℕ) (a : Option ℕ) → a ≡ None → Puts d at (frames_bytes n (ack_frames s a)) at d
 unfolding ack_frames
-ack-none n s d at a e = subst (λ (x : PendingAck). Puts d at (frames_bytes n (ack_frames s x)) at d) (sym e) (puts_none n d at)
+ack-none n s d at a e = subst (λ (x : Option ℕ). Puts d at (frames_bytes n (ack_frames s x)) at d) (sym e) (puts_none n d at)
 
-pub ack-some : (n : Negotiated) (s : ChannelSlot) (d out : List ℕ) (at r : ℕ) (a : PendingAck) (len : ℕ) (ids : ChannelIds) → a ≡ Len len → ids ≡ ids_in s
+pub ack-some : (n : Negotiated) (s : ChannelSlot) (d out : List ℕ) (at r : ℕ) (a : Option ℕ) (len : ℕ) (ids : ChannelIds) → a ≡ Some len → ids ≡ ids_in s
     → Puts d at (frame_bytes n (okay_frame ids len)) r out → Puts d at (frames_bytes n (ack_frames s a)) r out
 unfolding ack_frames
 ack-some n s d out at r a len ids e f p =
-    subst (λ (x : PendingAck). Puts d at (frames_bytes n (ack_frames s x)) r out) (sym e)
+    subst (λ (x : Option ℕ). Puts d at (frames_bytes n (ack_frames s x)) r out) (sym e)
     (puts_one n (okay_frame (ids_in s) len) d out at r (subst (λ (x : ChannelIds). Puts d at (frame_bytes n (okay_frame x len)) r out) f p))
 
 -- room for the OKAY that is due
-pub ack-room : (n : Negotiated) (s : ChannelSlot) (a : PendingAck) (at out : ℕ) → at ≤ out → (is_ack a ≡ true → at + 28 ≤ out) → at + length (frames_bytes n (ack_frames s a)) ≤ out
+pub ack-room : (n : Negotiated) (s : ChannelSlot) (a : Option ℕ) (at out : ℕ) → at ≤ out → (is_ack a ≡ true → at + 28 ≤ out) → at + length (frames_bytes n (ack_frames s a)) ≤ out
 unfolding ack_frames is_ack frames_bytes flat
-ack-room n s NoAck at out h f = omega arith
-ack-room n s (Len k) at out h f =
+ack-room n s None at out h f = omega arith
+ack-room n s (Some k) at out h f =
     let g = f refl in
     let l = okay-short n (ids_in s) k in
     let e = length-append (frame_bytes n (okay_frame (ids_in s) k)) [] in
     omega arith
 
 -- an acknowledgement is of at most 28 bytes
-pub ack-short : (n : Negotiated) (s : ChannelSlot) (a : PendingAck) → length (frames_bytes n (ack_frames s a)) ≤ 28
+pub ack-short : (n : Negotiated) (s : ChannelSlot) (a : Option ℕ) → length (frames_bytes n (ack_frames s a)) ≤ 28
 unfolding ack_frames frames_bytes flat
-ack-short n s (Len k) = subst (λ (x : List ℕ). length x ≤ 28) (sym (one-frame n (okay_frame (ids_in s) k))) (okay-short n (ids_in s) k)
-ack-short n s NoAck = omega arith
+ack-short n s (Some k) = subst (λ (x : List ℕ). length x ≤ 28) (sym (one-frame n (okay_frame (ids_in s) k))) (okay-short n (ids_in s) k)
+ack-short n s None = omega arith

@@ -30,14 +30,13 @@ use Rattle.connection.specs.declared.Refusal.{Refusal}
 use Rattle.connection.specs.declared.Refusal.TheVariants.{StoreShort, OutShort, BrokenState}
 use Rattle.call.specs.declared.Reply.{Reply}
 use Rattle.call.specs.declared.act.ActedOn.{ActedOn}
-use Rattle.call.specs.declared.admit.Admitted.{Admitted}
-use Rattle.call.specs.declared.admit.Admitted.TheVariants.{Yes, No}
 use Rattle.connection.specs.Act.{Acted}
 use Rattle.connection.specs.Calls.{dropped, Lent, Outcome, written_by, looked, untouched, Work, begun, then, then_acted, ends, checked, checked_out}
 use Rattle.connection.specs.Frames.{Frame, frames_bytes}
 use Rattle.call.specs.Promise.{Begins, lent_of, agreed_in, Leaves, admitted, Admits, ActsOn}
 use Rattle.call.proofs.AdmitLaws.{whole_long}
 use Rattle.call.proofs.FrameLaws.{puts_none, frames-append}
+use Rattle.std.specs.Prelude.{Option, Some, None, Result, Ok, Err}
 
 -- changes after others
 pub put-append : (b : List ℕ) (xs ys : List Change) → put_all b (xs ++ ys) ≡ put_all (put_all b xs) ys
@@ -217,17 +216,17 @@ pub untouched-leaves : (n : Negotiated) (l : Lent) (x : Refusal) (state out buf 
     → Leaves n (untouched l x) 0 state out buf r state l.rx l.store out buf
 untouched-leaves n l x state out buf r e = looked-leaves n l (Refused x) state out buf r e
 
-abbrev is_yes : Admitted → Bool
-is_yes (Yes h) = true
-is_yes (No r) = false
+abbrev is_yes : Result Header Refusal → Bool
+is_yes (Ok h) = true
+is_yes (Err r) = false
 
-abbrev refusal_in : Admitted → Refusal
-refusal_in (Yes h) = BrokenState
-refusal_in (No r) = r
+abbrev refusal_in : Result Header Refusal → Refusal
+refusal_in (Ok h) = BrokenState
+refusal_in (Err r) = r
 
-abbrev header_in : Header → Admitted → Header
-header_in d (Yes h) = h
-header_in d (No r) = d
+abbrev header_in : Header → Result Header Refusal → Header
+header_in d (Ok h) = h
+header_in d (Err r) = d
 
 module _ (state rx store : List ℕ) (out : ℕ) where
   abbrev lent : Lent
@@ -237,26 +236,26 @@ module _ (state rx store : List ℕ) (out : ℕ) where
   fit = stores_fit (agreed_in state).config (length rx) (length store)
 
   -- why a call is admitted, or not
-  data Tells : Admitted → Type 0 where
-    broken : is_whole state ≡ false → Tells (No BrokenState)
-    short : is_whole state ≡ true → fit ≡ false → Tells (No StoreShort)
-    narrow : is_whole state ≡ true → fit ≡ true → ltb out 56 ≡ true → Tells (No OutShort)
-    goes : is_whole state ≡ true → fit ≡ true → ltb out 56 ≡ false → Tells (Yes (state_of state).header)
+  data Tells : Result Header Refusal → Type 0 where
+    broken : is_whole state ≡ false → Tells (Err BrokenState)
+    short : is_whole state ≡ true → fit ≡ false → Tells (Err StoreShort)
+    narrow : is_whole state ≡ true → fit ≡ true → ltb out 56 ≡ true → Tells (Err OutShort)
+    goes : is_whole state ≡ true → fit ≡ true → ltb out 56 ≡ false → Tells (Ok (state_of state).header)
 
   tells : Tells (admitted state (length rx) (length store) out)
   unfolding admitted
   tells = pick Tells (is_whole state) (λ w. pick Tells fit (λ f. pick Tells (ltb out 56) (λ o. narrow w f o) (λ o. goes w f o)) (λ f. short w f)) (λ w. broken w)
 
-  refused-by : (a : Admitted) (r : Refusal) (o : Outcome) → Tells a → a ≡ No r → checked_out (is_whole state) lent out o ≡ untouched lent r
+  refused-by : (a : Result Header Refusal) (r : Refusal) (o : Outcome) → Tells a → a ≡ Err r → checked_out (is_whole state) lent out o ≡ untouched lent r
   unfolding checked_out checked
-  refused-by a r o (broken w) e = cond-false (is_whole state) _ _ w ∙ ap (λ (x : Admitted). untouched lent (refusal_in x)) e
-  refused-by a r o (short w f) e = cond-true (is_whole state) _ _ w ∙ cond-false fit _ _ f ∙ ap (λ (x : Admitted). untouched lent (refusal_in x)) e
+  refused-by a r o (broken w) e = cond-false (is_whole state) _ _ w ∙ ap (λ (x : Result Header Refusal). untouched lent (refusal_in x)) e
+  refused-by a r o (short w f) e = cond-true (is_whole state) _ _ w ∙ cond-false fit _ _ f ∙ ap (λ (x : Result Header Refusal). untouched lent (refusal_in x)) e
   refused-by a r o (narrow w f n) e =
-      cond-true (is_whole state) _ _ w ∙ cond-true fit _ _ f ∙ cond-true (ltb out 56) _ _ n ∙ ap (λ (x : Admitted). untouched lent (refusal_in x)) e
+      cond-true (is_whole state) _ _ w ∙ cond-true fit _ _ f ∙ cond-true (ltb out 56) _ _ n ∙ ap (λ (x : Result Header Refusal). untouched lent (refusal_in x)) e
   refused-by a r o (goes w f n) e = absurd (true≢false (ap is_yes e))
 
   -- refused: nothing changes
-  pub refused-leaves : (n : Negotiated) (x : Refusal) (o : Outcome) (outs buf : List ℕ) (a : Admitted) (r : Reply) → a ≡ admitted state (length rx) (length store) out → a ≡ No x
+  pub refused-leaves : (n : Negotiated) (x : Refusal) (o : Outcome) (outs buf : List ℕ) (a : Result Header Refusal) (r : Reply) → a ≡ admitted state (length rx) (length store) out → a ≡ Err x
       → r ≡ record { answer = Refused x; used = 0; written = 0 } → Leaves n (checked_out (is_whole state) lent out o) 0 state outs buf r state rx store outs buf
   refused-leaves n x o outs buf a r e f g =
       subst (λ (y : Outcome). Leaves n y 0 state outs buf r state rx store outs buf) (sym (refused-by _ x o tells (sym e ∙ f))) (untouched-leaves n lent x state outs buf r g)
@@ -269,7 +268,7 @@ module _ (state rx store : List ℕ) (out : ℕ) where
     pub room : 56 ≤ out
     pub checked-is : (o : Outcome) → checked_out (is_whole state) lent out o ≡ o
 
-  goes_by : (a : Admitted) (h : Header) → Tells a → a ≡ Yes h → Goes h
+  goes_by : (a : Result Header Refusal) (h : Header) → Tells a → a ≡ Ok h → Goes h
   unfolding checked_out checked
   goes_by a h (broken w) e = absurd (true≢false (sym (ap is_yes e)))
   goes_by a h (short w f) e = absurd (true≢false (sym (ap is_yes e)))
@@ -283,7 +282,7 @@ module _ (state rx store : List ℕ) (out : ℕ) where
         checked-is = λ o. cond-true (is_whole state) _ _ w ∙ cond-true fit _ _ f ∙ cond-false (ltb out 56) _ _ n;
       }
 
-  pub admitted-goes : (h : Header) (a : Admitted) → a ≡ admitted state (length rx) (length store) out → a ≡ Yes h → Goes h
+  pub admitted-goes : (h : Header) (a : Result Header Refusal) → a ≡ admitted state (length rx) (length store) out → a ≡ Ok h → Goes h
   admitted-goes h a e f = goes_by _ h tells (sym e ∙ f)
 
   -- and what a step is then asked
@@ -291,7 +290,7 @@ module _ (state rx store : List ℕ) (out : ℕ) where
   goes-admits h g y = record { state-fits = whole_long state g.is-whole; bytes = y; is-whole = g.is-whole; stores = g.stores; room = g.room }
 
   -- with what is pending dropped
-  pub begins-is : (h k : Header) (a : Admitted) → a ≡ admitted state (length rx) (length store) out → a ≡ Yes h → Bytes state → k ≡ dropped h → Begins state rx store out k
+  pub begins-is : (h k : Header) (a : Result Header Refusal) → a ≡ admitted state (length rx) (length store) out → a ≡ Ok h → Bytes state → k ≡ dropped h → Begins state rx store out k
   begins-is h k a e f y i = let g = admitted-goes h a e f in (goes-admits h g y, i ∙ ap dropped g.header)
 
   -- the step's promise is the call's

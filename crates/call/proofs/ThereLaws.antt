@@ -21,12 +21,11 @@ use Rattle.state_whole.proofs.WholeLaws.{Live}
 use Rattle.table.specs.declared.ChannelId.{ChannelId}
 use Rattle.table.specs.declared.Want.TheVariants.{Local}
 use Rattle.table.specs.Table.{there_in, wanted_by, slot_in}
-use Rattle.call.specs.declared.admit.Found.{Found}
-use Rattle.call.specs.declared.admit.Found.TheVariants.{Slot, Nothing}
 use Rattle.connection.specs.Calls.{Lent, dropped, is_there, slot_for}
 use Rattle.call.specs.Promise.{lent_of, agreed_in, found_in, Admits}
 use Rattle.call.proofs.AdmitLaws.{admits-facts}
 use Rattle.connection.proofs.WholeWork.{there-live}
+use Rattle.std.specs.Prelude.{Option, Some, None, Result, Ok, Err}
 
 -- a place that is there is one of n
 pub there-below : (n : ℕ) (ss : List ChannelSlot) (ch : ChannelId) → there_in n ss ch ≡ true → ch.slot < n
@@ -34,17 +33,17 @@ there-below n ss ch e = ltb-true ch.slot n (and-true (ltb ch.slot n) _ e).0
 
 -- ---- what was found
 
-abbrev is_found : Found → Bool
-is_found (Slot s) = true
-is_found Nothing = false
+abbrev is_found : Option ChannelSlot → Bool
+is_found (Some s) = true
+is_found None = false
 
-abbrev slot_of : Found → ChannelSlot
-slot_of (Slot s) = s
-slot_of Nothing = empty_slot
+abbrev slot_of : Option ChannelSlot → ChannelSlot
+slot_of (Some s) = s
+slot_of None = empty_slot
 
 there-found : (n : ℕ) (ss : List ChannelSlot) (ch : ChannelId) → is_found (found_in n ss ch) ≡ there_in n ss ch
 unfolding found_in
-there-found n ss ch = pick (λ (x : Found). is_found x ≡ there_in n ss ch) (there_in n ss ch) (λ t. sym t) (λ t. sym t)
+there-found n ss ch = pick (λ (x : Option ChannelSlot). is_found x ≡ there_in n ss ch) (there_in n ss ch) (λ t. sym t) (λ t. sym t)
 
 -- what `get` answers, from the slot at the place
 module _ (b : List ℕ) (n : ℕ) (ch : ChannelId) (few : n ≤ 64) where
@@ -56,15 +55,15 @@ module _ (b : List ℕ) (n : ℕ) (ch : ChannelId) (few : n ≤ 64) where
     tested : there_in n (state_of b).slots ch ≡ t
     tested = sym (and-goes (ltb ch.slot n) _ t (lt-ltb ch.slot n k) (f ∙ ap (wanted_by (Local ch.local)) slot-here))
 
-    pub get-slot : t ≡ true → Slot s ≡ found_in n (state_of b).slots ch
+    pub get-slot : t ≡ true → (Some s) ≡ found_in n (state_of b).slots ch
     unfolding found_in
-    get-slot g = ap (λ (x : ChannelSlot). Slot x) slot-here ∙ sym (cond-true _ _ _ (tested ∙ g))
+    get-slot g = ap (λ (x : ChannelSlot). (Some x)) slot-here ∙ sym (cond-true _ _ _ (tested ∙ g))
 
-    pub get_other : t ≡ false → Nothing ≡ found_in n (state_of b).slots ch
+    pub get_other : t ≡ false → None ≡ found_in n (state_of b).slots ch
     unfolding found_in
     get_other g = sym (cond-false _ _ _ (tested ∙ g))
 
-  pub get-far : n ≤ ch.slot → Nothing ≡ found_in n (state_of b).slots ch
+  pub get-far : n ≤ ch.slot → None ≡ found_in n (state_of b).slots ch
   unfolding found_in
   get-far k = sym (cond-false _ _ _ (sym (and-stops (ltb ch.slot n) _ (le-ltb ch.slot n k))))
 
@@ -77,14 +76,14 @@ module _ (state rx store : List ℕ) (h : Header) (i : h ≡ dropped (state_of s
   unfolding is_there
   there-is ch = ap (λ (x : Header). there_in x.negotiated.config.channels (state_of state).slots ch) i
 
-  module _ (ch : ChannelId) (found : Found) (e : found ≡ found_in h.negotiated.config.channels (state_of state).slots ch) where
+  module _ (ch : ChannelId) (found : Option ChannelSlot) (e : found ≡ found_in h.negotiated.config.channels (state_of state).slots ch) where
     found-is : is_there lent ch ≡ is_found found
     found-is = sym (there-is ch) ∙ sym (there-found _ _ ch) ∙ ap is_found (sym e)
 
-    pub found_none : found ≡ Nothing → is_there lent ch ≡ false
+    pub found_none : found ≡ None → is_there lent ch ≡ false
     found_none f = found-is ∙ ap is_found f
 
-    module _ (s : ChannelSlot) (f : found ≡ Slot s) where
+    module _ (s : ChannelSlot) (f : found ≡ (Some s)) where
       pub found-there : is_there lent ch ≡ true
       found-there = found-is ∙ ap is_found f
 

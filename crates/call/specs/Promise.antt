@@ -1,5 +1,5 @@
 -- What the calls' functions ask and promise. Assumes nothing.
-use Rattle.std.specs.Prelude.{ℕ, ◌+◌, ◌≤◌, ◌≡◌, true, cond, List, ltb, length}
+use Rattle.std.specs.Prelude.{ℕ, ◌+◌, ◌≤◌, ◌≡◌, true, cond, List, ltb, length, Option, Some, None, Result, Ok, Err}
 use Rattle.le.specs.Le.{put, Bytes}
 use Rattle.config.specs.declared.negotiated.Negotiated.{Negotiated}
 use Rattle.config.specs.Config.{Within, stores_fit}
@@ -16,14 +16,11 @@ use Rattle.table.specs.Table.{there_in, slot_in}
 use Rattle.table_dispatch.specs.Dispatch.{Sound}
 use Rattle.call.specs.declared.Reply.{Reply}
 use Rattle.call.specs.declared.act.ActedOn.{ActedOn}
-use Rattle.call.specs.declared.admit.Admitted.{Admitted}
-use Rattle.call.specs.declared.admit.Admitted.TheVariants.{Yes, No}
-use Rattle.call.specs.declared.admit.Found.{Found}
-use Rattle.call.specs.declared.admit.Found.TheVariants.{Slot, Nothing}
 use Rattle.connection.specs.declared.Refusal.TheVariants.{StoreShort, OutShort, BrokenState}
 use Rattle.connection.specs.Act.{Acted, act_on}
 use Rattle.connection.specs.Calls.{dropped, is_there, slot_for, Lent, Outcome, written_by}
 use Rattle.connection.specs.Frames.{frames_bytes}
+use Rattle.connection.specs.declared.Refusal.{Refusal}
 
 -- lent bytes, as a call sees them
 abbrev pub lent_of : List ℕ → List ℕ → List ℕ → Lent
@@ -49,11 +46,11 @@ pub record Leaves (n : Negotiated) (o : Outcome) (at : ℕ) (state out buf : Lis
   pub buf-fits : length o.handed ≤ length buf
 
 -- the refusals ahead of every step: 13, 8, 9 for 56 bytes; else the header. The stores' and the outgoing buffer's lengths
-unfoldable pub admitted : List ℕ → ℕ → ℕ → ℕ → Admitted
+unfoldable pub admitted : List ℕ → ℕ → ℕ → ℕ → Result Header Refusal
 admitted state rx store out =
     cond (is_whole state)
-    (cond (stores_fit (agreed_in state).config rx store) (cond (ltb out 56) (No OutShort) (Yes (state_of state).header)) (No StoreShort))
-    (No BrokenState)
+    (cond (stores_fit (agreed_in state).config rx store) (cond (ltb out 56) (Err OutShort) (Ok (state_of state).header)) (Err StoreShort))
+    (Err BrokenState)
 
 -- what is so once a call is admitted
 pub record Admits (state rx store : List ℕ) (out : ℕ) : Type 0 where
@@ -73,8 +70,8 @@ BeginsOn state rx store out h ch s =
     Admits state rx store out × (h ≡ dropped (state_of state).header) × (is_there (lent_of state rx store) ch ≡ true) × (s ≡ slot_for (lent_of state rx store) ch)
 
 -- the slot of a channel, if it is in the table of the first n
-unfoldable pub found_in : ℕ → List ChannelSlot → ChannelId → Found
-found_in n ss ch = cond (there_in n ss ch) (Slot (slot_in ss ch.slot)) Nothing
+unfoldable pub found_in : ℕ → List ChannelSlot → ChannelId → Option ChannelSlot
+found_in n ss ch = cond (there_in n ss ch) (Some (slot_in ss ch.slot)) None
 
 -- the channel of the pending open
 abbrev pub pending_channel : Header → ChannelId

@@ -1,12 +1,11 @@
 // What a packet does that the call does not take for itself.
 ghost use Rattle.std.specs.Prelude.{◌≡◌};
-ghost use Rattle.slot.specs.declared.Failed.TheVariants.{No};
 ghost use Rattle.call.specs.Promise.{ActRoom, ActOnDoes};
 
 use crate::frames::{put_close, put_okay};
-use incoming::{Pushed, push_back, withdraw};
+use incoming::{push_back, withdraw};
 use protocol::packet::Packet;
-use slot::Failed;
+use slot::ChannelFault;
 use slot::ids::{ChannelIds, LocalId};
 use state::Header;
 use table_dispatch::{DispatchOutcome, dispatch};
@@ -14,7 +13,7 @@ use table_dispatch::{DispatchOutcome, dispatch};
 // A fault, if it was one; the header, which the caller stores at its end; the place past the frames.
 #[derive(Clone, Copy)]
 pub struct ActedOn {
-    pub fault: Failed,
+    pub fault: Option<ChannelFault>,
     pub header: Header,
     pub end: usize,
 }
@@ -49,8 +48,8 @@ pub fn act_on(
         DispatchOutcome::IncomingOpen(remote, credit) => {
             let pushed = push_back(state, store, h, remote, credit, payload);
             match pushed {
-                Pushed::Queued(more) => done(more, at),
-                Pushed::Full => {
+                Some(more) => done(more, at),
+                None => {
                     let local = LocalId(0);
                     let end = put_close(out, at, n, ChannelIds { local, remote });
                     done(h, end)
@@ -59,7 +58,7 @@ pub fn act_on(
         }
         DispatchOutcome::CancelQueuedOpen(remote) => done(withdraw(state, h, remote), at),
         DispatchOutcome::ChannelFault(_, _, _, fault) => ActedOn {
-            fault: Failed::By(fault),
+            fault: Some(fault),
             header: h,
             end: at,
         },
@@ -71,10 +70,10 @@ pub fn act_on(
 }
 
 fn done(header: Header, end: usize) -> ActedOn
-    ensures { result ≡ record { fault = No; header = header; end = end } }
+    ensures { result ≡ record { fault = None; header = header; end = end } }
 {
     ActedOn {
-        fault: Failed::No,
+        fault: None,
         header,
         end,
     }

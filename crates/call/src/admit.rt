@@ -12,67 +12,50 @@ use state::{Header, Pending, PendingOpen, header_of, slot_at};
 use state_whole::is_whole;
 use table::{ChannelId, has_local};
 
-#[derive(Clone, Copy)]
-pub enum Admitted {
-    Yes(Header),
-    No(Refusal),
-}
-
-#[derive(Clone, Copy)]
-pub enum Found {
-    Slot(ChannelSlot),
-    Nothing,
-}
-
 // Refusals 13, 8, and 9 for 56 bytes, by the stores' and the outgoing buffer's lengths.
-pub fn admit(state: &[u8], rx: usize, store: usize, out: usize) -> Admitted
+pub fn admit(state: &[u8], rx: usize, store: usize, out: usize) -> Result<Header, Refusal>
     ensures { result ≡ admitted state.now rx store out }
 {
     if is_whole(state) {
         let h = header_of(state);
-        let negotiated = h.negotiated;
-        let config = negotiated.config;
+        let config = h.negotiated.config;
         if config.stores_fit(rx, store) {
             if out < 56 {
-                return Admitted::No(Refusal::OutShort);
+                return Err(Refusal::OutShort);
             }
-            return Admitted::Yes(h);
+            return Ok(h);
         }
-        return Admitted::No(Refusal::StoreShort);
+        return Err(Refusal::StoreShort);
     }
-    Admitted::No(Refusal::BrokenState)
+    Err(Refusal::BrokenState)
 }
 
 // Nothing is pending any more: neither an open of ours nor an offer.
 pub fn drop_pending(h: Header) -> Header
     ensures { result ≡ dropped h }
 {
-    let pending = h.pending;
-    let local = pending.local;
-    let gone = PendingOpen {
-        what: Pending::Nothing,
-        slot: pending.slot,
-        local,
-    };
-    let mut kept = h;
-    kept.pending = gone;
-    kept
+    Header {
+        pending: PendingOpen {
+            what: Pending::Nothing,
+            ..h.pending
+        },
+        ..h
+    }
 }
 
 // The slot of a channel, if it is in the table: its place is below n, filled, and has its number.
-pub fn get(state: &[u8], n: usize, ch: ChannelId) -> Found
+pub fn get(state: &[u8], n: usize, ch: ChannelId) -> Option<ChannelSlot>
     requires { (n ≤ 64) × (state_len ≤ length state.now) }
     ensures { result ≡ found_in n (state_of state.now).slots ch }
 {
     if ch.slot < n {
         let s = slot_at(state, ch.slot);
-        let local = ch.local;
-        if has_local(s, local) {
-            return Found::Slot(s);
+        if has_local(s, ch.local) {
+            return Some(s);
         }
-        return Found::Nothing;
+        return None;
     }
-    Found::Nothing
+    None
 }
 
 // A refusal that changes nothing.

@@ -9,8 +9,8 @@ ghost use Rattle.connection.specs.Frames.{okay_frame, close_frame, open_frame, w
 ghost use Rattle.protocol.specs.Message.{message_size};
 
 use config::negotiated::Negotiated;
+use slot::ChannelSlot;
 use slot::ids::{ChannelIds, LocalId};
-use slot::{ChannelSlot, PendingAck};
 use wire::{send_close, send_okay, send_open, send_write};
 
 pub fn ids_in(s: ChannelSlot) -> ChannelIds
@@ -65,13 +65,19 @@ pub fn put_open(
 }
 
 // The OKAY of an acknowledgement that is due. Where none is, nothing is written.
-pub fn put_ack(out: &mut [u8], at: usize, n: Negotiated, s: ChannelSlot, ack: PendingAck) -> usize
+pub fn put_ack(
+    out: &mut [u8],
+    at: usize,
+    n: Negotiated,
+    s: ChannelSlot,
+    ack: Option<usize>,
+) -> usize
     requires { is_ack ack ≡ true → at + 28 ≤ length out.old }
     ensures { Puts out.old at (frames_bytes n (ack_frames s ack)) result out.new }
 {
     match ack {
-        PendingAck::Nothing => at,
-        PendingAck::Len(len) => put_okay(out, at, n, ids_in(s), len),
+        None => at,
+        Some(len) => put_okay(out, at, n, ids_in(s), len),
     }
 }
 

@@ -21,8 +21,6 @@ use Rattle.state.specs.declared.Header.{Header}
 use Rattle.state.specs.declared.QueuedOpen.{QueuedOpen}
 use Rattle.state.specs.Change.{slot_to}
 use Rattle.state.specs.State.{is_offer, state_of, queued_at, put_slot, put_header}
-use Rattle.table.specs.declared.Allocated.{Allocated}
-use Rattle.table.specs.declared.Allocated.TheVariants.{Channel, NoFree}
 use Rattle.table.specs.declared.ChannelId.{ChannelId}
 use Rattle.table.specs.declared.Want.TheVariants.{Empty}
 use Rattle.table.specs.Table.{place_of, numbered, allocated}
@@ -38,11 +36,13 @@ use Rattle.call.proofs.FrameLaws.{okay-short, one-frame, puts_one}
 use Rattle.call.proofs.LeaveLaws.{did-begun, did_then, did-stops}
 use Rattle.call_accept.specs.Promise.{AcceptRoom}
 use Rattle.call_reject.proofs.OfferLaws.{offered-is, offer-is, none-leaves}
+use Rattle.table.specs.declared.NoFreeChannels.{NoFreeChannels as NoFree}
+use Rattle.std.specs.Prelude.{Option, Some, None, Result, Ok, Err}
 
 -- a place that was allocated is one of the channels'
-abbrev PlaceBelow : ℕ → Allocated → Type 0
-PlaceBelow n (Channel ch) = ch.slot < n
-PlaceBelow n NoFree = Unit {0}
+abbrev PlaceBelow : ℕ → Result ChannelId NoFree → Type 0
+PlaceBelow n (Ok ch) = ch.slot < n
+PlaceBelow n (Err _) = Unit {0}
 
 place-below : (h : Header) (ss : List ChannelSlot) → PlaceBelow h.negotiated.config.channels (allocated h ss)
 unfolding allocated
@@ -50,16 +50,16 @@ place-below h ss =
     let n = h.negotiated.config.channels in
     pick (PlaceBelow n) (ltb (place_of Empty n ss) n) (λ t. ltb-true (place_of Empty n ss) n t) (λ t. tt)
 
-module _ (state out : List ℕ) (at : ℕ) (h : Header) (room : AcceptRoom state out at h) (remote : RemoteId) (credit : ℕ) (found : Allocated) (e : found ≡ allocated h (state_of state).slots) where
+module _ (state out : List ℕ) (at : ℕ) (h : Header) (room : AcceptRoom state out at h) (remote : RemoteId) (credit : ℕ) (found : Result ChannelId NoFree) (e : found ≡ allocated h (state_of state).slots) where
   -- no slot is empty
-  pub accept-full : (r : Reply) (state' out' : List ℕ) → found ≡ NoFree
+  pub accept-full : (r : Reply) (state' out' : List ℕ) → found ≡ Err (record {})
       → ((rx store : List ℕ) → Leaves h.negotiated (reject_on (lent_of state rx store) h remote (Refused NoFreeChannels)) at state out [] r state' rx store out' [])
       → (rx store : List ℕ) → Leaves h.negotiated (accept_on (lent_of state rx store) h remote credit (allocated h (state_of state).slots)) at state out [] r state' rx store out' []
   unfolding accept_on
   accept-full r state' out' f k rx store =
-      subst (λ (x : Allocated). Leaves h.negotiated (accept_on (lent_of state rx store) h remote credit x) at state out [] r state' rx store out' []) (sym f ∙ e) (k rx store)
+      subst (λ (x : Result ChannelId NoFree). Leaves h.negotiated (accept_on (lent_of state rx store) h remote credit x) at state out [] r state' rx store out' []) (sym f ∙ e) (k rx store)
 
-  module _ (ch : ChannelId) (f : found ≡ Channel ch) where
+  module _ (ch : ChannelId) (f : found ≡ (Ok ch)) where
     pub accept-place : ch.slot < 64
     accept-place =
         let p : ch.slot < h.negotiated.config.channels = subst (PlaceBelow h.negotiated.config.channels) (sym e ∙ f) (place-below h (state_of state).slots) in
@@ -86,7 +86,7 @@ module _ (state out : List ℕ) (at : ℕ) (h : Header) (room : AcceptRoom state
         let w = did-begun n at state out (numbered h) l (omega arith) in
         let w₁ = did_then n at state out _ _ _ _ _ _ w (slot_to ch.slot (accepted_slot ids credit (policy_of (agreed_in state))) ∷ []) (fr ∷ []) (put_slot state ch.slot taken) out' end
         (ap (put_slot state ch.slot) t₁) (puts_one n fr out out' at end p₁) (omega arith) in
-        subst (λ (x : Allocated). Leaves n (accept_on l h remote credit x) at state out [] r state' rx store out' []) (sym f ∙ e)
+        subst (λ (x : Result ChannelId NoFree). Leaves n (accept_on l h remote credit x) at state out [] r state' rx store out' []) (sym f ∙ e)
         (did-stops n at state out _ _ _ _ _ _ w₁ [] state' moved (Opened ch) 0 r m s q)
 
 -- ---- the step
@@ -120,7 +120,7 @@ module _ (state rx store out : List ℕ) (h : Header) (i : h ≡ (state_of state
         let hd = dropped (state_of state).header in
         let o = offer-is state rx store out h i (length out) g u e f q d in
         subst (λ (x : Outcome). Leaves (agreed_in state) x 0 state out [] r state' rx store out' []) (sym (cond-true (is_offered lent) _ _ (offered-is state rx store out h i (length out) g true u e f)))
-        (subst (λ (x : Allocated). Leaves (agreed_in state) (accept_on lent hd (offer_in lent).remote (offer_in lent).credit x) 0 state out [] r state' rx store out' []) (allocated-dropped (state_of state).header (state_of state).slots)
+        (subst (λ (x : Result ChannelId NoFree). Leaves (agreed_in state) (accept_on lent hd (offer_in lent).remote (offer_in lent).credit x) 0 state out [] r state' rx store out' []) (allocated-dropped (state_of state).header (state_of state).slots)
         (subst (λ (x : QueuedOpen). Leaves (agreed_in state) (accept_on lent hd x.remote x.credit (allocated hd (state_of state).slots)) 0 state out [] r state' rx store out' []) o
         (subst (λ (x : Header). Leaves x.negotiated (accept_on lent x q.remote q.credit (allocated x (state_of state).slots)) 0 state out [] r state' rx store out' []) dropped-is (k rx store))))
 

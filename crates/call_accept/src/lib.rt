@@ -7,7 +7,7 @@ ghost use Rattle.call.specs.Promise.{Admits};
 ghost use Rattle.call_accept.specs.Promise.{AcceptRoom, AcceptOnLeaves, AcceptStepLeaves, AcceptLeaves};
 
 use call::Reply;
-use call::admit::{Admitted, admit, drop_pending, refused};
+use call::admit::{admit, drop_pending, refused};
 use call::frames::put_okay;
 use call::store::store_slot;
 use call_reject::{none_offered, reject_on};
@@ -15,7 +15,7 @@ use connection::{Answer, Refusal};
 use slot::ChannelSlot;
 use slot::ids::{ChannelIds, RemoteId};
 use state::{Header, queued_at};
-use table::{Allocated, allocate, numbered};
+use table::{NoFreeChannels, allocate, numbered};
 
 // An open of the device's is taken, by its number and credit alone: the lowest empty slot is its channel's, and an OKAY at place
 // `at` says so. With no slot empty it is refused.
@@ -33,11 +33,11 @@ pub fn accept_on(
     let n = h.negotiated;
     let found = allocate(state, h);
     match found {
-        Allocated::NoFree => {
+        Err(NoFreeChannels) => {
             let full = Answer::Refused(Refusal::NoFreeChannels);
             reject_on(state, out, at, h, remote, full)
         }
-        Allocated::Channel(ch) => {
+        Ok(ch) => {
             let local = ch.local;
             let ids = ChannelIds { local, remote };
             let end = put_okay(out, at, n, ids, n.advertised_credit() as usize);
@@ -75,7 +75,7 @@ pub fn accept(state: &mut [u8], rx: &[u8], store: &[u8], out: &mut [u8]) -> Repl
 {
     let admitted = admit(state, rx.len(), store.len(), out.len());
     match admitted {
-        Admitted::No(refusal) => refused(refusal),
-        Admitted::Yes(h) => accept_step(state, rx, store, out, h),
+        Err(refusal) => refused(refusal),
+        Ok(h) => accept_step(state, rx, store, out, h),
     }
 }

@@ -18,29 +18,28 @@ use Rattle.table.specs.declared.ChannelId.{ChannelId}
 use Rattle.connection.specs.declared.Answer.TheVariants.{Done, Refused}
 use Rattle.connection.specs.declared.Refusal.TheVariants.{ChannelClosed}
 use Rattle.call.specs.declared.Reply.{Reply}
-use Rattle.call.specs.declared.admit.Found.{Found}
-use Rattle.call.specs.declared.admit.Found.TheVariants.{Slot, Nothing}
 use Rattle.connection.specs.Calls.{Lent, Outcome, dropped, ids_in, is_there, slot_for, close_step}
 use Rattle.connection.specs.Frames.{close_frame, frame_bytes, frames_bytes}
 use Rattle.call.specs.Promise.{lent_of, agreed_in, found_in, Leaves, Admits}
 use Rattle.call.proofs.FrameLaws.{close-short, one-frame, puts_one}
 use Rattle.call.proofs.LeaveLaws.{did-begun, did_then, did-stops, stops-leaves}
 use Rattle.call.proofs.ThereLaws.{found_none, found-there, found-slot, place-fits, lives}
+use Rattle.std.specs.Prelude.{Option, Some, None, Result, Ok, Err}
 
-module _ (state rx store out : List ℕ) (h : Header) (i : h ≡ dropped (state_of state).header) (ch : ChannelId) (found : Found)
+module _ (state rx store out : List ℕ) (h : Header) (i : h ≡ dropped (state_of state).header) (ch : ChannelId) (found : Option ChannelSlot)
     (e : found ≡ found_in h.negotiated.config.channels (state_of state).slots ch) where
   abbrev lent : Lent
   lent = lent_of state rx store
 
   -- it is not there
-  pub close-refuses : (r : Reply) (state' : List ℕ) → found ≡ Nothing → state' ≡ put_header state h → r ≡ record { answer = Refused ChannelClosed; used = 0; written = 0 }
+  pub close-refuses : (r : Reply) (state' : List ℕ) → found ≡ None → state' ≡ put_header state h → r ≡ record { answer = Refused ChannelClosed; used = 0; written = 0 }
       → Leaves (agreed_in state) (close_step lent ch) 0 state out [] r state' rx store out []
   unfolding close_step
   close-refuses r state' f s q =
       stops-leaves state rx store h i out [] _ (Refused ChannelClosed) 0 r state'
       (cond-false (is_there lent ch && (slot_for lent ch).has_remote) _ _ (sym (and-stops (is_there lent ch) _ (found_none state rx store h i ch found e f)))) s q
 
-  module _ (g : Admits state rx store (length out)) (s : ChannelSlot) (f : found ≡ Slot s) where
+  module _ (g : Admits state rx store (length out)) (s : ChannelSlot) (f : found ≡ (Some s)) where
     there : is_there lent ch ≡ true
     there = found-there state rx store h i ch found e s f
 

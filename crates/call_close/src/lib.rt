@@ -6,7 +6,7 @@ ghost use Rattle.call.specs.Promise.{Begins};
 ghost use Rattle.call_close.specs.Promise.{CloseLeaves, CloseStepLeaves};
 
 use call::Reply;
-use call::admit::{Admitted, Found, admit, drop_pending, get, refused};
+use call::admit::{admit, drop_pending, get, refused};
 use call::frames::{ids_in, put_close};
 use call::store::store_slot;
 use connection::{Answer, Refusal};
@@ -30,7 +30,7 @@ fn close_step(
     let config = n.config;
     let found = get(state, config.channels, ch);
     match found {
-        Found::Slot(s) => {
+        Some(s) => {
             let end = put_close(out, 0, n, ids_in(s));
             let gone = s.emptied();
             store_slot(state, ch.slot, gone, h);
@@ -40,7 +40,7 @@ fn close_step(
                 written: end,
             }
         }
-        Found::Nothing => {
+        None => {
             put_header(state, h);
             refused(Refusal::ChannelClosed)
         }
@@ -54,7 +54,7 @@ pub fn close(state: &mut [u8], rx: &[u8], store: &[u8], ch: ChannelId, out: &mut
 {
     let admitted = admit(state, rx.len(), store.len(), out.len());
     match admitted {
-        Admitted::No(refusal) => refused(refusal),
-        Admitted::Yes(h) => close_step(state, rx, store, ch, out, drop_pending(h)),
+        Err(refusal) => refused(refusal),
+        Ok(h) => close_step(state, rx, store, ch, out, drop_pending(h)),
     }
 }

@@ -7,9 +7,9 @@ ghost use Rattle.call_dispatch.specs.Promise.{DispatchLeaves, DispatchStepLeaves
 
 use call::Reply;
 use call::act::act_on;
-use call::admit::{Admitted, admit, drop_pending, refused};
+use call::admit::{admit, drop_pending, refused};
 use call::recv::{recv_pkt, unless_fault};
-use connection::{Answer, Received};
+use connection::Answer;
 use protocol::packet::Packet;
 use state::{Header, put_header};
 
@@ -29,7 +29,7 @@ fn dispatch_step(
     let config = n.config;
     let found = recv_pkt(received, config.max_payload);
     match found {
-        Received::Stop(answer, used) => {
+        Err((answer, used)) => {
             put_header(state, h);
             Reply {
                 answer,
@@ -37,7 +37,7 @@ fn dispatch_step(
                 written: 0,
             }
         }
-        Received::Packet(packet) => {
+        Ok(packet) => {
             let payload = Packet::payload(received, packet.data_length);
             let acted = act_on(state, rx, store, out, 0, h, packet, payload);
             let fault = acted.fault;
@@ -66,7 +66,7 @@ pub fn dispatch(
 {
     let admitted = admit(state, rx.len(), store.len(), out.len());
     match admitted {
-        Admitted::No(refusal) => refused(refusal),
-        Admitted::Yes(h) => dispatch_step(state, rx, store, received, out, drop_pending(h)),
+        Err(refusal) => refused(refusal),
+        Ok(h) => dispatch_step(state, rx, store, received, out, drop_pending(h)),
     }
 }

@@ -7,7 +7,7 @@ ghost use Rattle.call.specs.Promise.{Admits};
 ghost use Rattle.call_let_go.specs.Promise.{LetGoStepLeaves, LetGoLeaves};
 
 use call::Reply;
-use call::admit::{Admitted, admit, drop_pending, refused};
+use call::admit::{admit, drop_pending, refused};
 use call_reject::none_offered;
 use connection::Answer;
 use incoming::push_front;
@@ -39,7 +39,7 @@ pub fn let_go(state: &mut [u8], rx: &[u8], store: &[u8]) -> Reply
 {
     let admitted = admit(state, rx.len(), store.len(), 56);
     match admitted {
-        Admitted::No(refusal) => refused(refusal),
-        Admitted::Yes(h) => let_go_step(state, rx, store, h),
+        Err(refusal) => refused(refusal),
+        Ok(h) => let_go_step(state, rx, store, h),
     }
 }

@@ -23,10 +23,8 @@ fn clear_slots(state: &mut [u8])
     requires { state_len ≤ length state.old }
     ensures { state.new ≡ put state.old header_len (empty_slots 64) }
 {
-    let mut i = 0;
-    while i < 64 {
+    for i in 0..64 {
         put_slot(state, i, ChannelSlot::empty());
-        i += 1;
     }
 }
 
@@ -46,10 +44,8 @@ fn clear_queue(state: &mut [u8])
     requires { state_len ≤ length state.old }
     ensures { state.new ≡ put state.old queue_at (empty_queue 64) }
 {
-    let mut i = 0;
-    while i < 64 {
+    for i in 0..64 {
         put_queued(state, i, none_queued());
-        i += 1;
     }
 }
 

@@ -15,33 +15,31 @@ use Rattle.connection.specs.declared.Answer.TheVariants.{Refused}
 use Rattle.connection.specs.declared.Refusal.TheVariants.{ChannelClosed}
 use Rattle.connection.specs.Calls.{dropped, looked, is_there, slot_for, numbers_in, numbers_for, numbers_outcome}
 use Rattle.call.specs.declared.Reply.{Reply}
-use Rattle.call.specs.declared.admit.Admitted.{Admitted}
-use Rattle.call.specs.declared.admit.Admitted.TheVariants.{Yes}
-use Rattle.call.specs.declared.admit.Found.{Found}
-use Rattle.call.specs.declared.admit.Found.TheVariants.{Slot, Nothing}
 use Rattle.call.specs.Promise.{lent_of, agreed_in, admitted, found_in}
 use Rattle.call.proofs.LeaveLaws.{Goes, admitted-goes, goes-admits, looked-leaves}
 use Rattle.call.proofs.ThereLaws.{looks}
 use Rattle.call.proofs.WideLaws.{wide-leaves}
 use Rattle.call_numbers.specs.Promise.{numbers_of, NumbersLeaves}
+use Rattle.connection.specs.declared.Refusal.{Refusal}
+use Rattle.std.specs.Prelude.{Option, Some, None, Result, Ok, Err}
 
 -- by what was found
-abbrev answer_of : Found → Answer
-answer_of (Slot s) = numbers_in s
-answer_of Nothing = Refused ChannelClosed
+abbrev answer_of : Option ChannelSlot → Answer
+answer_of (Some s) = numbers_in s
+answer_of None = Refused ChannelClosed
 
 of-found : (n : ℕ) (ss : List ChannelSlot) (ch : ChannelId) → answer_of (found_in n ss ch) ≡ numbers_of n ss ch
 unfolding found_in numbers_of
 of-found n ss ch = by_cond (there_in n ss ch)
   where
-    by_cond : (t : Bool) → answer_of (cond t (Slot (slot_in ss ch.slot)) Nothing) ≡ cond t (numbers_in (slot_in ss ch.slot)) (Refused ChannelClosed)
+    by_cond : (t : Bool) → answer_of (cond t (Some (slot_in ss ch.slot)) None) ≡ cond t (numbers_in (slot_in ss ch.slot)) (Refused ChannelClosed)
     by_cond true = refl
     by_cond false = refl
 
-pub found-numbers : (n : ℕ) (ss : List ChannelSlot) (ch : ChannelId) (found x : Found) → found ≡ found_in n ss ch → found ≡ x → answer_of x ≡ numbers_of n ss ch
+pub found-numbers : (n : ℕ) (ss : List ChannelSlot) (ch : ChannelId) (found x : Option ChannelSlot) → found ≡ found_in n ss ch → found ≡ x → answer_of x ≡ numbers_of n ss ch
 found-numbers n ss ch found x e f = ap answer_of (sym f ∙ e) ∙ of-found n ss ch
 
-module _ (state rx store : List ℕ) (h : Header) (a : Admitted) (e : a ≡ admitted state (length rx) (length store) 56) (f : a ≡ Yes h) where
+module _ (state rx store : List ℕ) (h : Header) (a : Result Header Refusal) (e : a ≡ admitted state (length rx) (length store) 56) (f : a ≡ (Ok h)) where
   goes : Goes state rx store 56 h
   goes = admitted-goes state rx store 56 h a e f
 

@@ -7,7 +7,7 @@ ghost use Rattle.connection.specs.Calls.{numbers_in};
 ghost use Rattle.call_numbers.specs.Promise.{NumbersLeaves, numbers_of};
 
 use call::Reply;
-use call::admit::{Admitted, Found, admit, get, refused};
+use call::admit::{admit, get, refused};
 use connection::{Answer, Refusal};
 use slot::{ChannelSlot, is_closed};
 use table::ChannelId;
@@ -17,7 +17,7 @@ fn numbers_in(s: ChannelSlot) -> Answer
     ensures { result ≡ numbers_in s }
 {
     let state = s.state;
-    let budget = le::bits_of_i64(s.send_budget);
+    let budget = s.send_budget.cast_unsigned();
     Answer::Numbers(
         is_closed(state),
         s.acked_total,
@@ -33,8 +33,8 @@ fn numbers_of(state: &[u8], channels: usize, ch: ChannelId) -> Answer
 {
     let found = get(state, channels, ch);
     match found {
-        Found::Slot(s) => numbers_in(s),
-        Found::Nothing => Answer::Refused(Refusal::ChannelClosed),
+        Some(s) => numbers_in(s),
+        None => Answer::Refused(Refusal::ChannelClosed),
     }
 }
 
@@ -44,8 +44,8 @@ pub fn numbers(state: &[u8], rx: &[u8], store: &[u8], ch: ChannelId) -> Reply
 {
     let admitted = admit(state, rx.len(), store.len(), 56);
     match admitted {
-        Admitted::No(refusal) => refused(refusal),
-        Admitted::Yes(h) => {
+        Err(refusal) => refused(refusal),
+        Ok(h) => {
             let negotiated = h.negotiated;
             let config = negotiated.config;
             Reply {

@@ -18,23 +18,17 @@ use Rattle.protocol.specs.Packet.{payload_limit, decode_of, Puts}
 use Rattle.protocol.proofs.PacketLaws.{frame-length}
 use Rattle.protocol.specs.Command.{is_ready, is_close, is_write}
 use Rattle.slot.specs.declared.ChannelSlot.{ChannelSlot}
-use Rattle.slot.specs.declared.Readied.{Readied}
 use Rattle.credit.specs.declared.CreditFault.{CreditFault}
-use Rattle.slot.specs.declared.Readied.TheVariants.{Slot, Bad}
 use Rattle.slot.specs.declared.ids.LocalId.{LocalId}
 use Rattle.slot.specs.Slot.{opening_slot, opened_of}
 use Rattle.slot.proofs.Laws.{cond-true, cond-false}
 use Rattle.state.specs.declared.Header.{Header}
 use Rattle.state.specs.State.{state_len, is_ours, state_of, put_slot, put_header}
 use Rattle.state_whole.proofs.WholeLaws.{Whole}
-use Rattle.table.specs.declared.Allocated.{Allocated}
-use Rattle.table.specs.declared.Allocated.TheVariants.{Channel, NoFree}
 use Rattle.table.specs.declared.ChannelId.{ChannelId}
 use Rattle.table.specs.Table.{numbered, allocated}
 use Rattle.connection.specs.declared.Answer.{Answer}
 use Rattle.connection.specs.declared.Answer.TheVariants.{Waiting, Opened, Refused}
-use Rattle.connection.specs.declared.Received.{Received}
-use Rattle.connection.specs.declared.Received.TheVariants.{Packet as PacketIs, Stop}
 use Rattle.connection.specs.declared.Refusal.TheVariants.{PayloadTooLarge, BadCredit, UnexpectedCommand, OutShort, ChannelClosed, NoFreeChannels}
 use Rattle.call.specs.declared.Reply.{Reply}
 use Rattle.call.specs.declared.act.ActedOn.{ActedOn}
@@ -48,6 +42,8 @@ use Rattle.call.proofs.CallLaws.{received_is, allocated-dropped, own_is as test-
 use Rattle.call.proofs.FrameLaws.{close-short, one-frame, puts_one}
 use Rattle.call.proofs.LeaveLaws.{Did, did-begun, did-slot, did-frames, did-acted, did-stops, stops-leaves, untouched-leaves}
 use Rattle.connection.proofs.WholeWork.{Long}
+use Rattle.std.specs.Prelude.{Option, Some, None, Result, Ok, Err}
+use Rattle.table.specs.declared.NoFreeChannels.{NoFreeChannels as NoFree}
 
 -- an OPEN has its destination behind the 24 bytes
 open-long : (n : Negotiated) (local : LocalId) (credit : ℕ) (destination : List ℕ) → length (frame_bytes n (open_frame local credit destination)) ≡ 24 + length destination
@@ -83,27 +79,27 @@ module _ (state rx store out : List ℕ) (h : Header) (i : h ≡ dropped (state_
   pub begin-looks : Admits state rx store (length out) → (h.negotiated.config.channels ≤ 64) × (state_len ≤ length state)
   begin-looks g = ((begin-limits g).most-channels, g.state-fits)
 
-  module _ (destination : List ℕ) (found : Allocated) (e : found ≡ allocated h (state_of state).slots) where
+  module _ (destination : List ℕ) (found : Result ChannelId NoFree) (e : found ≡ allocated h (state_of state).slots) where
     abbrev began : Outcome
     began = open_on lent₀ (length out) destination (allocated (state_of state).header (state_of state).slots)
 
-    found-is : (x : Allocated) → found ≡ x → began ≡ open_on lent₀ (length out) destination x
+    found-is : (x : Result ChannelId NoFree) → found ≡ x → began ≡ open_on lent₀ (length out) destination x
     found-is x f =
         ap (open_on lent₀ (length out) destination)
         (sym (allocated-dropped (state_of state).header (state_of state).slots) ∙ sym (ap (λ (y : Header). allocated y (state_of state).slots) i) ∙ sym e ∙ f)
 
-    pub open_none : (r : Reply) (state' : List ℕ) → found ≡ NoFree → state' ≡ put_header state h → r ≡ record { answer = Refused NoFreeChannels; used = 0; written = 0 }
+    pub open_none : (r : Reply) (state' : List ℕ) → found ≡ Err (record {}) → state' ≡ put_header state h → r ≡ record { answer = Refused NoFreeChannels; used = 0; written = 0 }
         → Leaves (agreed_in state) began 0 state out [] r state' rx store out []
     unfolding open_on
-    open_none r state' f s q = stops-leaves state rx store h i out [] _ (Refused NoFreeChannels) 0 r state' (found-is NoFree f) s q
+    open_none r state' f s q = stops-leaves state rx store h i out [] _ (Refused NoFreeChannels) 0 r state' (found-is (Err (record {})) f) s q
 
-    module _ (ch : ChannelId) (f : found ≡ Channel ch) where
+    module _ (ch : ChannelId) (f : found ≡ (Ok ch)) where
       pub open-large : (moved : Header) (r : Reply) (state' : List ℕ) → payload_limit < length destination → moved ≡ numbered h → state' ≡ put_header state moved
           → r ≡ record { answer = Refused PayloadTooLarge; used = 0; written = 0 } → Leaves (agreed_in state) began 0 state out [] r state' rx store out []
       unfolding open_on
       open-large moved r state' t m s q =
           stops-leaves state rx store moved (m ∙ ap numbered i) out [] _ (Refused PayloadTooLarge) 0 r state'
-          (found-is (Channel ch) f ∙ cond-true (ltb payload_limit (length destination)) _ _ (lt-ltb payload_limit (length destination) t)) s q
+          (found-is (Ok ch) f ∙ cond-true (ltb payload_limit (length destination)) _ _ (lt-ltb payload_limit (length destination) t)) s q
 
       module _ (t : length destination ≤ payload_limit) where
         small : ltb payload_limit (length destination) ≡ false
@@ -114,7 +110,7 @@ module _ (state rx store out : List ℕ) (h : Header) (i : h ≡ dropped (state_
         unfolding open_on
         open-short r u q =
             subst (λ (v : Outcome). Leaves (agreed_in state) v 0 state out [] r state rx store out [])
-            (sym (found-is (Channel ch) f ∙ cond-false (ltb payload_limit (length destination)) _ _ small ∙ cond-true (ltb (length out) (24 + length destination)) _ _ (lt-ltb (length out) (24 + length destination) u)))
+            (sym (found-is (Ok ch) f ∙ cond-false (ltb payload_limit (length destination)) _ _ small ∙ cond-true (ltb (length out) (24 + length destination)) _ _ (lt-ltb (length out) (24 + length destination) u)))
             (untouched-leaves (agreed_in state) lent₀ OutShort state out [] r q)
 
         pub open-sends : (moved later : Header) (r : Reply) (end : ℕ) (out' state' : List ℕ) → 24 + length destination ≤ length out
@@ -124,7 +120,7 @@ module _ (state rx store out : List ℕ) (h : Header) (i : h ≡ dropped (state_
         open-sends moved later r end out' state' u p m n s q =
             let z = open-long (agreed_in state) ch.local (offered_credit (agreed_in state)) destination in
             writes state rx store out h (ap (λ (x : Header). x.negotiated) i) _ (pending_for (numbered head₀) ch) later (open_frame ch.local (offered_credit (agreed_in state)) destination) Waiting 0 r end out' state'
-            (found-is (Channel ch) f ∙ cond-false (ltb payload_limit (length destination)) _ _ small ∙ cond-false (ltb (length out) (24 + length destination)) _ _ (le-ltb (length out) (24 + length destination) u))
+            (found-is (Ok ch) f ∙ cond-false (ltb payload_limit (length destination)) _ _ small ∙ cond-false (ltb (length out) (24 + length destination)) _ _ (le-ltb (length out) (24 + length destination) u))
             (subst (λ (y : Header). Puts out 0 (frame_bytes h.negotiated (open_frame ch.local (offered_credit y.negotiated) destination)) end out') i p) (omega arith)
             (n ∙ ap (λ (y : Header). pending_for y ch) (m ∙ ap numbered i)) s q
 
@@ -138,10 +134,10 @@ module _ (state rx store out : List ℕ) (h : Header) (i : h ≡ (state_of state
   -- ---- what its steps are asked
 
   -- the packet that it looks at
-  looked-at : (received : List ℕ) (r : Received) → r ≡ received_by (decode_of received h.negotiated.config.max_payload) → r ≡ received_of lent received
+  looked-at : (received : List ℕ) (r : Result Packet (Answer × ℕ)) → r ≡ received_by (decode_of received h.negotiated.config.max_payload) → r ≡ received_of lent received
   looked-at received r e = received_is state rx store h (ap (λ (x : Header). x.negotiated) i) received r e
 
-  pub packet-fits : (received : List ℕ) (p : Packet) → received_of lent received ≡ PacketIs p → PacketRoom received h.negotiated.config.max_payload p
+  pub packet-fits : (received : List ℕ) (p : Packet) → received_of lent received ≡ Ok p → PacketRoom received h.negotiated.config.max_payload p
   packet-fits received p e = packet-room received h.negotiated.config.max_payload (received_by (decode_of received h.negotiated.config.max_payload)) p refl (looked-at received _ refl ∙ e)
 
   module _ (g : Admits state rx store (length out)) where
@@ -159,7 +155,7 @@ module _ (state rx store out : List ℕ) (h : Header) (i : h ≡ (state_of state
         (omega arith, g.state-fits)
 
     -- what `act_on` asks
-    pub open-room : (received payload : List ℕ) (p : Packet) → received_of lent received ≡ PacketIs p → payload ≡ body_of received p → ActRoom h state rx store out 0 payload
+    pub open-room : (received payload : List ℕ) (p : Packet) → received_of lent received ≡ Ok p → payload ≡ body_of received p → ActRoom h state rx store out 0 payload
     open-room received payload p e b =
         let l : Long h.negotiated (length rx) (length store) = subst (λ (x : Header). Long x.negotiated (length rx) (length store)) (sym i) (admits-stores state rx store (length out) g) in
         let k = packet-fits received p e in
@@ -172,12 +168,12 @@ module _ (state rx store out : List ℕ) (h : Header) (i : h ≡ (state_of state
   -- ---- its OKAY
 
   module _ (received : List ℕ) (p : Packet) (ch : ChannelId) (c : ch ≡ pending_channel h) (payload : List ℕ) (b : payload ≡ body_of received p) (pol : RxPolicy)
-      (l : pol ≡ policy_of h.negotiated) (opening : ChannelSlot) (m : opening ≡ opening_slot ch.local) (readied : Readied)
+      (l : pol ≡ policy_of h.negotiated) (opening : ChannelSlot) (m : opening ≡ opening_slot ch.local) (readied : Result ChannelSlot CreditFault)
       (d : readied ≡ opened_of opening (record { 0 = p.arg0 }) payload pol) where
     abbrev answered : Outcome
     answered = open_readied lent (pending_channel h) p.arg0 (frame_len p) (opened_of (opening_slot h.pending.local) (record { 0 = p.arg0 }) (body_of received p) (policy lent))
 
-    readied-is : (x : Readied) → readied ≡ x → answered ≡ open_readied lent (pending_channel h) p.arg0 (frame_len p) x
+    readied-is : (x : Result ChannelSlot CreditFault) → readied ≡ x → answered ≡ open_readied lent (pending_channel h) p.arg0 (frame_len p) x
     readied-is x f =
         let k : pol ≡ policy lent = l ∙ ap (λ (y : Header). policy_of y.negotiated) i in
         let m₁ : opening ≡ opening_slot h.pending.local = m ∙ ap (λ (y : ChannelId). opening_slot y.local) c in
@@ -187,26 +183,26 @@ module _ (state rx store out : List ℕ) (h : Header) (i : h ≡ (state_of state
         ∙ ap (opened_of (opening_slot h.pending.local) (record { 0 = p.arg0 }) (body_of received p)) k in
         ap (open_readied lent (pending_channel h) p.arg0 (frame_len p)) (sym d₁ ∙ f)
 
-    pub ready-fills : (t : ChannelSlot) (less : Header) (r : Reply) (state' : List ℕ) → readied ≡ Slot t → less ≡ dropped h → state' ≡ put_header (put_slot state ch.slot t) less
+    pub ready-fills : (t : ChannelSlot) (less : Header) (r : Reply) (state' : List ℕ) → readied ≡ Ok t → less ≡ dropped h → state' ≡ put_header (put_slot state ch.slot t) less
         → r ≡ record { answer = Opened ch; used = frame_len p; written = 0 } → Leaves (agreed_in state) answered 0 state out [] r state' rx store out []
     unfolding open_readied
     ready-fills t less r state' f j s q =
         let n = agreed_in state in
         let w = did-begun n 0 state out (dropped head) lent (omega arith) in
         let w₁ = did-slot n 0 state out _ _ _ _ _ _ w h.pending.slot t (put_slot state h.pending.slot t) refl in
-        subst (λ (v : Outcome). Leaves n v 0 state out [] r state' rx store out []) (sym (readied-is (Slot t) f))
+        subst (λ (v : Outcome). Leaves n v 0 state out [] r state' rx store out []) (sym (readied-is (Ok t) f))
         (did-stops n 0 state out _ _ _ _ _ _ w₁ [] state' less (Opened (pending_channel h)) (frame_len p) r (j ∙ ap dropped i)
         (s ∙ ap (λ (y : ChannelId). put_header (put_slot state y.slot t) less) c)
         (q ∙ ap (λ (y : ChannelId). record { answer = Opened y; used = frame_len p; written = 0 }) c))
 
-    pub ready-bad : (b : CreditFault) (r : Reply) (end : ℕ) (out' state' : List ℕ) → 56 ≤ length out → readied ≡ Bad b
+    pub ready-bad : (b : CreditFault) (r : Reply) (end : ℕ) (out' state' : List ℕ) → 56 ≤ length out → readied ≡ Err b
         → Puts out 0 (frame_bytes h.negotiated (close_frame (record { local = h.pending.local; remote = record { 0 = p.arg0 } }))) end out' → state' ≡ put_header state (dropped h)
         → r ≡ record { answer = Refused (BadCredit b); used = frame_len p; written = end } → Leaves (agreed_in state) answered 0 state out [] r state' rx store out' []
     unfolding open_readied
     ready-bad b r end out' state' u f w s q =
         let z = close-short (agreed_in state) (record { local = h.pending.local; remote = record { 0 = p.arg0 } }) in
         writes state rx store out h (ap (λ (x : Header). x.negotiated) i) _ (dropped head) (dropped h) (close_frame (record { local = h.pending.local; remote = record { 0 = p.arg0 } })) (Refused (BadCredit b)) (frame_len p) r end out' state'
-        (readied-is (Bad b) f) w (omega arith) (ap dropped i) s q
+        (readied-is (Err b) f) w (omega arith) (ap dropped i) s q
 
   -- ---- any other packet
 
@@ -241,7 +237,7 @@ module _ (state rx store out : List ℕ) (h : Header) (i : h ≡ (state_of state
     own_is t x y ch c d e = test-is x t y p.arg1 ch.local.0 d e ∙ ap (λ (z : ChannelId). y && eqb p.arg1 z.local.0) c
 
     abbrev taken : Outcome
-    taken = open_by lent (pending_channel h) received (PacketIs p)
+    taken = open_by lent (pending_channel h) received (Ok p)
 
     module _ (r : Reply) (state' rx' store' out' : List ℕ) where
       pub packet-ready : mine (is_ready p.command) ≡ true
@@ -280,21 +276,21 @@ module _ (state rx store out : List ℕ) (h : Header) (i : h ≡ (state_of state
 
   -- ---- an open goes on
 
-  module _ (received : List ℕ) (found : Received) (e : found ≡ received_by (decode_of received h.negotiated.config.max_payload)) where
-    pub await-packet : (p : Packet) → found ≡ PacketIs p → received_of lent received ≡ PacketIs p
+  module _ (received : List ℕ) (found : Result Packet (Answer × ℕ)) (e : found ≡ received_by (decode_of received h.negotiated.config.max_payload)) where
+    pub await-packet : (p : Packet) → found ≡ Ok p → received_of lent received ≡ Ok p
     await-packet p f = sym (looked-at received found e) ∙ f
 
-    pub await-stops : (a : Answer) (used : ℕ) (later : Header) (r : Reply) (state' : List ℕ) → found ≡ Stop a used → later ≡ still_pending a h → state' ≡ put_header state later
+    pub await-stops : (a : Answer) (used : ℕ) (later : Header) (r : Reply) (state' : List ℕ) → found ≡ Err (a, used) → later ≡ still_pending a h → state' ≡ put_header state later
         → r ≡ record { answer = a; used = used; written = 0 } → Leaves (agreed_in state) (open_by lent (pending_channel h) received (received_of lent received)) 0 state out [] r state' rx store out []
     unfolding open_by
     await-stops a used later r state' f j s q =
         stops-leaves state rx store later (j ∙ ap (still_pending a) i) out [] _ a used r state' (ap (open_by lent (pending_channel h) received) (sym (looked-at received found e) ∙ f)) s q
 
-    pub await-goes : (p : Packet) (r : Reply) (state' rx' store' out' : List ℕ) → found ≡ PacketIs p
-        → Leaves (agreed_in state) (open_by lent (pending_channel h) received (PacketIs p)) 0 state out [] r state' rx' store' out' []
+    pub await-goes : (p : Packet) (r : Reply) (state' rx' store' out' : List ℕ) → found ≡ Ok p
+        → Leaves (agreed_in state) (open_by lent (pending_channel h) received (Ok p)) 0 state out [] r state' rx' store' out' []
         → Leaves (agreed_in state) (open_by lent (pending_channel h) received (received_of lent received)) 0 state out [] r state' rx' store' out' []
     await-goes p r state' rx' store' out' f g =
-        subst (λ (x : Received). Leaves (agreed_in state) (open_by lent (pending_channel h) received x) 0 state out [] r state' rx' store' out' []) (sym (await-packet p f)) g
+        subst (λ (x : Result Packet (Answer × ℕ)). Leaves (agreed_in state) (open_by lent (pending_channel h) received x) 0 state out [] r state' rx' store' out' []) (sym (await-packet p f)) g
 
   -- ---- the step
 

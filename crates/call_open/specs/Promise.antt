@@ -1,11 +1,10 @@
 -- What opening a channel asks and promises. Assumes nothing.
-use Rattle.std.specs.Prelude.{◌≡◌, true, List, [], length, ℕ}
+use Rattle.std.specs.Prelude.{◌≡◌, true, List, [], length, ℕ, Option, Some, None, Result, Ok, Err}
 use Rattle.protocol.specs.Packet.{Puts}
 use Rattle.slot.specs.Slot.{opening_slot, opened_of}
 use Rattle.state.specs.State.{is_ours, state_of, put_header}
 use Rattle.state_whole.specs.Whole.{is_whole}
 use Rattle.table.specs.Table.{allocated}
-use Rattle.connection.specs.declared.Received.TheVariants.{Packet as PacketIs}
 use Rattle.connection.specs.Act.{act_on}
 use Rattle.connection.specs.Calls.{dropped, policy, received_of, body_of, frame_len, open_on, open_readied, open_acted, open_by, open_step, open_outcome}
 use Rattle.connection.specs.Frames.{close_frame, frame_bytes}
@@ -24,7 +23,7 @@ CloseOpenLeaves state out h arg0 r state' out' =
 abbrev pub OpenPacketAsks : List ℕ → List ℕ → List ℕ → List ℕ → List ℕ → Header → Packet → Type 0
 OpenPacketAsks state rx store received out h packet =
     Admits state rx store (length out) × (h ≡ (state_of state).header) × (is_ours h.pending.what ≡ true) ×
-    (received_of (lent_of state rx store) received ≡ PacketIs packet)
+    (received_of (lent_of state rx store) received ≡ (Ok packet))
 
 -- what `open_ready` promises
 abbrev pub OpenReadyLeaves : List ℕ → List ℕ → List ℕ → List ℕ → List ℕ → Header → Packet → Reply → List ℕ → List ℕ → Type 0
@@ -36,7 +35,7 @@ OpenReadyLeaves state rx store received out h packet r state' out' =
 -- what `open_act` asks
 abbrev pub OpenActAsks : List ℕ → List ℕ → List ℕ → List ℕ → List ℕ → Header → Packet → Type 0
 OpenActAsks state rx store received out h packet =
-    Admits state rx store (length out) × (h ≡ (state_of state).header) × (received_of (lent_of state rx store) received ≡ PacketIs packet)
+    Admits state rx store (length out) × (h ≡ (state_of state).header) × (received_of (lent_of state rx store) received ≡ (Ok packet))
 
 -- what `open_act` promises
 abbrev pub OpenActLeaves : List ℕ → List ℕ → List ℕ → List ℕ → List ℕ → Packet → Reply → List ℕ → List ℕ → List ℕ → List ℕ → Type 0
@@ -48,7 +47,7 @@ OpenActLeaves state rx store received out packet r state' rx' store' out' =
 -- what `open_packet` promises
 abbrev pub OpenPacketLeaves : List ℕ → List ℕ → List ℕ → List ℕ → List ℕ → Header → Packet → Reply → List ℕ → List ℕ → List ℕ → List ℕ → Type 0
 OpenPacketLeaves state rx store received out h packet r state' rx' store' out' =
-    Leaves (agreed_in state) (open_by (lent_of state rx store) (pending_channel h) received (PacketIs packet)) 0 state out [] r state' rx' store' out'
+    Leaves (agreed_in state) (open_by (lent_of state rx store) (pending_channel h) received (Ok packet)) 0 state out [] r state' rx' store' out'
     []
 
 -- what `await_open_ack` asks

@@ -11,30 +11,29 @@ ghost use Rattle.call_open.specs.Promise.{OpenLeaves, OpenPacketAsks, OpenPacket
 
 use call::Reply;
 use call::act::act_on;
-use call::admit::{Admitted, admit, drop_pending, refused};
+use call::admit::{admit, drop_pending, refused};
 use call::frames::{put_close, put_open};
 use call::recv::{is_own, recv_pkt, unless_fault};
 use call::store::store_slot;
-use connection::{Answer, Received, Refusal};
+use connection::{Answer, Refusal};
 use protocol::packet::Packet;
+use slot::ChannelSlot;
 use slot::ids::{ChannelIds, RemoteId};
-use slot::{ChannelSlot, Readied};
 use state::{Header, Pending, PendingOpen, put_header};
-use table::{Allocated, ChannelId, allocate, numbered};
+use table::{ChannelId, NoFreeChannels, allocate, numbered};
 
 // A header with a pending open.
 fn pending_for(h: Header, ch: ChannelId) -> Header
     ensures { result ≡ pending_for h ch }
 {
-    let local = ch.local;
-    let pending = PendingOpen {
-        what: Pending::Opening,
-        slot: ch.slot,
-        local,
-    };
-    let mut begun = h;
-    begun.pending = pending;
-    begun
+    Header {
+        pending: PendingOpen {
+            what: Pending::Opening,
+            slot: ch.slot,
+            local: ch.local,
+        },
+        ..h
+    }
 }
 
 // An open stays pending where the answer is waiting, and ends otherwise.
@@ -43,15 +42,7 @@ fn still_pending(answer: Answer, h: Header) -> Header
 {
     match answer {
         Answer::Waiting => h,
-        Answer::Done => drop_pending(h),
-        Answer::Nothing => drop_pending(h),
-        Answer::Opened(_) => drop_pending(h),
-        Answer::Settled(_) => drop_pending(h),
-        Answer::Read(_) => drop_pending(h),
-        Answer::Written(_) => drop_pending(h),
-        Answer::Front(_, _, _, _) => drop_pending(h),
-        Answer::Numbers(_, _, _, _, _) => drop_pending(h),
-        Answer::Refused(_) => drop_pending(h),
+        _ => drop_pending(h),
     }
 }
 
@@ -104,7 +95,7 @@ fn open_ready(
     let opening = ChannelSlot::opening(local);
     let readied = slot_send::accept_open_ready(opening, remote, payload, n.rx_policy());
     match readied {
-        Readied::Slot(slot) => {
+        Ok(slot) => {
             store_slot(state, ch.slot, slot, drop_pending(h));
             Reply {
                 answer: Answer::Opened(ch),
@@ -112,7 +103,7 @@ fn open_ready(
                 written: 0,
             }
         }
-        Readied::Bad(fault) => {
+        Err(fault) => {
             let end = close_open(state, out, h, packet.arg0);
             Reply {
                 answer: Answer::Refused(Refusal::BadCredit(fault)),
@@ -209,7 +200,7 @@ fn await_open_ack(
     let config = n.config;
     let found = recv_pkt(received, config.max_payload);
     match found {
-        Received::Stop(answer, used) => {
+        Err((answer, used)) => {
             put_header(state, still_pending(answer, h));
             Reply {
                 answer,
@@ -217,7 +208,7 @@ fn await_open_ack(
                 written: 0,
             }
         }
-        Received::Packet(packet) => open_packet(state, rx, store, received, out, h, packet),
+        Ok(packet) => open_packet(state, rx, store, received, out, h, packet),
     }
 }
 
@@ -237,11 +228,11 @@ fn open_channel(
     let n = h.negotiated;
     let free = allocate(state, h);
     match free {
-        Allocated::NoFree => {
+        Err(NoFreeChannels) => {
             put_header(state, h);
             refused(Refusal::NoFreeChannels)
         }
-        Allocated::Channel(ch) => {
+        Ok(ch) => {
             let len = destination.len();
             if len > Packet::MAX_PAYLOAD as usize {
                 put_header(state, numbered(h));
@@ -297,7 +288,7 @@ pub fn open(
 {
     let admitted = admit(state, rx.len(), store.len(), out.len());
     match admitted {
-        Admitted::No(refusal) => refused(refusal),
-        Admitted::Yes(h) => open_step(state, rx, store, destination, received, out, h),
+        Err(refusal) => refused(refusal),
+        Ok(h) => open_step(state, rx, store, destination, received, out, h),
     }
 }

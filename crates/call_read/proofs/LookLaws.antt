@@ -13,10 +13,6 @@ use Rattle.config.specs.Negotiated.{policy_of}
 use Rattle.config.proofs.Laws.{and-true}
 use Rattle.protocol.specs.declared.packet.Packet.{Packet}
 use Rattle.slot.specs.declared.ChannelSlot.{ChannelSlot}
-use Rattle.slot.specs.declared.Failed.{Failed}
-use Rattle.slot.specs.declared.PendingAck.TheVariants.{Nothing as NoAck}
-use Rattle.slot.specs.declared.Taken.{Taken}
-use Rattle.slot.specs.declared.Taken.TheVariants.{Data, Nothing as NothingTaken, Closed as ClosedTaken}
 use Rattle.slot.specs.Slot.{empty_slot, is_ack, has_data, closed_slot, delivered_of, settled_of, taken_of, SlotOk}
 use Rattle.slot.specs.Ids.{closed_by}
 use Rattle.slot.proofs.Laws.{cond-true, cond-false}
@@ -34,7 +30,6 @@ use Rattle.table.specs.Table.{slot_in}
 use Rattle.rx_store.proofs.ShareLaws.{share_in}
 use Rattle.connection.specs.declared.Answer.{Answer}
 use Rattle.connection.specs.declared.Answer.TheVariants.{Refused}
-use Rattle.connection.specs.declared.Received.TheVariants.{Packet as PacketIs}
 use Rattle.connection.specs.declared.Refusal.TheVariants.{ChannelClosed}
 use Rattle.call.specs.declared.Reply.{Reply}
 use Rattle.call.specs.declared.act.ActedOn.{ActedOn}
@@ -50,6 +45,9 @@ use Rattle.connection.proofs.Sending.{Rests, quiet, same, clear, some, Acts, act
 use Rattle.connection.proofs.Slots.{slots-by, slot-set-same}
 use Rattle.connection.proofs.WholeAct.{ActedKeeps, acted-keeps}
 use Rattle.connection.proofs.WholeWork.{WorkWhole, At, at_slot, at-act, there-live, there-at, Long}
+use Rattle.slot.specs.declared.ChannelFault.{ChannelFault}
+use Rattle.std.specs.Prelude.{Option, Some, None, Result, Ok, Err}
+use Rattle.slot.specs.declared.ChannelError.{ChannelError}
 
 -- ---- slots and queued opens after some work, read from the bytes
 
@@ -66,7 +64,7 @@ module _ (state rx store : List ℕ) (y : Bytes state) (e : is_whole state ≡ t
 
 -- ---- small facts
 
-empty-data : {s : ChannelSlot} {room : ℕ} (x : Taken) → Taking s room x → x ≡ NothingTaken → has_data s ≡ false
+empty-data : {s : ChannelSlot} {room : ℕ} (x : Result (Option (ChannelSlot × ℕ)) ChannelError) → Taking s room x → x ≡ Ok None → has_data s ≡ false
 empty-data x (took u k h) e = absurd (true≢false (sym (ap is_nothing e)))
 empty-data x (nothing h) e = h
 empty-data x (shut r) e = absurd (true≢false (sym (ap is_nothing e)))
@@ -78,7 +76,7 @@ no_frames n (f ∷ fs) e = absurd (true≢false e)
 
 -- ---- what is behind some work
 
-module _ (ch : ChannelId) (cap used : ℕ) (fault : Failed) (w : Work) (c : Connection) where
+module _ (ch : ChannelId) (cap used : ℕ) (fault : Option ChannelFault) (w : Work) (c : Connection) where
   abbrev next : Lent
   next = record { state = c; rx = w.rx; store = w.store }
 
@@ -96,12 +94,12 @@ module _ (ch : ChannelId) (cap used : ℕ) (fault : Failed) (w : Work) (c : Conn
         store = refl;
       }
 
-  reread-behind : (s : ChannelSlot) (fs : List Frame) (x : Taken)
+  reread-behind : (s : ChannelSlot) (fs : List Frame) (x : Result (Option (ChannelSlot × ℕ)) ChannelError)
       → Behind w (reread ch cap used fault (then w [] fs) s x) (reread ch cap used fault (then (begun w.header next) [] fs) s x)
   unfolding reread
-  reread-behind s fs (Data t k) = ends-behind (slot_to ch.slot t ∷ []) fs _ _
-  reread-behind s fs NothingTaken = ends-behind (slot_to ch.slot s ∷ []) fs _ _
-  reread-behind s fs (ClosedTaken e) = ends-behind (slot_to ch.slot s ∷ []) fs _ _
+  reread-behind s fs (Ok (Some (t, k))) = ends-behind (slot_to ch.slot t ∷ []) fs _ _
+  reread-behind s fs (Ok None) = ends-behind (slot_to ch.slot s ∷ []) fs _ _
+  reread-behind s fs (Err e) = ends-behind (slot_to ch.slot s ∷ []) fs _ _
 
 -- ---- the state that a packet meets
 
@@ -224,7 +222,7 @@ module _ (state rx store out : List ℕ) (h : Header) (ch : ChannelId) (s : Chan
         (subst (λ (x : List ℕ). ActsOn h.negotiated (act_on h (state_of x).slots (state_of x).queue rx store p payload) at x out r b₂ rx₂ store₂ out₂) e g))
 
     -- nothing of the channel's is buffered, so settling it again acknowledges nothing
-    silent-slot : (settled_of s (policy_of h.negotiated) room).ack ≡ NoAck
+    silent-slot : (settled_of s (policy_of h.negotiated) room).ack ≡ None
     silent-slot =
         let c = look-live in
         let z = no-data s c.remote (empty-data (taken_of s room) (taking s room) k.nothing) in
@@ -300,7 +298,7 @@ module _ (state rx store out : List ℕ) (h : Header) (ch : ChannelId) (s : Chan
           let fs = ack_frames S.slot S.ack in
           let cap = (policy_of n).rx_cap in
           let q₁ = subst (λ (x : Header). Leaves x.negotiated (again_of (lent_of b₂ rx₂ store₂) x ch room used r.fault (settled_of (slot_at b₂ i) (policy_of x.negotiated) room)) r.end b₂ out₂ buf rep state' rx₂ store₂ out' buf') g.header_is q in
-          let q₂ = subst (λ (x : Failed). Leaves A.header.negotiated (again_of (lent_of b₂ rx₂ store₂) A.header ch room used x (settled_of (slot_at b₂ i) (policy_of A.header.negotiated) room)) r.end b₂ out₂ buf rep state' rx₂ store₂ out' buf') g.fault-is q₁ in
+          let q₂ = subst (λ (x : Option ChannelFault). Leaves A.header.negotiated (again_of (lent_of b₂ rx₂ store₂) A.header ch room used x (settled_of (slot_at b₂ i) (policy_of A.header.negotiated) room)) r.end b₂ out₂ buf rep state' rx₂ store₂ out' buf') g.fault-is q₁ in
           let q₃ = subst (λ (x : ChannelSlot). Leaves A.header.negotiated (again_of (lent_of b₂ rx₂ store₂) A.header ch room used A.fault (settled_of x (policy_of A.header.negotiated) room)) r.end b₂ out₂ buf rep state' rx₂ store₂ out' buf') (slot₂ b₂ g.state-is) q₂ in
           let q₄ = subst (λ (x : Negotiated). Leaves x (reread ch (policy_of x).rx_cap used A.fault (then (begun A.header (lent_of b₂ rx₂ store₂)) [] (ack_frames (settled_of t (policy_of x) room).slot (settled_of t (policy_of x) room).ack)) (settled_of t (policy_of x) room).slot (taken_of (settled_of t (policy_of x) room).slot room)) r.end b₂ out₂ buf rep state' rx₂ store₂ out' buf') agreed₂ q₃ in
           let b = reread-behind ch cap used A.fault w₂ (state_of b₂) S.slot fs (taken_of S.slot room) in
@@ -311,7 +309,7 @@ module _ (state rx store out : List ℕ) (h : Header) (ch : ChannelId) (s : Chan
 
   -- ---- the packet that a read looks at
 
-  module _ (received : List ℕ) (p : Packet) (e : received_of l received ≡ PacketIs p) where
+  module _ (received : List ℕ) (p : Packet) (e : received_of l received ≡ (Ok p)) where
     pub look-packet : PacketRoom received n.config.max_payload p
     unfolding received_of
     look-packet = packet-room received n.config.max_payload (received_of l received) p refl e
@@ -323,7 +321,7 @@ module _ (state rx store out : List ℕ) (h : Header) (ch : ChannelId) (s : Chan
 
     module _ (payload : List ℕ) (f : payload ≡ body_of received p) (buf : List ℕ) (b : length buf ≡ room) (rep : Reply) (state' rx' store' out' buf' : List ℕ) where
       abbrev o : Outcome
-      o = read_by l ch room (begun h l) s received (PacketIs p)
+      o = read_by l ch room (begun h l) s received (Ok p)
 
       -- the reader's own
       pub look-direct : is_direct s room p ≡ true

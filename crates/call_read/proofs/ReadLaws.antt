@@ -1,4 +1,6 @@
 -- What reading's functions cite. Assumes nothing.
+use Rattle.std.specs.declared.ops.ControlFlow.{ControlFlow}
+use Rattle.std.specs.declared.ops.ControlFlow.TheVariants.{Break, Continue}
 use mathlib.Core.Path.{◌≡◌, refl, sym, ap, subst, ◌∙◌}
 use mathlib.Core.Bool.{true, false, ◌&&◌}
 use mathlib.Core.List.{List, [], ◌∷◌}
@@ -17,10 +19,7 @@ use Rattle.protocol.specs.Packet.{Puts}
 use Rattle.protocol.specs.Command.{is_write}
 use Rattle.slot.specs.declared.ChannelError.{ChannelError}
 use Rattle.slot.specs.declared.ChannelSlot.{ChannelSlot}
-use Rattle.slot.specs.declared.Failed.{Failed}
 use Rattle.slot.specs.declared.Settled.{Settled as SettledSlot}
-use Rattle.slot.specs.declared.Taken.{Taken}
-use Rattle.slot.specs.declared.Taken.TheVariants.{Data, Nothing as NothingTaken, Closed as ClosedTaken}
 use Rattle.slot.specs.Slot.{is_ack, delivered_of, settled_of, taken_of, SlotOk}
 use Rattle.slot.proofs.Kept.{settled-sound, TakenSound, taken-sound}
 use Rattle.state.specs.declared.Header.{Header}
@@ -31,8 +30,6 @@ use Rattle.connection.specs.declared.Answer.{Answer}
 use Rattle.connection.specs.declared.Answer.TheVariants.{Waiting, Read, Refused}
 use Rattle.connection.specs.declared.Refusal.{Refusal}
 use Rattle.call.specs.declared.Reply.{Reply}
-use Rattle.call_read.specs.declared.Tried.{Tried}
-use Rattle.call_read.specs.declared.Tried.TheVariants.{Replied, Nothing}
 use Rattle.connection.specs.Calls.{Lent, Outcome, begun, then, ends, ack_frames, error_refusal, unless_fault, body_of, reread, is_direct, read_direct}
 use Rattle.rx_store.specs.RxStore.{ShareFits, front_of}
 use Rattle.connection.specs.Frames.{frames_bytes}
@@ -42,10 +39,12 @@ use Rattle.connection.proofs.Decoding.{PacketRoom}
 use Rattle.call.proofs.FrameLaws.{ack-room}
 use Rattle.rx_store.proofs.ShareLaws.{front-short}
 use Rattle.call.proofs.LeaveLaws.{Did, did-begun, did_then, did-frames, did-slot, did-ends, did-stops}
+use Rattle.slot.specs.declared.ChannelFault.{ChannelFault}
+use Rattle.std.specs.Prelude.{Option, Some, None, Result, Ok, Err}
 
 -- ---- settling and taking
 
-module _ (h : Header) (ch : ChannelId) (used : ℕ) (fault : Failed) (at : ℕ) (state rx store out buf : List ℕ) (s₀ : ChannelSlot) (p : RxPolicy) (set : SettledSlot)
+module _ (h : Header) (ch : ChannelId) (used : ℕ) (fault : Option ChannelFault) (at : ℕ) (state rx store out buf : List ℕ) (s₀ : ChannelSlot) (p : RxPolicy) (set : SettledSlot)
     (se : s₀ ≡ slot_at state ch.slot) (pe : p ≡ policy_of h.negotiated) (te : set ≡ settled_of s₀ p (length buf))
     (g : TakeRoom h.negotiated state rx out ch.slot at (length buf)) where
   abbrev n : Negotiated
@@ -72,7 +71,7 @@ module _ (h : Header) (ch : ChannelId) (used : ℕ) (fault : Failed) (at : ℕ) 
       subst (λ (x : SettledSlot). SlotOk x.slot p.rx_cap) (sym set_is)
       (subst (λ (x : RxPolicy). SlotOk S.slot x.rx_cap) (sym pe) (settled-sound (slot_at state ch.slot) (policy_of n) room (policy_of n).rx_cap g.sound))
 
-  pub take-room-is : (x : Taken) (t : ChannelSlot) (len : ℕ) → x ≡ taken_of set.slot room → x ≡ Data t len
+  pub take-room-is : (x : Result (Option (ChannelSlot × ℕ)) ChannelError) (t : ChannelSlot) (len : ℕ) → x ≡ taken_of set.slot room → x ≡ Ok (Some (t, len))
       → ShareFits ch.slot p.rx_cap (length rx) × (set.slot.head + len ≤ 2 * p.rx_cap) × (len ≤ room)
   take-room-is x t len e f =
       let k = subst (TakenSound set.slot room p.rx_cap) (sym e ∙ f) (taken-sound set.slot room p.rx_cap set-sound) in
@@ -90,7 +89,7 @@ module _ (h : Header) (ch : ChannelId) (used : ℕ) (fault : Failed) (at : ℕ) 
         subst (λ (x : SettledSlot). Did n (then (begun h lent) [] (ack_frames x.slot x.ack)) at state out state rx store out' end) set_is
         (did-frames n at state out (begun h lent) state rx store out at (did-begun n at state out h lent g.at-fits) (ack_frames set.slot set.ack) out' end puts most)
 
-    pub tries-nothing : (x : Taken) → x ≡ taken_of set.slot room → x ≡ NothingTaken → Tries lent h ch room used fault S at state out buf (Nothing set.slot end) state out' buf
+    pub tries-nothing : (x : Result (Option (ChannelSlot × ℕ)) ChannelError) → x ≡ taken_of set.slot room → x ≡ Ok None → Tries lent h ch room used fault S at state out buf (Continue (set.slot, end)) state out' buf
     tries-nothing x e f =
         let z = puts.end_is in
         let m = most in
@@ -103,15 +102,15 @@ module _ (h : Header) (ch : ChannelId) (used : ℕ) (fault : Failed) (at : ℕ) 
           buf-is = refl;
         }
 
-    again-is : (x : Taken) → x ≡ taken_of set.slot room
+    again-is : (x : Result (Option (ChannelSlot × ℕ)) ChannelError) → x ≡ taken_of set.slot room
         → again_of lent h ch room used fault S ≡ reread ch (policy_of n).rx_cap used fault (then (begun h lent) [] (ack_frames S.slot S.ack)) S.slot x
     unfolding again_of
     again-is x e =
         ap (reread ch (policy_of n).rx_cap used fault (then (begun h lent) [] (ack_frames S.slot S.ack)) S.slot) (ap (λ (y : SettledSlot). taken_of y.slot room) (sym set_is) ∙ sym e)
 
-    pub tries-closed : (x : Taken) (why : ChannelError) (a : Answer) (refusal : Refusal) (state' : List ℕ) → x ≡ taken_of set.slot room → x ≡ ClosedTaken why
+    pub tries-closed : (x : Result (Option (ChannelSlot × ℕ)) ChannelError) (why : ChannelError) (a : Answer) (refusal : Refusal) (state' : List ℕ) → x ≡ taken_of set.slot room → x ≡ Err why
         → refusal ≡ error_refusal why → a ≡ unless_fault fault (Refused refusal) → state' ≡ put_header (put_slot state ch.slot set.slot) h
-        → Tries lent h ch room used fault S at state out buf (Replied (record { answer = a; used = used; written = end })) state' out' buf
+        → Tries lent h ch room used fault S at state out buf (Break (record { answer = a; used = used; written = end })) state' out' buf
     unfolding reread
     tries-closed x why a refusal state' e f g q s =
         let w = did-slot n at state out _ _ _ _ _ _ written ch.slot S.slot (put_slot state ch.slot S.slot) refl in
@@ -123,9 +122,9 @@ module _ (h : Header) (ch : ChannelId) (used : ℕ) (fault : Failed) (at : ℕ) 
               (ap (λ (y : Answer). record { answer = y; used = used; written = end }) (q ∙ ap (λ (y : Refusal). unless_fault fault (Refused y)) g))),
         )
 
-    pub tries-data : (x : Taken) (t : ChannelSlot) (len : ℕ) (state' buf' : List ℕ) → x ≡ taken_of set.slot room → x ≡ Data t len
+    pub tries-data : (x : Result (Option (ChannelSlot × ℕ)) ChannelError) (t : ChannelSlot) (len : ℕ) (state' buf' : List ℕ) → x ≡ taken_of set.slot room → x ≡ Ok (Some (t, len))
         → buf' ≡ put buf 0 (front_of rx p.rx_cap ch.slot set.slot.head len) → state' ≡ put_header (put_slot state ch.slot t) h
-        → Tries lent h ch room used fault S at state out buf (Replied (record { answer = Read len; used = used; written = end })) state' out' buf'
+        → Tries lent h ch room used fault S at state out buf (Break (record { answer = Read len; used = used; written = end })) state' out' buf'
     unfolding reread
     tries-data x t len state' buf' e f b s =
         let w = did-slot n at state out _ _ _ _ _ _ written ch.slot t (put_slot state ch.slot t) refl in
@@ -142,16 +141,16 @@ module _ (h : Header) (ch : ChannelId) (used : ℕ) (fault : Failed) (at : ℕ) 
 
 -- ---- the same behind a packet
 
-module _ (l : Lent) (h : Header) (ch : ChannelId) (room used : ℕ) (fault : Failed) (s : SettledSlot) (at : ℕ) (state out buf : List ℕ) (x : Tried) (state' out' buf' : List ℕ)
+module _ (l : Lent) (h : Header) (ch : ChannelId) (room used : ℕ) (fault : Option ChannelFault) (s : SettledSlot) (at : ℕ) (state out buf : List ℕ) (x : ControlFlow Reply (ChannelSlot × ℕ)) (state' out' buf' : List ℕ)
     (g : Tries l h ch room used fault s at state out buf x state' out' buf') where
-  pub replied : (r : Reply) → x ≡ Replied r
+  pub replied : (r : Reply) → x ≡ (Break r)
       → (is_nothing (taken_of s.slot room) ≡ false) × Leaves h.negotiated (again_of l h ch room used fault s) at state out buf r state' l.rx l.store out' buf'
-  replied r e = subst (λ (y : Tried). Tries l h ch room used fault s at state out buf y state' out' buf') e g
+  replied r e = subst (λ (y : ControlFlow Reply (ChannelSlot × ℕ)). Tries l h ch room used fault s at state out buf y state' out' buf') e g
 
-  pub empty : (t : ChannelSlot) (end : ℕ) → x ≡ Nothing t end → Empty h.negotiated s room at state out buf t end state' out' buf'
-  empty t end e = subst (λ (y : Tried). Tries l h ch room used fault s at state out buf y state' out' buf') e g
+  pub empty : (t : ChannelSlot) (end : ℕ) → x ≡ (Continue (t, end)) → Empty h.negotiated s room at state out buf t end state' out' buf'
+  empty t end e = subst (λ (y : ControlFlow Reply (ChannelSlot × ℕ)). Tries l h ch room used fault s at state out buf y state' out' buf') e g
 
-module _ (h : Header) (ch : ChannelId) (used : ℕ) (fault : Failed) (at : ℕ) (state rx store out buf : List ℕ) (s : SettledSlot) where
+module _ (h : Header) (ch : ChannelId) (used : ℕ) (fault : Option ChannelFault) (at : ℕ) (state rx store out buf : List ℕ) (s : SettledSlot) where
   pub again-waits : (t : ChannelSlot) (end : ℕ) (a : Answer) (state₁ state' out' buf' : List ℕ) → Empty h.negotiated s (length buf) at state out buf t end state₁ out' buf'
       → state' ≡ put_header (put_slot state₁ ch.slot t) h → a ≡ unless_fault fault Waiting
       → Leaves h.negotiated (again_of (lent_of state rx store) h ch (length buf) used fault s) at state out buf (record { answer = a; used = used; written = end }) state' rx store out' buf'
@@ -167,7 +166,7 @@ module _ (h : Header) (ch : ChannelId) (used : ℕ) (fault : Failed) (at : ℕ) 
       let w = did-frames n at state out (begun h l) state rx store out at (did-begun n at state out h l (omega arith)) fs out' end p (omega arith) in
       let w₁ = did-slot n at state out _ _ _ _ _ _ w ch.slot s.slot (put_slot state ch.slot s.slot) refl in
       subst (λ (y : List ℕ). Leaves n (again_of l h ch (length buf) used fault s) at state out buf r state' rx store out' y) (sym e.buf-is)
-      (subst (λ (y : Taken). Leaves n (reread ch (policy_of n).rx_cap used fault (then (begun h l) [] fs) s.slot y) at state out buf r state' rx store out' buf) (sym e.nothing)
+      (subst (λ (y : Result (Option (ChannelSlot × ℕ)) ChannelError). Leaves n (reread ch (policy_of n).rx_cap used fault (then (begun h l) [] fs) s.slot y) at state out buf r state' rx store out' buf) (sym e.nothing)
       (did-stops n at state out _ _ _ _ _ _ w₁ buf state' h _ used r refl
       (g ∙ ap (λ (y : List ℕ). put_header (put_slot y ch.slot t) h) e.state-is ∙ ap (λ (y : ChannelSlot). put_header (put_slot state ch.slot y) h) e.slot_is)
       (ap (λ (y : Answer). record { answer = y; used = used; written = end }) q)))

@@ -11,11 +11,7 @@ use Rattle.config.specs.Negotiated.{policy_of}
 use Rattle.protocol.specs.declared.packet.Packet.{Packet}
 use Rattle.protocol.specs.Packet.{decode_of, Puts}
 use Rattle.slot.specs.declared.ChannelSlot.{ChannelSlot}
-use Rattle.slot.specs.declared.Failed.{Failed}
-use Rattle.slot.specs.declared.Failed.TheVariants.{No}
 use Rattle.slot.specs.declared.Settled.{Settled as SettledSlot}
-use Rattle.slot.specs.declared.Taken.{Taken}
-use Rattle.slot.specs.declared.Taken.TheVariants.{Data, Nothing as NothingTaken, Closed as ClosedTaken}
 use Rattle.slot.specs.Ids.{closed_by}
 use Rattle.slot.specs.Slot.{settled_of, taken_of, SlotOk}
 use Rattle.slot.proofs.Laws.{cond-true, cond-false}
@@ -27,8 +23,6 @@ use Rattle.table.specs.Table.{slot_in}
 use Rattle.rx_store.proofs.ShareLaws.{share_in}
 use Rattle.connection.specs.declared.Answer.{Answer}
 use Rattle.connection.specs.declared.Answer.TheVariants.{Refused}
-use Rattle.connection.specs.declared.Received.{Received}
-use Rattle.connection.specs.declared.Received.TheVariants.{Packet as PacketIs, Stop}
 use Rattle.connection.specs.declared.Refusal.TheVariants.{ChannelClosed}
 use Rattle.call.specs.declared.Reply.{Reply}
 use Rattle.connection.specs.Act.{Acted, act_on}
@@ -42,6 +36,9 @@ use Rattle.call.proofs.FrameLaws.{ack-room}
 use Rattle.call.proofs.LeaveLaws.{did-begun, did-frames, did-slot, did-stops, Behind, leaves-on}
 use Rattle.call_read.proofs.LookLaws.{look-live}
 use Rattle.call.proofs.ThereLaws.{place-fits, slot_is, lives}
+use Rattle.slot.specs.declared.ChannelFault.{ChannelFault}
+use Rattle.std.specs.Prelude.{Option, Some, None, Result, Ok, Err}
+use Rattle.slot.specs.declared.ChannelError.{ChannelError}
 
 -- ---- what the first settling wrote stands before all else
 
@@ -52,20 +49,20 @@ module _ (l : Lent) (ch : ChannelId) (room : ℕ) (h : Header) (fs : List Frame)
   frames-after : (gs ks : List Frame) → fs ++ [] ++ gs ++ ks ++ [] ≡ fs ++ (gs ++ ks ++ [])
   frames-after gs ks = simp (append_assoc, append-nil)
 
-  reread-after : (used : ℕ) (fault : Failed) (a : Acted) (t : SettledSlot) (x : Taken)
+  reread-after : (used : ℕ) (fault : Option ChannelFault) (a : Acted) (t : SettledSlot) (x : Result (Option (ChannelSlot × ℕ)) ChannelError)
       → Behind w (reread ch (policy l).rx_cap used fault (then (then_acted (then w (slot_to ch.slot s ∷ []) []) a) [] (ack_frames t.slot t.ack)) t.slot x)
       (reread ch (policy l).rx_cap used fault (then (then_acted (then (begun h l) (slot_to ch.slot s ∷ []) []) a) [] (ack_frames t.slot t.ack)) t.slot x)
   unfolding reread ends
-  reread-after used fault a t (Data u k) = record { answer = refl; used = refl; frames = frames-after a.frames (ack_frames t.slot t.ack); handed = refl; changes = refl; rx = refl; store = refl }
-  reread-after used fault a t NothingTaken =
+  reread-after used fault a t (Ok (Some (u, k))) = record { answer = refl; used = refl; frames = frames-after a.frames (ack_frames t.slot t.ack); handed = refl; changes = refl; rx = refl; store = refl }
+  reread-after used fault a t (Ok None) =
       record { answer = refl; used = refl; frames = frames-after a.frames (ack_frames t.slot t.ack); handed = refl; changes = refl; rx = refl; store = refl }
-  reread-after used fault a t (ClosedTaken e) =
+  reread-after used fault a t (Err e) =
       record { answer = refl; used = refl; frames = frames-after a.frames (ack_frames t.slot t.ack); handed = refl; changes = refl; rx = refl; store = refl }
 
-  pub read_behind : (x : Received) → Behind w (read_by l ch room w s received x) (read_by l ch room (begun h l) s received x)
+  pub read_behind : (x : Result Packet (Answer × ℕ)) → Behind w (read_by l ch room w s received x) (read_by l ch room (begun h l) s received x)
   unfolding read_by read_direct read_acted read_settled ends
-  read_behind (Stop a used) = record { answer = refl; used = refl; frames = refl; handed = refl; changes = refl; rx = refl; store = refl }
-  read_behind (PacketIs p) =
+  read_behind (Err (a, used)) = record { answer = refl; used = refl; frames = refl; handed = refl; changes = refl; rx = refl; store = refl }
+  read_behind (Ok p) =
       let a = act_on h (set l.state.slots ch.slot s) l.state.queue l.rx l.store p (body_of received p) in
       let again = settled_of (slot_in (changed_all l.state (slot_to ch.slot s ∷ a.changes)).slots ch.slot) (policy l) room in
       both (is_direct s room p) (λ t. record { answer = refl; used = refl; frames = refl; handed = refl; changes = refl; rx = refl; store = refl })
@@ -77,20 +74,20 @@ module _ (l : Lent) (ch : ChannelId) (room : ℕ) (h : Header) (fs : List Frame)
       both false f g = g refl
 
   -- where something was there, no packet is looked at
-  pub taken_is : (x : Taken) → is_nothing x ≡ false → reread ch (policy l).rx_cap 0 No w s x ≡ read_taken l ch room w s received x
+  pub taken_is : (x : Result (Option (ChannelSlot × ℕ)) ChannelError) → is_nothing x ≡ false → reread ch (policy l).rx_cap 0 None w s x ≡ read_taken l ch room w s received x
   unfolding reread read_taken unless_fault
-  taken_is (Data t k) e = refl
-  taken_is NothingTaken e = absurd (true≢false e)
-  taken_is (ClosedTaken e₁) e = refl
+  taken_is (Ok (Some (t, k))) e = refl
+  taken_is (Ok None) e = absurd (true≢false e)
+  taken_is (Err e₁) e = refl
 
 -- ---- the packet
 
 module _ (state rx store out : List ℕ) (h : Header) (ch : ChannelId) (s : ChannelSlot) (room at : ℕ) (a : Admits state rx store (length out)) (k : Looks (lent_of state rx store) h ch s room at)
-    (received : List ℕ) (found : Received) (e : found ≡ received_by (decode_of received h.negotiated.config.max_payload)) where
-  pub found-is : (x : Received) → found ≡ x → received_of (lent_of state rx store) received ≡ x
+    (received : List ℕ) (found : Result Packet (Answer × ℕ)) (e : found ≡ received_by (decode_of received h.negotiated.config.max_payload)) where
+  pub found-is : (x : Result Packet (Answer × ℕ)) → found ≡ x → received_of (lent_of state rx store) received ≡ x
   found-is x f = sym (received_is state rx store h (ap (λ (y : Header). y.negotiated) k.header_is) received found e) ∙ f
 
-  pub look-stops : (ans : Answer) (used : ℕ) (buf : List ℕ) (rep : Reply) (state' : List ℕ) → found ≡ Stop ans used → state' ≡ put_header (put_slot state ch.slot s) h
+  pub look-stops : (ans : Answer) (used : ℕ) (buf : List ℕ) (rep : Reply) (state' : List ℕ) → found ≡ Err (ans, used) → state' ≡ put_header (put_slot state ch.slot s) h
       → rep ≡ record { answer = ans; used = used; written = at }
       → Leaves (agreed_in state) (read_by (lent_of state rx store) ch room (begun h (lent_of state rx store)) s received (received_of (lent_of state rx store) received)) at state out buf rep state' rx store out buf
   unfolding read_by
@@ -100,15 +97,15 @@ module _ (state rx store out : List ℕ) (h : Header) (ch : ChannelId) (s : Chan
       let small = k.at_small in
       let big = a.room in
       let w = did-slot n at state out (begun h l) state rx store out at (did-begun n at state out h l (omega arith)) ch.slot s (put_slot state ch.slot s) refl in
-      subst (λ (x : Received). Leaves n (read_by l ch room (begun h l) s received x) at state out buf rep state' rx store out buf) (sym (found-is (Stop ans used) f))
+      subst (λ (x : Result Packet (Answer × ℕ)). Leaves n (read_by l ch room (begun h l) s received x) at state out buf rep state' rx store out buf) (sym (found-is (Err (ans, used)) f))
       (did-stops n at state out _ _ _ _ _ _ w buf state' h ans used rep refl g r)
 
-  pub look-found : (p : Packet) (buf : List ℕ) (rep : Reply) (state' rx' store' out' buf' : List ℕ) → found ≡ PacketIs p
-      → Leaves (agreed_in state) (read_by (lent_of state rx store) ch room (begun h (lent_of state rx store)) s received (PacketIs p)) at state out buf rep state' rx' store' out' buf'
+  pub look-found : (p : Packet) (buf : List ℕ) (rep : Reply) (state' rx' store' out' buf' : List ℕ) → found ≡ Ok p
+      → Leaves (agreed_in state) (read_by (lent_of state rx store) ch room (begun h (lent_of state rx store)) s received (Ok p)) at state out buf rep state' rx' store' out' buf'
       → Leaves (agreed_in state) (read_by (lent_of state rx store) ch room (begun h (lent_of state rx store)) s received (received_of (lent_of state rx store) received)) at state out buf rep state' rx' store' out' buf'
   look-found p buf rep state' rx' store' out' buf' f q =
       let l = lent_of state rx store in
-      subst (λ (x : Received). Leaves (agreed_in state) (read_by l ch room (begun h l) s received x) at state out buf rep state' rx' store' out' buf') (sym (found-is (PacketIs p) f)) q
+      subst (λ (x : Result Packet (Answer × ℕ)). Leaves (agreed_in state) (read_by l ch room (begun h l) s received x) at state out buf rep state' rx' store' out' buf') (sym (found-is (Ok p) f)) q
 
 -- ---- the first settling and taking
 
@@ -155,15 +152,15 @@ module _ (state rx store out : List ℕ) (h : Header) (ch : ChannelId) (buf rece
 
   -- something was there
   pub first-replied : (rep : Reply) (state' out' buf' : List ℕ)
-      → (is_nothing (taken_of S₀.slot room) ≡ false) × Leaves h.negotiated (again_of l h ch room 0 No S₀) 0 state out buf rep state' rx store out' buf'
+      → (is_nothing (taken_of S₀.slot room) ≡ false) × Leaves h.negotiated (again_of l h ch room 0 None S₀) 0 state out buf rep state' rx store out' buf'
       → Leaves n (read_first l ch room received S) 0 state out buf rep state' rx store out' buf'
   unfolding read_first again_of
   first-replied rep state' out' buf' q =
       let fs = ack_frames S.slot S.ack in
       let e₁ = ap (λ (x : SettledSlot). is_nothing (taken_of x.slot room)) (sym settled_is) ∙ q.0 in
-      let q₁ = subst (λ (x : SettledSlot). Leaves h.negotiated (again_of l h ch room 0 No x) 0 state out buf rep state' rx store out' buf') settled_is q.1 in
-      let q₂ : Leaves n (again_of l (dropped (state_of state).header) ch room 0 No S) 0 state out buf rep state' rx store out' buf' =
-      subst (λ (x : Header). Leaves x.negotiated (again_of l x ch room 0 No S) 0 state out buf rep state' rx store out' buf') hi q₁ in
+      let q₁ = subst (λ (x : SettledSlot). Leaves h.negotiated (again_of l h ch room 0 None x) 0 state out buf rep state' rx store out' buf') settled_is q.1 in
+      let q₂ : Leaves n (again_of l (dropped (state_of state).header) ch room 0 None S) 0 state out buf rep state' rx store out' buf' =
+      subst (λ (x : Header). Leaves x.negotiated (again_of l x ch room 0 None S) 0 state out buf rep state' rx store out' buf') hi q₁ in
       subst (λ (x : Outcome). Leaves n x 0 state out buf rep state' rx store out' buf') (taken_is l ch room (dropped (state_of state).header) fs S.slot received (taken_of S.slot room) e₁) q₂
 
   module _ (t : ChannelSlot) (end : ℕ) (state₁ out₁ buf₁ : List ℕ) (g : Empty h.negotiated S₀ room 0 state out buf t end state₁ out₁ buf₁) where
@@ -210,7 +207,7 @@ module _ (state rx store out : List ℕ) (h : Header) (ch : ChannelId) (buf rece
         let d = did-frames n 0 state out (begun hd l) state rx store out 0 (did-begun n 0 state out hd l (omega arith)) fs out₁ end p (omega arith) in
         let none = ap (λ (x : SettledSlot). taken_of x.slot room) (sym settled_is) ∙ g.nothing in
         let remote : S.slot.has_remote ≡ true = subst (λ (x : ChannelSlot). x.has_remote ≡ true) te (look-remote state₁ out₁ first-looks.0 k) in
-        subst (λ (x : Taken). Leaves n (read_taken l ch room (then (begun hd l) [] fs) S.slot received x) 0 state out buf rep state' rx' store' out' buf') (sym none)
+        subst (λ (x : Result (Option (ChannelSlot × ℕ)) ChannelError). Leaves n (read_taken l ch room (then (begun hd l) [] fs) S.slot received x) 0 state out buf rep state' rx' store' out' buf') (sym none)
         (subst (λ (x : Outcome). Leaves n x 0 state out buf rep state' rx' store' out' buf') (sym (cond-true S.slot.has_remote _ _ remote))
         (leaves-on n (then (begun hd l) [] fs) _ _ 0 state out state rx store out₁ end buf rep state' rx' store' out' buf' d (read_behind l ch room hd fs S.slot received (received_of l received)) q₄))
       where

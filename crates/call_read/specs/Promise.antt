@@ -1,33 +1,31 @@
 -- What reading asks and promises inside. Assumes nothing.
-use Rattle.std.specs.Prelude.{ℕ, ◌+◌, ◌≤◌, ◌<◌, ◌≡◌, Bool, true, false, List, [], ◌∷◌, length, set}
+use Rattle.std.specs.declared.ops.ControlFlow.{ControlFlow}
+use Rattle.std.specs.declared.ops.ControlFlow.TheVariants.{Break, Continue}
+use Rattle.std.specs.Prelude.{ℕ, ◌+◌, ◌≤◌, ◌<◌, ◌≡◌, Bool, true, false, List, [], ◌∷◌, length, set, Option, Some, None, Result, Ok, Err}
 use Rattle.config.specs.declared.negotiated.Negotiated.{Negotiated}
 use Rattle.config.specs.Config.{Within}
 use Rattle.config.specs.Negotiated.{policy_of}
 use Rattle.protocol.specs.Packet.{Puts}
 use Rattle.rx_store.specs.RxStore.{ShareFits}
 use Rattle.slot.specs.declared.ChannelSlot.{ChannelSlot}
-use Rattle.slot.specs.declared.Failed.{Failed}
 use Rattle.slot.specs.declared.Settled.{Settled}
-use Rattle.slot.specs.declared.Taken.{Taken}
-use Rattle.slot.specs.declared.Taken.TheVariants.{Data, Nothing as NothingTaken, Closed as ClosedTaken}
 use Rattle.slot.specs.Slot.{SlotOk, is_ack, settled_of, taken_of, delivered_of}
 use Rattle.state.specs.declared.Header.{Header}
 use Rattle.state.specs.State.{state_len, slot_at, state_of}
 use Rattle.table.specs.declared.ChannelId.{ChannelId}
-use Rattle.call_read.specs.declared.Tried.{Tried}
-use Rattle.call_read.specs.declared.Tried.TheVariants.{Replied, Nothing}
 use Rattle.connection.specs.Calls.{Lent, Outcome, begun, then, dropped, policy, is_there, slot_for, ack_frames, reread, received_of, read_acted, read_direct, read_by, read_first, read_step, read_outcome}
 use Rattle.connection.specs.Frames.{frames_bytes}
 use Rattle.call.specs.Promise.{Leaves, lent_of, agreed_in, Admits}
 use Rattle.state.specs.Change.{slot_to}
 use Rattle.state_whole.specs.Whole.{is_whole}
-use Rattle.connection.specs.declared.Received.TheVariants.{Packet as PacketIs}
 use Rattle.connection.specs.Act.{act_on, PacketFits}
 use Rattle.call.specs.declared.Reply.{Reply}
 use Rattle.protocol.specs.declared.packet.Packet.{Packet}
+use Rattle.slot.specs.declared.ChannelFault.{ChannelFault}
+use Rattle.slot.specs.declared.ChannelError.{ChannelError}
 
 -- what settling and taking give, behind what was done so far
-unfoldable pub again_of : Lent → Header → ChannelId → ℕ → ℕ → Failed → Settled → Outcome
+unfoldable pub again_of : Lent → Header → ChannelId → ℕ → ℕ → Option ChannelFault → Settled → Outcome
 again_of l h ch room used fault s =
     reread ch (policy_of h.negotiated).rx_cap used fault (then (begun h l) [] (ack_frames s.slot s.ack)) s.slot (taken_of s.slot room)
 
@@ -43,7 +41,7 @@ pub record TakeRoom (n : Negotiated) (state rx out : List ℕ) (i at room : ℕ)
 
 -- nothing was there: only the OKAY was written, and the slot is not stored yet
 pub record Empty (n : Negotiated) (s : Settled) (room at : ℕ) (state out buf : List ℕ) (t : ChannelSlot) (end : ℕ) (state' out' buf' : List ℕ) : Type 0 where
-  pub nothing : taken_of s.slot room ≡ NothingTaken
+  pub nothing : taken_of s.slot room ≡ Ok None
   pub slot_is : t ≡ s.slot
   pub puts : Puts out at (frames_bytes n (ack_frames s.slot s.ack)) end out'
   pub fits : end ≤ length out
@@ -51,24 +49,24 @@ pub record Empty (n : Negotiated) (s : Settled) (room at : ℕ) (state out buf :
   pub buf-is : buf' ≡ buf
 
 -- whether nothing was there
-abbrev pub is_nothing : Taken → Bool
-is_nothing (Data t n) = false
-is_nothing NothingTaken = true
-is_nothing (ClosedTaken e) = false
+abbrev pub is_nothing : Result (Option (ChannelSlot × ℕ)) ChannelError → Bool
+is_nothing (Ok (Some (t, n))) = false
+is_nothing (Ok None) = true
+is_nothing (Err e) = false
 
 -- what it promises: the call's reply, or that nothing was there
-abbrev pub Tries : Lent → Header → ChannelId → ℕ → ℕ → Failed → Settled → ℕ → List ℕ → List ℕ → List ℕ → Tried → List ℕ → List ℕ → List ℕ → Type 0
-Tries l h ch room used fault s at state out buf (Replied r) state' out' buf' =
+abbrev pub Tries : Lent → Header → ChannelId → ℕ → ℕ → Option ChannelFault → Settled → ℕ → List ℕ → List ℕ → List ℕ → (ControlFlow Reply (ChannelSlot × ℕ)) → List ℕ → List ℕ → List ℕ → Type 0
+Tries l h ch room used fault s at state out buf (Break r) state' out' buf' =
     (is_nothing (taken_of s.slot room) ≡ false)
     × Leaves h.negotiated (again_of l h ch room used fault s) at state out buf r state' l.rx l.store out' buf'
-Tries l h ch room used fault s at state out buf (Nothing t end) state' out' buf' = Empty h.negotiated s room at state out buf t end state' out' buf'
+Tries l h ch room used fault s at state out buf (Continue (t, end)) state' out' buf' = Empty h.negotiated s room at state out buf t end state' out' buf'
 
 -- a read that looks at a packet: nothing of the channel's is buffered, and only the first settling's OKAY was written
 pub record Looks (l : Lent) (h : Header) (ch : ChannelId) (s : ChannelSlot) (room at : ℕ) : Type 0 where
   pub header_is : h ≡ dropped l.state.header
   pub there : is_there l ch ≡ true
   pub slot_is : s ≡ (settled_of (slot_for l ch) (policy l) room).slot
-  pub nothing : taken_of s room ≡ NothingTaken
+  pub nothing : taken_of s room ≡ Ok None
   pub at_small : at ≤ 28
 
 -- what `take_buffered` asks
@@ -77,12 +75,12 @@ TakeBufferedAsks state rx ch slot out at buf h =
     TakeRoom h.negotiated state rx out ch.slot at (length buf) × (slot ≡ slot_at state ch.slot)
 
 -- what `take_buffered` promises
-abbrev pub TakeBufferedLeaves : List ℕ → List ℕ → ChannelId → List ℕ → ℕ → List ℕ → Header → ℕ → Failed → Tried → List ℕ → List ℕ → List ℕ → Type 0
+abbrev pub TakeBufferedLeaves : List ℕ → List ℕ → ChannelId → List ℕ → ℕ → List ℕ → Header → ℕ → Option ChannelFault → (ControlFlow Reply (ChannelSlot × ℕ)) → List ℕ → List ℕ → List ℕ → Type 0
 TakeBufferedLeaves state rx ch out at buf h used fault r state' out' buf' =
     ((store : List ℕ) → Tries (lent_of state rx store) h ch (length buf) used fault (settled_of (slot_at state ch.slot) (policy_of h.negotiated) (length buf)) at state out buf r state' out' buf')
 
 -- what `read_again` promises
-abbrev pub ReadAgainLeaves : List ℕ → List ℕ → ChannelId → List ℕ → ℕ → List ℕ → Header → ℕ → Failed → Reply → List ℕ → List ℕ → List ℕ → Type 0
+abbrev pub ReadAgainLeaves : List ℕ → List ℕ → ChannelId → List ℕ → ℕ → List ℕ → Header → ℕ → Option ChannelFault → Reply → List ℕ → List ℕ → List ℕ → Type 0
 ReadAgainLeaves state rx ch out at buf h used fault r state' out' buf' =
     ((store : List ℕ) → Leaves h.negotiated (again_of (lent_of state rx store) h ch (length buf) used fault (settled_of (slot_at state ch.slot) (policy_of h.negotiated) (length buf))) at state out buf r state' rx store out' buf')
 
@@ -112,12 +110,12 @@ ReadOtherLeaves state rx store ch s used packet payload out at buf h r state' rx
 abbrev pub ReadPacketAsks : List ℕ → List ℕ → List ℕ → ChannelId → ChannelSlot → Packet → List ℕ → List ℕ → ℕ → List ℕ → Header → Type 0
 ReadPacketAsks state rx store ch s packet received out at buf h =
     Admits state rx store (length out) × Looks (lent_of state rx store) h ch s (length buf) at ×
-    (received_of (lent_of state rx store) received ≡ PacketIs packet)
+    (received_of (lent_of state rx store) received ≡ (Ok packet))
 
 -- what `read_packet` promises
 abbrev pub ReadPacketLeaves : List ℕ → List ℕ → List ℕ → ChannelId → ChannelSlot → Packet → List ℕ → List ℕ → ℕ → List ℕ → Header → Reply → List ℕ → List ℕ → List ℕ → List ℕ → List ℕ → Type 0
 ReadPacketLeaves state rx store ch s packet received out at buf h r state' rx' store' out' buf' =
-    Leaves (agreed_in state) (read_by (lent_of state rx store) ch (length buf) (begun h (lent_of state rx store)) s received (PacketIs packet)) at state
+    Leaves (agreed_in state) (read_by (lent_of state rx store) ch (length buf) (begun h (lent_of state rx store)) s received (Ok packet)) at state
     out buf r state' rx' store' out' buf'
 
 -- what `read_more` asks

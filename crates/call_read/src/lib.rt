@@ -10,22 +10,20 @@ ghost use Rattle.call_read.specs.Promise.{TakeBufferedAsks, TakeBufferedLeaves, 
 
 use call::Reply;
 use call::act::act_on;
-use call::admit::{Admitted, Found, admit, drop_pending, get, refused};
+use call::admit::{admit, drop_pending, get, refused};
 use call::frames::{ids_in, put_ack};
-use call::recv::{error_refusal, is_own, recv_pkt, unless_fault};
+use call::recv::{is_own, recv_pkt, unless_fault};
 use call::store::store_slot;
-use connection::{Answer, Received, Refusal};
+use connection::{Answer, Refusal};
 use protocol::packet::Packet;
-use slot::{ChannelSlot, Failed, Taken};
+use slot::{ChannelFault, ChannelSlot};
 use state::{Header, put_header, put_slot, slot_at};
+use std::ops::ControlFlow;
 use table::ChannelId;
 
-#[derive(Clone, Copy)]
-pub enum Tried {
-    Replied(Reply),
-    // Nothing is there: the slot as settled, which is not stored yet, and the place past the frames.
-    Nothing(ChannelSlot, usize),
-}
+// What a try to take came to: the call's end, or nothing is there. Then the slot as settled, which is not stored yet, and the place past
+// the frames.
+pub type Tried = ControlFlow<Reply, (ChannelSlot, usize)>;
 
 // Settles what the reader's buffer takes, writes the OKAY that is due, and takes it.
 fn take_buffered(
@@ -38,7 +36,7 @@ fn take_buffered(
     buf: &mut [u8],
     h: Header,
     used: usize,
-    fault: Failed,
+    fault: Option<ChannelFault>,
 ) -> Tried
     requires { TakeBufferedAsks state.old rx.now ch slot out.old at buf.old h }
     ensures { TakeBufferedLeaves state.old rx.now ch out.old at buf.old h
@@ -53,19 +51,19 @@ fn take_buffered(
     let end = put_ack(out, at, n, s, ack);
     let taken = slot_receive::take_buffered(s, buf.len(), policy.rx_cap);
     match taken {
-        Taken::Nothing => Tried::Nothing(s, end),
-        Taken::Closed(error) => {
+        Ok(None) => ControlFlow::Continue((s, end)),
+        Err(error) => {
             store_slot(state, i, s, h);
-            Tried::Replied(Reply {
-                answer: unless_fault(fault, Answer::Refused(error_refusal(error))),
+            ControlFlow::Break(Reply {
+                answer: unless_fault(fault, Answer::Refused(Refusal::from(error))),
                 used,
                 written: end,
             })
         }
-        Taken::Data(t, len) => {
+        Ok(Some((t, len))) => {
             rx_store::hand_over(rx, i, policy.rx_cap, s.head as usize, len, buf);
             store_slot(state, i, t, h);
-            Tried::Replied(Reply {
+            ControlFlow::Break(Reply {
                 answer: Answer::Read(len),
                 used,
                 written: end,
@@ -84,7 +82,7 @@ fn read_again(
     buf: &mut [u8],
     h: Header,
     used: usize,
-    fault: Failed,
+    fault: Option<ChannelFault>,
 ) -> Reply
     requires { TakeRoom h.negotiated state.old rx.now out.old ch.slot at (length buf.old) }
     ensures { ReadAgainLeaves state.old rx.now ch out.old at buf.old h used
@@ -93,8 +91,8 @@ fn read_again(
     let slot = slot_at(state, ch.slot);
     let tried = take_buffered(state, rx, ch, slot, out, at, buf, h, used, fault);
     match tried {
-        Tried::Replied(reply) => reply,
-        Tried::Nothing(s, end) => {
+        ControlFlow::Break(reply) => reply,
+        ControlFlow::Continue((s, end)) => {
             store_slot(state, ch.slot, s, h);
             Reply {
                 answer: unless_fault(fault, Answer::Waiting),
@@ -109,12 +107,7 @@ fn read_again(
 fn is_direct(s: ChannelSlot, room: usize, packet: Packet) -> bool
     ensures { result ≡ is_direct s room packet }
 {
-    let command = packet.command;
-    let local = s.local;
-    if is_own(command.is_write(), packet.arg1, local) {
-        return packet.data_length <= room;
-    }
-    false
+    is_own(packet.command.is_write(), packet.arg1, s.local) && packet.data_length <= room
 }
 
 // Such a WRTE goes straight to the reader, and is never counted as unacknowledged.
@@ -233,7 +226,7 @@ fn read_more(
     let config = n.config;
     let found = recv_pkt(received, config.max_payload);
     match found {
-        Received::Stop(answer, used) => {
+        Err((answer, used)) => {
             store_slot(state, ch.slot, s, h);
             Reply {
                 answer,
@@ -241,9 +234,7 @@ fn read_more(
                 written: at,
             }
         }
-        Received::Packet(packet) => {
-            read_packet(state, rx, store, ch, s, packet, received, out, at, buf, h)
-        }
+        Ok(packet) => { read_packet(state, rx, store, ch, s, packet, received, out, at, buf, h) }
     }
 }
 
@@ -264,10 +255,12 @@ fn read_channel(
         out.old buf.old result state.new rx.new store.new out.new
         buf.new }
 {
-    let tried = take_buffered(state, rx, ch, slot, out, 0, buf, h, 0, Failed::No);
+    let tried = take_buffered(state, rx, ch, slot, out, 0, buf, h, 0, None);
     match tried {
-        Tried::Replied(reply) => reply,
-        Tried::Nothing(s, at) => read_more(state, rx, store, ch, s, received, out, at, buf, h),
+        ControlFlow::Break(reply) => reply,
+        ControlFlow::Continue((s, at)) => read_more(
+            state, rx, store, ch, s, received, out, at, buf, h,
+        ),
     }
 }
 
@@ -290,8 +283,8 @@ fn read_step(
     let config = n.config;
     let found = get(state, config.channels, ch);
     match found {
-        Found::Slot(slot) => read_channel(state, rx, store, ch, slot, received, out, buf, h),
-        Found::Nothing => {
+        Some(slot) => read_channel(state, rx, store, ch, slot, received, out, buf, h),
+        None => {
             put_header(state, h);
             refused(Refusal::ChannelClosed)
         }
@@ -314,7 +307,7 @@ pub fn read(
 {
     let admitted = admit(state, rx.len(), store.len(), out.len());
     match admitted {
-        Admitted::No(refusal) => refused(refusal),
-        Admitted::Yes(h) => read_step(state, rx, store, ch, received, out, buf, drop_pending(h)),
+        Err(refusal) => refused(refusal),
+        Ok(h) => read_step(state, rx, store, ch, received, out, buf, drop_pending(h)),
     }
 }

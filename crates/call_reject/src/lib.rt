@@ -8,7 +8,7 @@ ghost use Rattle.call.specs.Promise.{Admits};
 ghost use Rattle.call_reject.specs.Promise.{NoneOfferedLeaves, RejectOnLeaves, RejectStepLeaves, RejectLeaves};
 
 use call::Reply;
-use call::admit::{Admitted, admit, drop_pending, refused};
+use call::admit::{admit, drop_pending, refused};
 use call::frames::put_close;
 use connection::Answer;
 use slot::ids::{ChannelIds, LocalId, RemoteId};
@@ -73,7 +73,7 @@ pub fn reject(state: &mut [u8], rx: &[u8], store: &[u8], out: &mut [u8]) -> Repl
 {
     let admitted = admit(state, rx.len(), store.len(), out.len());
     match admitted {
-        Admitted::No(refusal) => refused(refusal),
-        Admitted::Yes(h) => reject_step(state, rx, store, out, h),
+        Err(refusal) => refused(refusal),
+        Ok(h) => reject_step(state, rx, store, out, h),
     }
 }

@@ -6,7 +6,7 @@ ghost use Rattle.call.specs.Promise.{Begins};
 ghost use Rattle.call_settle.specs.Promise.{SettleLeaves, SettleStepLeaves};
 
 use call::Reply;
-use call::admit::{Admitted, Found, admit, drop_pending, get, refused};
+use call::admit::{admit, drop_pending, get, refused};
 use call::frames::put_ack;
 use call::store::store_slot;
 use connection::{Answer, Refusal};
@@ -30,7 +30,7 @@ fn settle_step(
     let config = n.config;
     let found = get(state, config.channels, ch);
     match found {
-        Found::Slot(s) => {
+        Some(s) => {
             let settled = slot_receive::settle_take(s, want, n.rx_policy());
             let left = settled.slot;
             let ack = settled.ack;
@@ -42,7 +42,7 @@ fn settle_step(
                 written: end,
             }
         }
-        Found::Nothing => {
+        None => {
             put_header(state, h);
             refused(Refusal::ChannelClosed)
         }
@@ -63,7 +63,7 @@ pub fn settle(
 {
     let admitted = admit(state, rx.len(), store.len(), out.len());
     match admitted {
-        Admitted::No(refusal) => refused(refusal),
-        Admitted::Yes(h) => settle_step(state, rx, store, ch, want, out, drop_pending(h)),
+        Err(refusal) => refused(refusal),
+        Ok(h) => settle_step(state, rx, store, ch, want, out, drop_pending(h)),
     }
 }

@@ -1,43 +1,37 @@
 -- The call that finds the shortest stretch (docs/SCOPE.md, 14), and what it promises. Assumes nothing.
-use Rattle.std.specs.Prelude.{ℕ, ◌≡◌, Bool, true, false, cond, ◌||◌, List, [], ◌∷◌, ltb, length, take, drop}
+use Rattle.refusal.specs.Refusal.{found_number_of}
+use Rattle.std.specs.Prelude.{ℕ, ◌≡◌, Bool, true, false, cond, ◌||◌, List, [], ◌∷◌, ltb, length, take, drop, Option, Some, None, Result, Ok, Err}
 use Rattle.state.specs.State.{state_len}
 use Rattle.connection.specs.declared.Refusal.TheVariants.{StoreShort}
 use Rattle.connection.specs.Answer.{refusal_number}
-use Rattle.call.specs.declared.admit.Admitted.{Admitted}
-use Rattle.call.specs.declared.admit.Admitted.TheVariants.{Yes, No}
 use Rattle.call.specs.Promise.{admitted}
-use Rattle.stretch.specs.declared.Found.{Found}
-use Rattle.stretch.specs.declared.Found.TheVariants.{Frames as FoundFrames, Nothing as NoneFound}
 use Rattle.stretch.specs.Stretch.{World, world_of, shortest_of}
-use Rattle.call_stretch.specs.declared.Stretched.{Stretched}
-use Rattle.call_stretch.specs.declared.Stretched.TheVariants.{Frames, Nothing, Refused}
+use Rattle.state.specs.declared.Header.{Header}
+use Rattle.connection.specs.declared.Refusal.{Refusal}
 
 -- ---- the answer
 
 -- 0 for a stretch, 101 for none, a refusal's own
-unfoldable pub stretched_number : Stretched → ℕ
-stretched_number (Frames first count) = 0
-stretched_number Nothing = 101
-stretched_number (Refused refusal) = refusal_number refusal
+abbrev pub stretched_number : Result (Option (ℕ × ℕ)) Refusal → ℕ
+stretched_number = found_number_of refusal_number 101
 
 -- the first frame's place and the count, 0 where there is none
-unfoldable pub stretched_values : Stretched → List ℕ
-stretched_values (Frames first count) = first ∷ count ∷ 0 ∷ 0 ∷ []
-stretched_values Nothing = 0 ∷ 0 ∷ 0 ∷ 0 ∷ []
-stretched_values (Refused refusal) = 0 ∷ 0 ∷ 0 ∷ 0 ∷ []
+unfoldable pub stretched_values : Result (Option (ℕ × ℕ)) Refusal → List ℕ
+stretched_values (Ok (Some (first, count))) = first ∷ count ∷ 0 ∷ 0 ∷ []
+stretched_values (Ok None) = 0 ∷ 0 ∷ 0 ∷ 0 ∷ []
+stretched_values (Err refusal) = 0 ∷ 0 ∷ 0 ∷ 0 ∷ []
 
 -- it is a refusal
-unfoldable pub is_refused : Stretched → Bool
-is_refused (Frames first count) = false
-is_refused Nothing = false
-is_refused (Refused refusal) = true
+unfoldable pub is_refused : Result (Option (ℕ × ℕ)) Refusal → Bool
+is_refused (Ok (Some (first, count))) = false
+is_refused (Ok None) = false
+is_refused (Err refusal) = true
 
 -- ---- the call
 
 -- what a search found
-unfoldable pub found_as : Found → Stretched
-found_as (FoundFrames first count) = Frames first count
-found_as NoneFound = Nothing
+abbrev pub found_as : Option (ℕ × ℕ) → Result (Option (ℕ × ℕ)) Refusal
+found_as found = Ok found
 
 -- a state's own bytes, without those that are lent behind them
 abbrev pub own_bytes : List ℕ → List ℕ
@@ -48,17 +42,17 @@ unfoldable pub spare_short : ℕ → ℕ → ℕ → ℕ → Bool
 spare_short rx store spare_rx spare_store = ltb spare_rx rx || ltb spare_store store
 
 -- 8 for a spare store, else the shortest stretch from this state; the spare stores' lengths
-unfoldable pub looked_at : World → List ℕ → ℕ → ℕ → Stretched
+unfoldable pub looked_at : World → List ℕ → ℕ → ℕ → Result (Option (ℕ × ℕ)) Refusal
 looked_at w received spare_rx spare_store =
-    cond (spare_short (length w.rx) (length w.store) spare_rx spare_store) (Refused StoreShort) (found_as (shortest_of w received))
+    cond (spare_short (length w.rx) (length w.store) spare_rx spare_store) (Err StoreShort) (found_as (shortest_of w received))
 
 -- 13 and 8 first, as of every call
-unfoldable pub stretched_by : Admitted → Stretched → Stretched
-stretched_by (No refusal) s = Refused refusal
-stretched_by (Yes h) s = s
+unfoldable pub stretched_by : Result Header Refusal → Result (Option (ℕ × ℕ)) Refusal → Result (Option (ℕ × ℕ)) Refusal
+stretched_by (Err refusal) s = Err refusal
+stretched_by (Ok h) s = s
 
 -- the call: state and stores, received bytes, the spare stores' lengths
-unfoldable pub stretch_of : List ℕ → List ℕ → List ℕ → List ℕ → ℕ → ℕ → Stretched
+unfoldable pub stretch_of : List ℕ → List ℕ → List ℕ → List ℕ → ℕ → ℕ → Result (Option (ℕ × ℕ)) Refusal
 stretch_of state rx store received spare_rx spare_store =
     stretched_by (admitted state (length rx) (length store) 56) (looked_at (world_of (own_bytes state) rx store) received spare_rx spare_store)
 
@@ -70,18 +64,18 @@ pub record Spares (n : ℕ) (refused : Bool) (before after : List ℕ) : Type 0 
   pub kept : refused ≡ true → after ≡ before
 
 -- the answer, and both spare stores; state and stores are lent to be looked at
-pub record Looks (s : Stretched) (rx store : ℕ) (spare_rx spare_store : List ℕ) (r : Stretched) (spare_rx₂ spare_store₂ : List ℕ) : Type 0 where
+pub record Looks (s : Result (Option (ℕ × ℕ)) Refusal) (rx store : ℕ) (spare_rx spare_store : List ℕ) (r : Result (Option (ℕ × ℕ)) Refusal) (spare_rx₂ spare_store₂ : List ℕ) : Type 0 where
   pub answer-is : r ≡ s
   pub rx-spared : Spares rx (is_refused s) spare_rx spare_rx₂
   pub store-spared : Spares store (is_refused s) spare_store spare_store₂
 
 -- what `stretch` promises
-abbrev pub StretchLooks : List ℕ → List ℕ → List ℕ → List ℕ → List ℕ → List ℕ → Stretched → List ℕ → List ℕ → Type 0
+abbrev pub StretchLooks : List ℕ → List ℕ → List ℕ → List ℕ → List ℕ → List ℕ → Result (Option (ℕ × ℕ)) Refusal → List ℕ → List ℕ → Type 0
 StretchLooks state rx store received spare_rx spare_store r spare_rx₂ spare_store₂ =
     Looks (stretch_of state rx store received (length spare_rx) (length spare_store)) (length rx) (length store) spare_rx spare_store r spare_rx₂ spare_store₂
 
 -- what `look` promises: of stores of these lengths
-abbrev pub LookLooks : List ℕ → ℕ → ℕ → List ℕ → List ℕ → List ℕ → Stretched → List ℕ → List ℕ → Type 0
+abbrev pub LookLooks : List ℕ → ℕ → ℕ → List ℕ → List ℕ → List ℕ → Result (Option (ℕ × ℕ)) Refusal → List ℕ → List ℕ → Type 0
 LookLooks state rx store received spare_rx spare_store r spare_rx₂ spare_store₂ =
     (rx₀ store₀ : List ℕ) → length rx₀ ≡ rx → length store₀ ≡ store
     → Looks (looked_at (world_of (own_bytes state) rx₀ store₀) received (length spare_rx) (length spare_store)) rx store spare_rx spare_store r spare_rx₂ spare_store₂

@@ -6,48 +6,26 @@ ghost use Rattle.std.specs.Prelude.{◌≡◌, ◌≤◌, length};
 ghost use Rattle.state.specs.State.{state_len};
 ghost use Rattle.call_stretch.specs.Promise.{stretched_number, found_as, spare_short, LookLooks, StretchLooks};
 
-use call::admit::{Admitted, admit};
+use call::admit::admit;
 use connection::Refusal;
+use refusal::found_number_of;
 use state::STATE_LEN;
-use stretch::{Found, shortest};
+use stretch::{Stretch, shortest};
 
-#[derive(Clone, Copy)]
-pub enum Stretched {
-    // The first frame's place, from 0, and the count.
-    Frames(usize, usize),
-    // The frames end in no refusal that counts.
-    Nothing,
-    Refused(Refusal),
-}
+// The first frame's place, from 0, and the count; none where the frames end in no refusal that counts.
+pub type Stretched = Result<Option<Stretch>, Refusal>;
 
-impl Stretched {
-    pub fn number(self) -> u32
-        ensures { result ≡ stretched_number self }
-    {
-        match self {
-            Stretched::Frames(_, _) => 0,
-            Stretched::Nothing => 101,
-            Stretched::Refused(refusal) => refusal.number(),
-        }
-    }
-}
-
-fn found_as(found: Found) -> Stretched
-    ensures { result ≡ found_as found }
+// The number of the answer (docs/SCOPE.md, 6): a refusal's own, 101 for none.
+pub fn stretched_number(stretched: Stretched) -> u32
+    ensures { result ≡ stretched_number stretched }
 {
-    match found {
-        Found::Frames(first, count) => Stretched::Frames(first, count),
-        Found::Nothing => Stretched::Nothing,
-    }
+    found_number_of(stretched, 101)
 }
 
 fn is_spare_short(rx: usize, store: usize, spare_rx: usize, spare_store: usize) -> bool
     ensures { result ≡ spare_short rx store spare_rx spare_store }
 {
-    if spare_rx < rx {
-        return true;
-    }
-    spare_store < store
+    spare_rx < rx || spare_store < store
 }
 
 // The search, in as much of the spare stores as the stores have.
@@ -64,7 +42,7 @@ fn look(
         spare_store.old result spare_rx.new spare_store.new }
 {
     if is_spare_short(rx, store, spare_rx.len(), spare_store.len()) {
-        return Stretched::Refused(Refusal::StoreShort);
+        return Err(Refusal::StoreShort);
     }
     let found = shortest(
         &state[..STATE_LEN],
@@ -72,7 +50,7 @@ fn look(
         &mut spare_store[..store],
         received,
     );
-    found_as(found)
+    Ok(found)
 }
 
 // The fewest neighbouring frames, of those that dispatch refuses at their end, that end in the same refusal. Nothing pending ends.
@@ -87,16 +65,13 @@ pub fn stretch(
     ensures { StretchLooks state.now rx.now store.now received.now
         spare_rx.old spare_store.old result spare_rx.new spare_store.new }
 {
-    let admitted = admit(state, rx.len(), store.len(), 56);
-    match admitted {
-        Admitted::No(refusal) => Stretched::Refused(refusal),
-        Admitted::Yes(_) => look(
-            state,
-            rx.len(),
-            store.len(),
-            received,
-            spare_rx,
-            spare_store,
-        ),
-    }
+    admit(state, rx.len(), store.len(), 56)?;
+    look(
+        state,
+        rx.len(),
+        store.len(),
+        received,
+        spare_rx,
+        spare_store,
+    )
 }

@@ -10,8 +10,6 @@ use Rattle.config.specs.Config.{cap_of}
 use Rattle.config.specs.Negotiated.{policy_of}
 use Rattle.slot.specs.declared.ChannelError.{ChannelError}
 use Rattle.slot.specs.declared.ChannelSlot.{ChannelSlot}
-use Rattle.slot.specs.declared.Taken.{Taken}
-use Rattle.slot.specs.declared.Taken.TheVariants.{Data, Nothing as NothingTaken, Closed as ClosedTaken}
 use Rattle.slot.specs.Slot.{SlotOk, taken_of}
 use Rattle.slot.proofs.Kept.{TakenSound, taken-sound}
 use Rattle.slot.proofs.Laws.{cond-true, cond-false}
@@ -29,6 +27,7 @@ use Rattle.call.specs.Promise.{lent_of, agreed_in, Leaves, Admits}
 use Rattle.call.proofs.AdmitLaws.{admits-stores}
 use Rattle.call.proofs.LeaveLaws.{did-begun, did-slot, did-ends, stops-leaves}
 use Rattle.call.proofs.ThereLaws.{place-fits, lives}
+use Rattle.std.specs.Prelude.{Option, Some, None, Result, Ok, Err}
 
 module _ (state rx store : List ℕ) (room : ℕ) (h : Header) (i : h ≡ dropped (state_of state).header) (g : Admits state rx store room) (ch : ChannelId)
     (e : is_there (lent_of state rx store) ch ≡ true) where
@@ -53,19 +52,19 @@ module _ (state rx store : List ℕ) (room : ℕ) (h : Header) (i : h ≡ droppe
         subst (λ (x : ChannelSlot). SlotOk x cap) (sym a)
         (subst (SlotOk (slot_for lent ch)) (sym cap-is) (lives state rx store h i room g ch e).ok)
 
-    module _ (buf : List ℕ) (taken : Taken) (d : taken ≡ taken_of s (length buf)) where
-      step_is : (x : Taken) → taken ≡ x → take_step lent ch (length buf) ≡ taken_by lent ch s (begun head lent) x
+    module _ (buf : List ℕ) (taken : Result (Option (ChannelSlot × ℕ)) ChannelError) (d : taken ≡ taken_of s (length buf)) where
+      step_is : (x : Result (Option (ChannelSlot × ℕ)) ChannelError) → taken ≡ x → take_step lent ch (length buf) ≡ taken_by lent ch s (begun head lent) x
       unfolding take_step
       step_is x f =
           cond-true (is_there lent ch) _ _ e
           ∙ ap (λ (y : ChannelSlot). taken_by lent ch y (begun head lent) (taken_of y (length buf))) (sym a)
           ∙ ap (taken_by lent ch s (begun head lent)) (sym d ∙ f)
 
-      sound : (t : ChannelSlot) (len : ℕ) → taken ≡ Data t len → SlotOk t cap × (len ≤ length buf) × (len ≤ s.buffered)
+      sound : (t : ChannelSlot) (len : ℕ) → taken ≡ Ok (Some (t, len)) → SlotOk t cap × (len ≤ length buf) × (len ≤ s.buffered)
       sound t len f = subst (TakenSound s (length buf) cap) (sym d ∙ f) (taken-sound s (length buf) cap take-ok)
 
       -- what handing over asks
-      pub hand-room : (t : ChannelSlot) (len : ℕ) → taken ≡ Data t len
+      pub hand-room : (t : ChannelSlot) (len : ℕ) → taken ≡ Ok (Some (t, len))
           → ShareFits ch.slot cap (length rx) × (s.head + len ≤ 2 * cap) × (len ≤ length buf)
       hand-room t len f =
           let k = sound t len f in
@@ -78,7 +77,7 @@ module _ (state rx store : List ℕ) (room : ℕ) (h : Header) (i : h ≡ droppe
           let u = share_in ch.slot (agreed_in state).config.channels (2 * cap) (length rx) v y in
           (u, omega arith, k₁)
 
-      pub take-data : (t : ChannelSlot) (len : ℕ) (r : Reply) (buf' state₁ : List ℕ) → taken ≡ Data t len → buf' ≡ put buf 0 (front_of rx cap ch.slot s.head len)
+      pub take-data : (t : ChannelSlot) (len : ℕ) (r : Reply) (buf' state₁ : List ℕ) → taken ≡ Ok (Some (t, len)) → buf' ≡ put buf 0 (front_of rx cap ch.slot s.head len)
           → state₁ ≡ put_header (put_slot state ch.slot t) h → r ≡ record { answer = Read len; used = 0; written = 0 }
           → Leaves (agreed_in state) (take_step lent ch (length buf)) 0 state [] buf r state₁ rx store [] buf'
       unfolding taken_by
@@ -88,21 +87,21 @@ module _ (state rx store : List ℕ) (room : ℕ) (h : Header) (i : h ≡ droppe
           let w₁ = did-slot n 0 state [] _ _ _ _ _ _ w ch.slot t (put_slot state ch.slot t) refl in
           let c = front-short rx (policy lent).rx_cap ch.slot s.head len in
           let y = (sound t len f).1 in
-          subst (λ (x : Outcome). Leaves n x 0 state [] buf r state₁ rx store [] buf') (sym (step_is (Data t len) f))
+          subst (λ (x : Outcome). Leaves n x 0 state [] buf r state₁ rx store [] buf') (sym (step_is (Ok (Some (t, len))) f))
           (did-ends n 0 state [] _ _ _ _ _ _ w₁ buf buf' state₁ h (Read len) 0 (front_of rx (policy lent).rx_cap ch.slot s.head len) r i k z
           (m ∙ ap (λ (x : ℕ). put buf 0 (front_of rx x ch.slot s.head len)) cap-is) (omega arith))
 
-      pub take-nothing : (r : Reply) (state₁ : List ℕ) → taken ≡ NothingTaken → state₁ ≡ put_header state h → r ≡ record { answer = Nothing; used = 0; written = 0 }
+      pub take-nothing : (r : Reply) (state₁ : List ℕ) → taken ≡ Ok None → state₁ ≡ put_header state h → r ≡ record { answer = Nothing; used = 0; written = 0 }
           → Leaves (agreed_in state) (take_step lent ch (length buf)) 0 state [] buf r state₁ rx store [] buf
       unfolding taken_by
-      take-nothing r state₁ f k z = stops-leaves state rx store h i [] buf _ Nothing 0 r state₁ (step_is NothingTaken f) k z
+      take-nothing r state₁ f k z = stops-leaves state rx store h i [] buf _ Nothing 0 r state₁ (step_is (Ok None) f) k z
 
-      pub take-closed : (x : ChannelError) (why : Refusal) (r : Reply) (state₁ : List ℕ) → taken ≡ ClosedTaken x → why ≡ error_refusal x → state₁ ≡ put_header state h
+      pub take-closed : (x : ChannelError) (why : Refusal) (r : Reply) (state₁ : List ℕ) → taken ≡ Err x → why ≡ error_refusal x → state₁ ≡ put_header state h
           → r ≡ record { answer = Refused why; used = 0; written = 0 } → Leaves (agreed_in state) (take_step lent ch (length buf)) 0 state [] buf r state₁ rx store [] buf
       unfolding taken_by
       take-closed x why r state₁ f y k z =
           stops-leaves state rx store h i [] buf _ (Refused why) 0 r state₁
-          (step_is (ClosedTaken x) f ∙ ap (λ (v : Refusal). ends (begun head lent) (Refused v) 0 []) (sym y)) k z
+          (step_is (Err x) f ∙ ap (λ (v : Refusal). ends (begun head lent) (Refused v) 0 []) (sym y)) k z
 
 -- ---- not there
 

@@ -5,11 +5,10 @@ ghost use Rattle.call.specs.Promise.{Begins, BeginsOn};
 ghost use Rattle.call_take.specs.Promise.{TakeLeaves, TakeStepLeaves, TakeThereLeaves};
 
 use call::Reply;
-use call::admit::{Admitted, Found, admit, drop_pending, get, refused};
-use call::recv::error_refusal;
+use call::admit::{admit, drop_pending, get, refused};
 use call::store::store_slot;
 use connection::{Answer, Refusal};
-use slot::{ChannelSlot, Taken};
+use slot::ChannelSlot;
 use state::{Header, put_header};
 use table::ChannelId;
 
@@ -32,7 +31,7 @@ fn take_there(
     let cap = config.rx_cap();
     let taken = slot_receive::take_buffered(s, buf.len(), cap);
     match taken {
-        Taken::Data(rest, len) => {
+        Ok(Some((rest, len))) => {
             rx_store::hand_over(rx, ch.slot, cap, s.head as usize, len, buf);
             store_slot(state, ch.slot, rest, h);
             Reply {
@@ -41,7 +40,7 @@ fn take_there(
                 written: 0,
             }
         }
-        Taken::Nothing => {
+        Ok(None) => {
             put_header(state, h);
             Reply {
                 answer: Answer::Nothing,
@@ -49,9 +48,9 @@ fn take_there(
                 written: 0,
             }
         }
-        Taken::Closed(error) => {
+        Err(error) => {
             put_header(state, h);
-            refused(error_refusal(error))
+            refused(Refusal::from(error))
         }
     }
 }
@@ -72,8 +71,8 @@ fn take_step(
     let config = n.config;
     let found = get(state, config.channels, ch);
     match found {
-        Found::Slot(s) => take_there(state, rx, store, ch, s, buf, h),
-        Found::Nothing => {
+        Some(s) => take_there(state, rx, store, ch, s, buf, h),
+        None => {
             put_header(state, h);
             refused(Refusal::ChannelClosed)
         }
@@ -87,7 +86,7 @@ pub fn take(state: &mut [u8], rx: &[u8], store: &[u8], ch: ChannelId, buf: &mut 
 {
     let admitted = admit(state, rx.len(), store.len(), 56);
     match admitted {
-        Admitted::No(refusal) => refused(refusal),
-        Admitted::Yes(h) => take_step(state, rx, store, ch, buf, drop_pending(h)),
+        Err(refusal) => refused(refusal),
+        Ok(h) => take_step(state, rx, store, ch, buf, drop_pending(h)),
     }
 }

@@ -9,8 +9,6 @@ use lib.Dec.{T, eqb, leb}
 use lib.ListN.{length, take, get_or}
 use borrow.Author.Tests.{ltb-true, eqb-false}
 use Rattle.config.proofs.Laws.{and-true}
-use Rattle.incoming.specs.declared.Front.{Front}
-use Rattle.incoming.specs.declared.Front.TheVariants.{Open as FrontOpen, Nothing as NoFront}
 use Rattle.incoming.specs.Incoming.{popped, QueueOk}
 use Rattle.slot.proofs.Kept.{pick}
 use Rattle.state.specs.declared.Header.{Header}
@@ -28,6 +26,7 @@ use Rattle.call.specs.Promise.{lent_of, agreed_in, Leaves, Admits}
 use Rattle.call.proofs.AdmitLaws.{admits-dropped}
 use Rattle.call.proofs.FrameLaws.{puts_none}
 use Rattle.call.proofs.LeaveLaws.{did-begun, did_then, did-stops, stops-leaves}
+use Rattle.std.specs.Prelude.{Option, Some, None, Result, Ok, Err}
 
 -- ---- the queue's front
 
@@ -39,23 +38,23 @@ first-share channels payload (suc n) (q ∷ os) k l e =
     ltb-true q.share channels (and-true (leb q.length payload) _ (and-true (queued_fine channels payload q) _ e).0).1
 
 -- its share is one of the store's
-abbrev ShareBelow : ℕ → Front → Type 0
-ShareBelow n (FrontOpen q less) = q.share < n
-ShareBelow n NoFront = Unit {0}
+abbrev ShareBelow : ℕ → Option (QueuedOpen × Header) → Type 0
+ShareBelow n (Some (q, less)) = q.share < n
+ShareBelow n None = Unit {0}
 
 -- where none is queued, nothing changes
-abbrev Still : Step Front → Type 0
-Still x = x.result ≡ NoFront → x.changes ≡ []
+abbrev Still : Step (Option (QueuedOpen × Header)) → Type 0
+Still x = x.result ≡ None → x.changes ≡ []
 
-abbrev is_none : Front → Bool
-is_none (FrontOpen q less) = false
-is_none NoFront = true
+abbrev is_none : Option (QueuedOpen × Header) → Bool
+is_none (Some (q, less)) = false
+is_none None = true
 
 module _ (h : Header) (os : List QueuedOpen) where
   popped-below : (channels payload : ℕ) → length os ≡ 64 → queue_fine channels payload (take h.queued os) ≡ true → ShareBelow channels (popped h os).result
   unfolding popped
   popped-below channels payload l e =
-      pick (λ (x : Step Front). ShareBelow channels x.result) (eqb h.queued 0) (λ t. tt)
+      pick (λ (x : Step (Option (QueuedOpen × Header))). ShareBelow channels x.result) (eqb h.queued 0) (λ t. tt)
       (λ t. let k = eqb-false h.queued 0 t in first-share channels payload h.queued os (omega arith) (omega arith) e)
 
   popped-still : Still (popped h os)
@@ -74,9 +73,9 @@ module _ (state rx store : List ℕ) (h : Header) (i : h ≡ dropped (state_of s
   pub queue-ok : QueueOk h (length state)
   queue-ok = record { state-long = g.state-fits; most-channels = facts.limits.within.most-channels; queue-fits = facts.header.queue-fits }
 
-  module _ (front : Front) (state₁ : List ℕ) (s : Steps (popped h (state_of state).queue) state front state₁) where
+  module _ (front : Option (QueuedOpen × Header)) (state₁ : List ℕ) (s : Steps (popped h (state_of state).queue) state front state₁) where
     -- its destination's place is a number of 64 bits
-    pub front-place : (q : QueuedOpen) (less : Header) → front ≡ FrontOpen q less → q.share * h.negotiated.config.max_payload ≤ 64 * 1_048_576
+    pub front-place : (q : QueuedOpen) (less : Header) → front ≡ Some (q, less) → q.share * h.negotiated.config.max_payload ≤ 64 * 1_048_576
     front-place q less e =
         let b : q.share < h.negotiated.config.channels =
         subst (ShareBelow h.negotiated.config.channels) (sym s.result-is ∙ e)
@@ -86,26 +85,26 @@ module _ (state rx store : List ℕ) (h : Header) (i : h ≡ dropped (state_of s
         let m : q.share * h.negotiated.config.max_payload ≤ 64 * h.negotiated.config.max_payload = mul-le-mul_right h.negotiated.config.max_payload (omega arith) in
         omega arith
 
-    told : (x : Front) → front ≡ x → (popped h (state_of state).queue).result ≡ x
+    told : (x : Option (QueuedOpen × Header)) → front ≡ x → (popped h (state_of state).queue).result ≡ x
     told x e = sym s.result-is ∙ e
 
-    step_is : (x : Front) → front ≡ x → take_front_step lent ≡ take_front_by lent h (popped h (state_of state).queue).changes x
+    step_is : (x : Option (QueuedOpen × Header)) → front ≡ x → take_front_step lent ≡ take_front_by lent h (popped h (state_of state).queue).changes x
     unfolding take_front_step
     step_is x e =
         ap (λ (y : Header). take_front_by lent y (popped y (state_of state).queue).changes (popped y (state_of state).queue).result) (sym i)
         ∙ ap (take_front_by lent h (popped h (state_of state).queue).changes) (told x e)
 
     -- none is queued
-    pub front-none : (r : Reply) (state₂ : List ℕ) → front ≡ NoFront → state₂ ≡ put_header state₁ h → r ≡ record { answer = Nothing; used = 0; written = 0 }
+    pub front-none : (r : Reply) (state₂ : List ℕ) → front ≡ None → state₂ ≡ put_header state₁ h → r ≡ record { answer = Nothing; used = 0; written = 0 }
         → Leaves (agreed_in state) (take_front_step lent) 0 state [] [] r state₂ rx store [] []
     unfolding take_front_by
     front-none r state₂ e p q =
-        let z : state₁ ≡ state = s.state-is ∙ ap (put_all state) (popped-still h (state_of state).queue (told NoFront e)) in
+        let z : state₁ ≡ state = s.state-is ∙ ap (put_all state) (popped-still h (state_of state).queue (told None e)) in
         stops-leaves state rx store h i [] [] (take_front_step lent) Nothing 0 r state₂
-        (step_is NoFront e ∙ ap (λ (x : Header). ends (begun x lent) Nothing 0 []) i) (p ∙ ap (λ (x : List ℕ). put_header x h) z) q
+        (step_is None e ∙ ap (λ (x : Header). ends (begun x lent) Nothing 0 []) i) (p ∙ ap (λ (x : List ℕ). put_header x h) z) q
 
     -- the first is taken, the others have moved up
-    pub front-some : (q : QueuedOpen) (less : Header) (r : Reply) (state₂ : List ℕ) → front ≡ FrontOpen q less → state₂ ≡ put_header state₁ less
+    pub front-some : (q : QueuedOpen) (less : Header) (r : Reply) (state₂ : List ℕ) → front ≡ Some (q, less) → state₂ ≡ put_header state₁ less
         → r ≡ record { answer = FrontIs q.remote q.credit (q.share * h.negotiated.config.max_payload) q.length; used = 0; written = 0 }
         → Leaves (agreed_in state) (take_front_step lent) 0 state [] [] r state₂ rx store [] []
     unfolding take_front_by frames_bytes flat
@@ -114,5 +113,5 @@ module _ (state rx store : List ℕ) (h : Header) (i : h ≡ dropped (state_of s
         let xs = (popped h (state_of state).queue).changes in
         let w = did-begun n 0 state [] less lent (omega arith) in
         let w₁ = did_then n 0 state [] _ _ _ _ _ _ w xs [] state₁ [] 0 s.state-is (puts_none n [] 0) (omega arith) in
-        subst (λ (x : Outcome). Leaves n x 0 state [] [] r state₂ rx store [] []) (sym (step_is (FrontOpen q less) e))
+        subst (λ (x : Outcome). Leaves n x 0 state [] [] r state₂ rx store [] []) (sym (step_is (Some (q, less)) e))
         (did-stops n 0 state [] _ _ _ _ _ _ w₁ [] state₂ less _ 0 r refl p k)

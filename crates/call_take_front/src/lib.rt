@@ -5,9 +5,9 @@ ghost use Rattle.call.specs.Promise.{Begins};
 ghost use Rattle.call_take_front.specs.Promise.{TakeFrontLeaves, TakeFrontStepLeaves};
 
 use call::Reply;
-use call::admit::{Admitted, admit, drop_pending, refused};
+use call::admit::{admit, drop_pending, refused};
 use connection::Answer;
-use incoming::{Front, pop_front};
+use incoming::pop_front;
 use state::{Header, put_header};
 
 fn take_front_step(state: &mut [u8], rx: &[u8], store: &[u8], h: Header) -> Reply
@@ -18,7 +18,7 @@ fn take_front_step(state: &mut [u8], rx: &[u8], store: &[u8], h: Header) -> Repl
     let config = n.config;
     let front = pop_front(state, h);
     match front {
-        Front::Nothing => {
+        None => {
             put_header(state, h);
             Reply {
                 answer: Answer::Nothing,
@@ -26,7 +26,7 @@ fn take_front_step(state: &mut [u8], rx: &[u8], store: &[u8], h: Header) -> Repl
                 written: 0,
             }
         }
-        Front::Open(first, less) => {
+        Some((first, less)) => {
             put_header(state, less);
             let remote = first.remote;
             let place = first.share * config.max_payload as usize;
@@ -45,7 +45,7 @@ pub fn take_front(state: &mut [u8], rx: &[u8], store: &[u8]) -> Reply
 {
     let admitted = admit(state, rx.len(), store.len(), 56);
     match admitted {
-        Admitted::No(refusal) => refused(refusal),
-        Admitted::Yes(h) => take_front_step(state, rx, store, drop_pending(h)),
+        Err(refusal) => refused(refusal),
+        Ok(h) => take_front_step(state, rx, store, drop_pending(h)),
     }
 }

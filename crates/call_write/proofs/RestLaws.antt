@@ -22,11 +22,8 @@ use Rattle.protocol.specs.declared.command.Command.{Command}
 use Rattle.protocol.specs.declared.packet.Packet.{Packet}
 use Rattle.protocol.specs.Command.{is_ready, is_close, is_the, word_of, letters_of}
 use Rattle.saturate.specs.Saturate.{positive_part}
-use Rattle.slot.specs.declared.Budget.TheVariants.{Bytes as Most, Nothing as NoBudget}
 use Rattle.slot.specs.declared.ChannelFault.TheVariants.{RxOverflow, BadCredit, UnexpectedCommand}
 use Rattle.slot.specs.declared.ChannelSlot.{ChannelSlot}
-use Rattle.slot.specs.declared.Readied.{Readied}
-use Rattle.slot.specs.declared.Readied.TheVariants.{Slot, Bad}
 use Rattle.slot.specs.declared.Wrote.{Wrote}
 use Rattle.slot.specs.declared.ids.ChannelIds.{ChannelIds}
 use Rattle.slot.specs.declared.ids.LocalId.{LocalId}
@@ -54,6 +51,8 @@ use Rattle.table_dispatch.proofs.RouteLaws.{by-route}
 use Rattle.connection.specs.Act.{Acted, pushed_by, acted_by, table_of, act_on}
 use Rattle.connection.specs.Calls.{ids_in}
 use Rattle.connection.proofs.Slots.{slots_by, slots-append, slot-set-same, slot-set-other}
+use Rattle.credit.specs.declared.CreditFault.{CreditFault}
+use Rattle.std.specs.Prelude.{Option, Some, None, Result, Ok, Err}
 
 -- ---- slots that may send alike
 
@@ -69,8 +68,8 @@ rests-same s = record { state = refl; acked = refl; budget = refl }
 pub rests-budget : (s t : ChannelSlot) (p : RxPolicy) → Rests s t → budget_of t p ≡ budget_of s p
 unfolding budget_of
 rests-budget s t p r =
-    ap (λ (z : ℤ). cond p.delayed (some_budget (positive_part z)) (cond t.wrte_acked (Most 0xffff_ffff_ffff_ffff) NoBudget)) r.budget
-    ∙ ap (λ (b : Bool). cond p.delayed (some_budget (positive_part s.send_budget)) (cond b (Most 0xffff_ffff_ffff_ffff) NoBudget)) r.acked
+    ap (λ (z : ℤ). cond p.delayed (some_budget (positive_part z)) (cond t.wrte_acked (Some 0xffff_ffff_ffff_ffff) None)) r.budget
+    ∙ ap (λ (b : Bool). cond p.delayed (some_budget (positive_part s.send_budget)) (cond b (Some 0xffff_ffff_ffff_ffff) None)) r.acked
 
 -- ---- what a CLSE does not name
 
@@ -150,10 +149,10 @@ module _ (p : RxPolicy) (n : ℕ) (ss : List ChannelSlot) (i : ℕ) (full : n �
       (λ t. goes_left Unmatched)
 
   -- an OKAY of another channel
-  goes-granted : (f : ℕ) (remote : RemoteId) (r : Readied) → (i ≡ f → ⊥) → Goes (granted f (slot_in ss f) remote r)
+  goes-granted : (f : ℕ) (remote : RemoteId) (r : Result ChannelSlot CreditFault) → (i ≡ f → ⊥) → Goes (granted f (slot_in ss f) remote r)
   unfolding granted
-  goes-granted f remote (Slot t) h = goes-stored (CreditGranted f) f t (λ e. absurd (h e))
-  goes-granted f remote (Bad b) h = goes_left (faulted f (slot_in ss f) remote (BadCredit b))
+  goes-granted f remote (Ok t) h = goes-stored (CreditGranted f) f t (λ e. absurd (h e))
+  goes-granted f remote (Err b) h = goes_left (faulted f (slot_in ss f) remote (BadCredit b))
 
   goes-ready : (remote : RemoteId) (local : LocalId) (payload : List ℕ) → eqb local.0 own.local.0 ≡ false → Goes (grant_of p n ss remote local payload)
   unfolding grant_of ready_at

@@ -19,14 +19,8 @@ use Rattle.checksum.specs.Checksum.{policy_for, check_for}
 use Rattle.protocol.specs.Packet.{decode_of, Puts}
 use Rattle.protocol.proofs.PacketLaws.{frame-length}
 use Rattle.protocol.specs.Command.{is_ready}
-use Rattle.slot.specs.declared.Budget.{Budget}
-use Rattle.slot.specs.declared.Budget.TheVariants.{Bytes as Most, Nothing as NoBudget}
 use Rattle.slot.specs.declared.ChannelSlot.{ChannelSlot}
-use Rattle.slot.specs.declared.Failed.{Failed}
-use Rattle.slot.specs.declared.Failed.TheVariants.{No, By}
-use Rattle.slot.specs.declared.Readied.{Readied}
 use Rattle.credit.specs.declared.CreditFault.{CreditFault}
-use Rattle.slot.specs.declared.Readied.TheVariants.{Slot as ReadySlot, Bad}
 use Rattle.slot.specs.declared.ids.ChannelIds.{ChannelIds}
 use Rattle.slot.specs.Ids.{closed_by}
 use Rattle.slot.specs.Slot.{is_closed, ready_of, budget_of, spent_of, closed_slot}
@@ -40,12 +34,8 @@ use Rattle.table.specs.declared.ChannelId.{ChannelId}
 use Rattle.table.specs.Table.{slot_in}
 use Rattle.connection.specs.declared.Answer.{Answer}
 use Rattle.connection.specs.declared.Answer.TheVariants.{Waiting, Written, Refused}
-use Rattle.connection.specs.declared.Received.{Received}
-use Rattle.connection.specs.declared.Received.TheVariants.{Packet as PacketIs, Stop}
 use Rattle.connection.specs.declared.Refusal.TheVariants.{BadCredit, OutShort, ChannelClosed}
 use Rattle.call.specs.declared.Reply.{Reply}
-use Rattle.call.specs.declared.admit.Found.{Found}
-use Rattle.call.specs.declared.admit.Found.TheVariants.{Slot, Nothing}
 use Rattle.call.specs.declared.act.ActedOn.{ActedOn}
 use Rattle.connection.specs.Act.{Acted, act_on, PacketFits}
 use Rattle.connection.specs.Calls.{Lent, Outcome, then, then_acted, ends, dropped, policy, ids_in, is_there, slot_for, unless_fault, received_by, received_of, body_of, frame_len, send_len, send_some, send_by, send_again, write_readied, write_acted, write_act, write_by, write_first, write_on, write_step}
@@ -62,6 +52,8 @@ use Rattle.call_write.proofs.RestLaws.{Rests, rests-budget, rest-act, put_back}
 use Rattle.connection.proofs.Slots.{slots-by}
 use Rattle.connection.proofs.WholeAct.{ActedKeeps, acted-keeps}
 use Rattle.connection.proofs.WholeWork.{there-live}
+use Rattle.slot.specs.declared.ChannelFault.{ChannelFault}
+use Rattle.std.specs.Prelude.{Option, Some, None, Result, Ok, Err}
 
 -- a part of a slice from its start on
 pub part-first : (len : ℕ) (b : List ℕ) → take (len - 0) b ≡ take len b
@@ -131,7 +123,7 @@ module _ (state out bytes : List ℕ) (ch : ChannelId) (h : Header) (g : Sends s
         (did-stops agreed 0 state out _ _ _ _ _ _ w₁ [] state₂ h (Written len) used r g.header f q))
 
   -- what may be sent
-  budget-is : (b : Budget) (p : RxPolicy) → p ≡ policy_of h.negotiated → b ≡ budget_of s p → budget_of s (policy_of agreed) ≡ b
+  budget-is : (b : Option ℕ) (p : RxPolicy) → p ≡ policy_of h.negotiated → b ≡ budget_of s p → budget_of s (policy_of agreed) ≡ b
   budget-is b p y u = ap (λ (x : Header). budget_of s (policy_of x.negotiated)) (sym g.header) ∙ ap (budget_of s) (sym y) ∙ sym u
 
   -- ---- the turn after an OKAY
@@ -145,43 +137,43 @@ module _ (state out bytes : List ℕ) (ch : ChannelId) (h : Header) (g : Sends s
         subst (λ (o : Outcome). Leaves agreed o 0 state out [] r state₂ rx store out []) (sym (cond-true _ _ _ (sym c ∙ t)))
         (stores state rx store out h g.header ch.slot s (Refused ChannelClosed) used r state₂ f q)
 
-    module _ (t : closed ≡ false) (b : Budget) (p : RxPolicy) (y : p ≡ policy_of h.negotiated) (u : b ≡ budget_of s p) where
-      again_by : (x : Budget) → b ≡ x → send_again (lent_of state rx store) ch (length out) bytes used (starts state rx store) s ≡ send_by (lent_of state rx store) ch (length out) bytes used (starts state rx store) s x
+    module _ (t : closed ≡ false) (b : Option ℕ) (p : RxPolicy) (y : p ≡ policy_of h.negotiated) (u : b ≡ budget_of s p) where
+      again_by : (x : Option ℕ) → b ≡ x → send_again (lent_of state rx store) ch (length out) bytes used (starts state rx store) s ≡ send_by (lent_of state rx store) ch (length out) bytes used (starts state rx store) s x
       unfolding send_again
       again_by x m = cond-false _ _ _ (sym c ∙ t) ∙ ap (send_by (lent_of state rx store) ch (length out) bytes used (starts state rx store) s) (budget-is b p y u ∙ m)
 
-      pub again-sends : (most : ℕ) (r : Reply) (state' out' : List ℕ) → b ≡ Most most
+      pub again-sends : (most : ℕ) (r : Reply) (state' out' : List ℕ) → b ≡ Some most
           → Leaves agreed (send_some (lent_of state rx store) ch (length out) bytes used (starts state rx store) s (send_len (lent_of state rx store) bytes most)) 0 state out [] r state' rx store out' []
           → Leaves agreed (send_again (lent_of state rx store) ch (length out) bytes used (starts state rx store) s) 0 state out [] r state' rx store out' []
       unfolding send_by
-      again-sends most r state' out' m = subst (λ (o : Outcome). Leaves agreed o 0 state out [] r state' rx store out' []) (sym (again_by (Most most) m))
+      again-sends most r state' out' m = subst (λ (o : Outcome). Leaves agreed o 0 state out [] r state' rx store out' []) (sym (again_by (Some most) m))
 
-      pub again-waits : (r : Reply) (state₂ : List ℕ) → b ≡ NoBudget → state₂ ≡ put_header (put_slot state ch.slot s) h
+      pub again-waits : (r : Reply) (state₂ : List ℕ) → b ≡ None → state₂ ≡ put_header (put_slot state ch.slot s) h
           → r ≡ record { answer = Waiting; used = used; written = 0 }
           → Leaves agreed (send_again (lent_of state rx store) ch (length out) bytes used (starts state rx store) s) 0 state out [] r state₂ rx store out []
       unfolding send_by
       again-waits r state₂ m f q =
-          subst (λ (o : Outcome). Leaves agreed o 0 state out [] r state₂ rx store out []) (sym (again_by NoBudget m))
+          subst (λ (o : Outcome). Leaves agreed o 0 state out [] r state₂ rx store out []) (sym (again_by None m))
           (stores state rx store out h g.header ch.slot s Waiting used r state₂ f q)
 
   -- ---- the channel's own OKAY
 
-  module _ (payload : List ℕ) (p : RxPolicy) (x : Readied) (y : p ≡ policy_of h.negotiated) (e : x ≡ ready_of s payload p) (rx store : List ℕ) where
-    readied-is : (z : Readied) → x ≡ z → z ≡ ready_of s payload (policy_of agreed)
+  module _ (payload : List ℕ) (p : RxPolicy) (x : Result ChannelSlot CreditFault) (y : p ≡ policy_of h.negotiated) (e : x ≡ ready_of s payload p) (rx store : List ℕ) where
+    readied-is : (z : Result ChannelSlot CreditFault) → x ≡ z → z ≡ ready_of s payload (policy_of agreed)
     readied-is z f = sym f ∙ e ∙ ap (λ (a : RxPolicy). ready_of s payload a) (y ∙ ap (λ (a : Header). policy_of a.negotiated) g.header)
 
-    pub ready-again : (t : ChannelSlot) (r : Reply) (state' out' : List ℕ) → x ≡ ReadySlot t
+    pub ready-again : (t : ChannelSlot) (r : Reply) (state' out' : List ℕ) → x ≡ Ok t
         → Leaves agreed (send_again (lent_of state rx store) ch (length out) bytes used (starts state rx store) t) 0 state out [] r state' rx store out' []
         → Leaves agreed (write_readied (lent_of state rx store) ch (length out) bytes used (starts state rx store) s (ready_of s payload (policy (lent_of state rx store)))) 0 state out [] r state' rx store out' []
     unfolding write_readied
     ready-again t r state' out' f =
-        subst (λ (z : Readied). Leaves agreed (write_readied (lent_of state rx store) ch (length out) bytes used (starts state rx store) s z) 0 state out [] r state' rx store out' []) (readied-is (ReadySlot t) f)
+        subst (λ (z : Result ChannelSlot CreditFault). Leaves agreed (write_readied (lent_of state rx store) ch (length out) bytes used (starts state rx store) s z) 0 state out [] r state' rx store out' []) (readied-is (Ok t) f)
 
-    pub ready-bad : (b : CreditFault) (r : Reply) (state' : List ℕ) → x ≡ Bad b → state' ≡ put_header state h → r ≡ record { answer = Refused (BadCredit b); used = used; written = 0 }
+    pub ready-bad : (b : CreditFault) (r : Reply) (state' : List ℕ) → x ≡ Err b → state' ≡ put_header state h → r ≡ record { answer = Refused (BadCredit b); used = used; written = 0 }
         → Leaves agreed (write_readied (lent_of state rx store) ch (length out) bytes used (starts state rx store) s (ready_of s payload (policy (lent_of state rx store)))) 0 state out [] r state' rx store out []
     unfolding write_readied
     ready-bad b r state' f d q =
-        subst (λ (z : Readied). Leaves agreed (write_readied (lent_of state rx store) ch (length out) bytes used (starts state rx store) s z) 0 state out [] r state' rx store out []) (readied-is (Bad b) f)
+        subst (λ (z : Result ChannelSlot CreditFault). Leaves agreed (write_readied (lent_of state rx store) ch (length out) bytes used (starts state rx store) s z) 0 state out [] r state' rx store out []) (readied-is (Err b) f)
         (stops-leaves state rx store h g.header out [] _ (Refused (BadCredit b)) used r state' refl d q)
 
 -- ---- a channel that was found
@@ -209,7 +201,7 @@ module _ (state rx store : List ℕ) (out : ℕ) (ch : ChannelId) (h : Header) (
 -- ---- a packet that comes while nothing may be sent
 
 module _ (state rx store out received bytes : List ℕ) (ch : ChannelId) (h : Header) (s : ChannelSlot) (p : Packet) (k : Waits state rx store (length out) ch h s)
-    (q : received_of (lent_of state rx store) received ≡ PacketIs p) where
+    (q : received_of (lent_of state rx store) received ≡ (Ok p)) where
   abbrev found : Lent
   found = lent_of state rx store
 
@@ -220,7 +212,7 @@ module _ (state rx store out received bytes : List ℕ) (ch : ChannelId) (h : He
   ended r state' rx' store' out' o = Leaves values o 0 state out [] r state' rx' store' out' []
 
   abbrev whole : Outcome
-  whole = write_by found ch (length out) bytes (starts state rx store) s received (PacketIs p)
+  whole = write_by found ch (length out) bytes (starts state rx store) s received (Ok p)
 
   pub packet-place : PacketRoom received h.negotiated.config.max_payload p
   unfolding received_of
@@ -297,8 +289,8 @@ module _ (state rx store out received bytes : List ℕ) (ch : ChannelId) (h : He
           did : Did values (then_acted (starts state rx store) act) 0 state out state₁ rx₁ store₁ out₁ acted.end
           did = did-acted values 0 state out _ _ _ _ _ _ (did-begun values 0 state out (dropped (state_of state).header) found (omega arith)) act acted state₁ rx₁ store₁ out₁ g
 
-          answers : (x : Failed) → act.fault ≡ x → r ≡ record { answer = unless_fault x Waiting; used = frame_len p; written = acted.end }
-          answers x z = b ∙ ap (λ (y : Answer). record { answer = y; used = frame_len p; written = acted.end }) (u ∙ ap (λ (t : Failed). unless_fault t Waiting) (g.fault-is ∙ z))
+          answers : (x : Option ChannelFault) → act.fault ≡ x → r ≡ record { answer = unless_fault x Waiting; used = frame_len p; written = acted.end }
+          answers x z = b ∙ ap (λ (y : Answer). record { answer = y; used = frame_len p; written = acted.end }) (u ∙ ap (λ (t : Option ChannelFault). unless_fault t Waiting) (g.fault-is ∙ z))
 
           same-slot : state₁ ≡ put_slot state₁ ch.slot after
           same-slot =
@@ -306,12 +298,12 @@ module _ (state rx store out received bytes : List ℕ) (ch : ChannelId) (h : He
               z ∙ sym (put_back state act.changes ch.slot k.finds.admits.bytes is-state keeps.within (finds-place state rx store (length out) ch h s k.finds))
               ∙ ap (λ (x : List ℕ). put_slot x ch.slot after) (sym z)
 
-          acted-by : (x : Failed) → act.fault ≡ x → ended r state₂ rx₁ store₁ out₁ (write_acted found ch (length out) bytes (frame_len p) (starts state rx store) act x)
+          acted-by : (x : Option ChannelFault) → act.fault ≡ x → ended r state₂ rx₁ store₁ out₁ (write_acted found ch (length out) bytes (frame_len p) (starts state rx store) act x)
           unfolding write_acted unless_fault
-          acted-by (By why) z = did-stops values 0 state out _ _ _ _ _ _ did [] state₂ acted.header _ (frame_len p) r g.header_is e (answers (By why) z)
-          acted-by No z =
+          acted-by (Some why) z = did-stops values 0 state out _ _ _ _ _ _ did [] state₂ acted.header _ (frame_len p) r g.header_is e (answers (Some why) z)
+          acted-by None z =
               subst (ended r state₂ rx₁ store₁ out₁) (sym turn_is)
-              (did-stops values 0 state out _ _ _ _ _ _ (did-slot values 0 state out _ _ _ _ _ _ did ch.slot after state₁ same-slot) [] state₂ acted.header Waiting (frame_len p) r g.header_is e (answers No z))
+              (did-stops values 0 state out _ _ _ _ _ _ (did-slot values 0 state out _ _ _ _ _ _ did ch.slot after state₁ same-slot) [] state₂ acted.header Waiting (frame_len p) r g.header_is e (answers None z))
 
           acted-whole : ended r state₂ rx₁ store₁ out₁ whole
           unfolding write_by write_act
@@ -331,7 +323,7 @@ module _ (state rx store out received bytes : List ℕ) (ch : ChannelId) (h : He
 
 module _ (state rx store out received bytes : List ℕ) (ch : ChannelId) (h : Header) (s : ChannelSlot) (i : h ≡ dropped (state_of state).header) where
   abbrev first : Outcome
-  first = write_first (lent_of state rx store) ch (length out) bytes received (starts state rx store) s NoBudget
+  first = write_first (lent_of state rx store) ch (length out) bytes received (starts state rx store) s None
 
   pub wait-gone : (r : Reply) (state' : List ℕ) → s.has_remote ≡ false → state' ≡ put_header state h → r ≡ record { answer = Refused ChannelClosed; used = 0; written = 0 }
       → Leaves (agreed_in state) first 0 state out [] r state' rx store out []
@@ -340,28 +332,28 @@ module _ (state rx store out received bytes : List ℕ) (ch : ChannelId) (h : He
       subst (λ (o : Outcome). Leaves (agreed_in state) o 0 state out [] r state' rx store out []) (sym (cond-false s.has_remote _ _ t))
       (stops-leaves state rx store h i out [] _ (Refused ChannelClosed) 0 r state' refl e q)
 
-  module _ (got : Received) (d : got ≡ received_by (decode_of received h.negotiated.config.max_payload)) where
-    pub wait-received : (p : Packet) → got ≡ PacketIs p → received_of (lent_of state rx store) received ≡ PacketIs p
+  module _ (got : Result Packet (Answer × ℕ)) (d : got ≡ received_by (decode_of received h.negotiated.config.max_payload)) where
+    pub wait-received : (p : Packet) → got ≡ Ok p → received_of (lent_of state rx store) received ≡ Ok p
     wait-received p f = sym (received_is state rx store h (ap (λ (x : Header). x.negotiated) i) received got d) ∙ f
 
-    first_by : (x : Received) → s.has_remote ≡ true → got ≡ x → first ≡ write_by (lent_of state rx store) ch (length out) bytes (starts state rx store) s received x
+    first_by : (x : Result Packet (Answer × ℕ)) → s.has_remote ≡ true → got ≡ x → first ≡ write_by (lent_of state rx store) ch (length out) bytes (starts state rx store) s received x
     unfolding write_first
     first_by x t f =
         cond-true s.has_remote _ _ t
         ∙ ap (write_by (lent_of state rx store) ch (length out) bytes (starts state rx store) s received) (sym (received_is state rx store h (ap (λ (x : Header). x.negotiated) i) received got d) ∙ f)
 
-    pub wait-stops : (a : Answer) (used : ℕ) (r : Reply) (state' : List ℕ) → s.has_remote ≡ true → got ≡ Stop a used → state' ≡ put_header state h
+    pub wait-stops : (a : Answer) (used : ℕ) (r : Reply) (state' : List ℕ) → s.has_remote ≡ true → got ≡ Err (a, used) → state' ≡ put_header state h
         → r ≡ record { answer = a; used = used; written = 0 } → Leaves (agreed_in state) first 0 state out [] r state' rx store out []
     unfolding write_by
     wait-stops a used r state' t f e q =
-        subst (λ (o : Outcome). Leaves (agreed_in state) o 0 state out [] r state' rx store out []) (sym (first_by (Stop a used) t f))
+        subst (λ (o : Outcome). Leaves (agreed_in state) o 0 state out [] r state' rx store out []) (sym (first_by (Err (a, used)) t f))
         (stops-leaves state rx store h i out [] _ a used r state' refl e q)
 
-    pub wait-packet : (p : Packet) (r : Reply) (state' rx' store' out' : List ℕ) → s.has_remote ≡ true → got ≡ PacketIs p
-        → Leaves (agreed_in state) (write_by (lent_of state rx store) ch (length out) bytes (starts state rx store) s received (PacketIs p)) 0 state out [] r state' rx' store' out' []
+    pub wait-packet : (p : Packet) (r : Reply) (state' rx' store' out' : List ℕ) → s.has_remote ≡ true → got ≡ Ok p
+        → Leaves (agreed_in state) (write_by (lent_of state rx store) ch (length out) bytes (starts state rx store) s received (Ok p)) 0 state out [] r state' rx' store' out' []
         → Leaves (agreed_in state) first 0 state out [] r state' rx' store' out' []
     wait-packet p r state' rx' store' out' t f =
-        subst (λ (o : Outcome). Leaves (agreed_in state) o 0 state out [] r state' rx' store' out' []) (sym (first_by (PacketIs p) t f))
+        subst (λ (o : Outcome). Leaves (agreed_in state) o 0 state out [] r state' rx' store' out' []) (sym (first_by (Ok p) t f))
 
 -- ---- the first turn
 
@@ -377,27 +369,27 @@ module _ (state rx store out received bytes : List ℕ) (ch : ChannelId) (h : He
       subst (λ (o : Outcome). Leaves (agreed_in state) o 0 state out [] r state' rx store out []) (sym (cond-true _ _ _ (sym c ∙ t)))
       (stops-leaves state rx store h k.header out [] _ (Refused ChannelClosed) 0 r state' refl e q)
 
-  module _ (t : closed ≡ false) (b : Budget) (p : RxPolicy) (y : p ≡ policy_of h.negotiated) (u : b ≡ budget_of s p) where
-    may-send : (x : Budget) → b ≡ x → budget_of s (policy_of (agreed_in state)) ≡ x
+  module _ (t : closed ≡ false) (b : Option ℕ) (p : RxPolicy) (y : p ≡ policy_of h.negotiated) (u : b ≡ budget_of s p) where
+    may-send : (x : Option ℕ) → b ≡ x → budget_of s (policy_of (agreed_in state)) ≡ x
     may-send x m = budget-is state out bytes ch h (finds-sends state rx store (length out) ch h s k) 0 s b p y u ∙ m
 
-    turn_by : (x : Budget) → b ≡ x → turn ≡ write_first (lent_of state rx store) ch (length out) bytes received (starts state rx store) s x
+    turn_by : (x : Option ℕ) → b ≡ x → turn ≡ write_first (lent_of state rx store) ch (length out) bytes received (starts state rx store) s x
     unfolding write_on
     turn_by x m = cond-false _ _ _ (sym c ∙ t) ∙ ap (write_first (lent_of state rx store) ch (length out) bytes received (starts state rx store) s) (may-send x m)
 
-    pub on-sends : (most : ℕ) (r : Reply) (state' out' : List ℕ) → b ≡ Most most
+    pub on-sends : (most : ℕ) (r : Reply) (state' out' : List ℕ) → b ≡ Some most
         → Leaves (agreed_in state) (send_some (lent_of state rx store) ch (length out) bytes 0 (starts state rx store) s (send_len (lent_of state rx store) bytes most)) 0 state out [] r state' rx store out' []
         → Leaves (agreed_in state) turn 0 state out [] r state' rx store out' []
     unfolding write_first
-    on-sends most r state' out' m = subst (λ (o : Outcome). Leaves (agreed_in state) o 0 state out [] r state' rx store out' []) (sym (turn_by (Most most) m))
+    on-sends most r state' out' m = subst (λ (o : Outcome). Leaves (agreed_in state) o 0 state out [] r state' rx store out' []) (sym (turn_by (Some most) m))
 
-    pub on-waits : b ≡ NoBudget → Waits state rx store (length out) ch h s
-    on-waits m = record { finds = k; unclosed = sym c ∙ t; nothing = may-send NoBudget m }
+    pub on-waits : b ≡ None → Waits state rx store (length out) ch h s
+    on-waits m = record { finds = k; unclosed = sym c ∙ t; nothing = may-send None m }
 
-    pub on-packet : (r : Reply) (state' rx' store' out' : List ℕ) → b ≡ NoBudget
-        → Leaves (agreed_in state) (write_first (lent_of state rx store) ch (length out) bytes received (starts state rx store) s NoBudget) 0 state out [] r state' rx' store' out' []
+    pub on-packet : (r : Reply) (state' rx' store' out' : List ℕ) → b ≡ None
+        → Leaves (agreed_in state) (write_first (lent_of state rx store) ch (length out) bytes received (starts state rx store) s None) 0 state out [] r state' rx' store' out' []
         → Leaves (agreed_in state) turn 0 state out [] r state' rx' store' out' []
-    on-packet r state' rx' store' out' m = subst (λ (o : Outcome). Leaves (agreed_in state) o 0 state out [] r state' rx' store' out' []) (sym (turn_by NoBudget m))
+    on-packet r state' rx' store' out' m = subst (λ (o : Outcome). Leaves (agreed_in state) o 0 state out [] r state' rx' store' out' []) (sym (turn_by None m))
 
 -- ---- the call
 
@@ -412,8 +404,8 @@ module _ (state rx store out received bytes : List ℕ) (ch : ChannelId) (h : He
       subst (λ (o : Outcome). Leaves (agreed_in state) o 0 state out [] r state' rx store out []) (sym (cond-true _ _ _ (eq-eqb (length bytes) 0 z)))
       (stops-leaves state rx store h i out [] _ (Written 0) 0 r state' refl e q)
 
-  module _ (found : Found) (t : found ≡ found_in h.negotiated.config.channels (state_of state).slots ch) where
-    pub step-finds : (s : ChannelSlot) → found ≡ Slot s → Finds state rx store (length out) ch h s
+  module _ (found : Option ChannelSlot) (t : found ≡ found_in h.negotiated.config.channels (state_of state).slots ch) where
+    pub step-finds : (s : ChannelSlot) → found ≡ Some s → Finds state rx store (length out) ch h s
     step-finds s f = record { admits = g; header = i; there = found-there state rx store h i ch found t s f; slot = found-slot state rx store h i ch found t s f }
 
     module _ (z : length bytes ≡ 0 → ⊥) where
@@ -426,7 +418,7 @@ module _ (state rx store out received bytes : List ℕ) (ch : ChannelId) (h : He
           ∙ ap (λ (b : Bool). cond b (write_on (lent_of state rx store) ch (length out) bytes received (starts state rx store) (slot_for (lent_of state rx store) ch))
           (ends (starts state rx store) (Refused ChannelClosed) 0 [])) e
 
-      pub step-there : (s : ChannelSlot) (r : Reply) (state' rx' store' out' : List ℕ) → found ≡ Slot s
+      pub step-there : (s : ChannelSlot) (r : Reply) (state' rx' store' out' : List ℕ) → found ≡ Some s
           → Leaves (agreed_in state) (write_on (lent_of state rx store) ch (length out) bytes received (starts state rx store) s) 0 state out [] r state' rx' store' out' []
           → Leaves (agreed_in state) step 0 state out [] r state' rx' store' out' []
       step-there s r state' rx' store' out' f k =
@@ -434,7 +426,7 @@ module _ (state rx store out received bytes : List ℕ) (ch : ChannelId) (h : He
           (subst (λ (x : ChannelSlot). Leaves (agreed_in state) (write_on (lent_of state rx store) ch (length out) bytes received (starts state rx store) x) 0 state out [] r state' rx' store' out' [])
           (step-finds s f).slot k)
 
-      pub step_gone : (r : Reply) (state' : List ℕ) → found ≡ Nothing → state' ≡ put_header state h → r ≡ record { answer = Refused ChannelClosed; used = 0; written = 0 }
+      pub step_gone : (r : Reply) (state' : List ℕ) → found ≡ None → state' ≡ put_header state h → r ≡ record { answer = Refused ChannelClosed; used = 0; written = 0 }
           → Leaves (agreed_in state) step 0 state out [] r state' rx store out []
       step_gone r state' f e q =
           stops-leaves state rx store h i out [] _ (Refused ChannelClosed) 0 r state' (step-some false (found_none state rx store h i ch found t f)) e q

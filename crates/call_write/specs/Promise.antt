@@ -1,17 +1,15 @@
 -- What writing asks and promises inside. Assumes nothing.
-use Rattle.std.specs.Prelude.{ℕ, ◌≤◌, ◌<◌, ◌≡◌, true, false, List, [], length}
+use Rattle.std.specs.Prelude.{ℕ, ◌≤◌, ◌<◌, ◌≡◌, true, false, List, [], length, Option, Some, None, Result, Ok, Err}
 use Rattle.config.specs.Config.{Within}
 use Rattle.config.specs.Negotiated.{policy_of}
 use Rattle.slot.specs.declared.ChannelSlot.{ChannelSlot}
 use Rattle.slot.specs.Slot.{is_closed, budget_of, ready_of}
-use Rattle.slot.specs.declared.Budget.TheVariants.{Nothing as NoBudget}
 use Rattle.state.specs.declared.Header.{Header}
 use Rattle.state.specs.State.{state_len, state_of}
 use Rattle.table.specs.declared.ChannelId.{ChannelId}
 use Rattle.connection.specs.Calls.{begun, dropped, is_there, slot_for, Work, policy, received_of, send_len, send_some, send_again, write_readied, write_by, write_first, write_on, write_step, write_outcome}
 use Rattle.call.specs.Promise.{lent_of, agreed_in, Admits, Leaves}
 use Rattle.state_whole.specs.Whole.{is_whole}
-use Rattle.connection.specs.declared.Received.TheVariants.{Packet as PacketIs}
 use Rattle.call.specs.declared.Reply.{Reply}
 use Rattle.protocol.specs.declared.packet.Packet.{Packet}
 
@@ -38,7 +36,7 @@ pub record Finds (state rx store : List ℕ) (out : ℕ) (ch : ChannelId) (h : H
 pub record Waits (state rx store : List ℕ) (out : ℕ) (ch : ChannelId) (h : Header) (s : ChannelSlot) : Type 0 where
   pub finds : Finds state rx store out ch h s
   pub unclosed : is_closed s.state ≡ false
-  pub nothing : budget_of s (policy_of (agreed_in state)) ≡ NoBudget
+  pub nothing : budget_of s (policy_of (agreed_in state)) ≡ None
 
 -- what `send_some` promises
 abbrev pub SendSomeLeaves : List ℕ → ChannelId → ChannelSlot → List ℕ → ℕ → ℕ → List ℕ → Reply → List ℕ → List ℕ → Type 0
@@ -58,18 +56,18 @@ WriteReadyLeaves state ch s bytes payload used out r state' out' =
 -- what `write_packet` asks
 abbrev pub WritePacketAsks : List ℕ → List ℕ → List ℕ → ChannelId → ChannelSlot → List ℕ → List ℕ → Header → Packet → Type 0
 WritePacketAsks state rx store ch s received out h packet =
-    Waits state rx store (length out) ch h s × (received_of (lent_of state rx store) received ≡ PacketIs packet)
+    Waits state rx store (length out) ch h s × (received_of (lent_of state rx store) received ≡ (Ok packet))
 
 -- what `write_packet` promises
 abbrev pub WritePacketLeaves : List ℕ → List ℕ → List ℕ → ChannelId → ChannelSlot → List ℕ → List ℕ → List ℕ → Packet → Reply → List ℕ → List ℕ → List ℕ → List ℕ → Type 0
 WritePacketLeaves state rx store ch s bytes received out packet r state' rx' store' out' =
-    Leaves (agreed_in state) (write_by (lent_of state rx store) ch (length out) bytes (starts state rx store) s received (PacketIs packet)) 0 state out
+    Leaves (agreed_in state) (write_by (lent_of state rx store) ch (length out) bytes (starts state rx store) s received (Ok packet)) 0 state out
     [] r state' rx' store' out' []
 
 -- what `wait_ack` promises
 abbrev pub WaitAckLeaves : List ℕ → List ℕ → List ℕ → ChannelId → ChannelSlot → List ℕ → List ℕ → List ℕ → Reply → List ℕ → List ℕ → List ℕ → List ℕ → Type 0
 WaitAckLeaves state rx store ch s bytes received out r state' rx' store' out' =
-    Leaves (agreed_in state) (write_first (lent_of state rx store) ch (length out) bytes received (starts state rx store) s NoBudget) 0 state out [] r
+    Leaves (agreed_in state) (write_first (lent_of state rx store) ch (length out) bytes received (starts state rx store) s None) 0 state out [] r
     state' rx' store' out' []
 
 -- what `write_channel` promises

@@ -8,13 +8,13 @@ ghost use Rattle.call_write.specs.Promise.{WriteLeaves, WritePacketAsks, WritePa
 
 use call::Reply;
 use call::act::act_on;
-use call::admit::{Admitted, Found, admit, drop_pending, get, refused};
+use call::admit::{admit, drop_pending, get, refused};
 use call::frames::{ids_in, put_write};
 use call::recv::{is_own, recv_pkt, unless_fault};
 use call::store::store_slot;
-use connection::{Answer, Received, Refusal};
+use connection::{Answer, Refusal};
 use protocol::packet::Packet;
-use slot::{Budget, ChannelSlot, Readied, is_closed};
+use slot::{ChannelSlot, is_closed};
 use state::{Header, put_header};
 use table::ChannelId;
 
@@ -22,10 +22,7 @@ use table::ChannelId;
 fn send_len(len: usize, max_payload: u32, most: usize) -> usize
     ensures { result ≡ min (min len (max max_payload 1)) most }
 {
-    if max_payload == 0 {
-        return saturate::least(saturate::least(len, 1), most);
-    }
-    saturate::least(saturate::least(len, max_payload as usize), most)
+    len.min(max_payload.max(1) as usize).min(most)
 }
 
 // A WRTE of as many bytes as may be sent. Where its frame does not fit the outgoing buffer, nothing changes: the packet that
@@ -84,8 +81,8 @@ fn send_again(
     let n = h.negotiated;
     let budget = slot_send::budget(s, n.rx_policy());
     match budget {
-        Budget::Bytes(most) => send_some(state, ch, s, bytes, most, used, out, h),
-        Budget::Nothing => {
+        Some(most) => send_some(state, ch, s, bytes, most, used, out, h),
+        None => {
             store_slot(state, ch.slot, s, h);
             Reply {
                 answer: Answer::Waiting,
@@ -114,8 +111,8 @@ fn write_ready(
     let n = h.negotiated;
     let readied = slot_send::apply_ready(s, payload, n.rx_policy());
     match readied {
-        Readied::Slot(t) => send_again(state, ch, t, bytes, used, out, h),
-        Readied::Bad(fault) => {
+        Ok(t) => send_again(state, ch, t, bytes, used, out, h),
+        Err(fault) => {
             put_header(state, h);
             Reply {
                 answer: Answer::Refused(Refusal::BadCredit(fault)),
@@ -191,7 +188,7 @@ fn wait_ack(
         let config = n.config;
         let found = recv_pkt(received, config.max_payload);
         return match found {
-            Received::Stop(answer, used) => {
+            Err((answer, used)) => {
                 put_header(state, h);
                 Reply {
                     answer,
@@ -199,9 +196,7 @@ fn wait_ack(
                     written: 0,
                 }
             }
-            Received::Packet(packet) => write_packet(
-                state, rx, store, ch, s, bytes, received, out, h, packet,
-            ),
+            Ok(packet) => write_packet(state, rx, store, ch, s, bytes, received, out, h, packet),
         };
     }
     put_header(state, h);
@@ -240,8 +235,8 @@ fn write_channel(
     let n = h.negotiated;
     let budget = slot_send::budget(s, n.rx_policy());
     match budget {
-        Budget::Bytes(most) => send_some(state, ch, s, bytes, most, 0, out, h),
-        Budget::Nothing => wait_ack(state, rx, store, ch, s, bytes, received, out, h),
+        Some(most) => send_some(state, ch, s, bytes, most, 0, out, h),
+        None => wait_ack(state, rx, store, ch, s, bytes, received, out, h),
     }
 }
 
@@ -271,8 +266,8 @@ fn write_step(
     let config = n.config;
     let found = get(state, config.channels, ch);
     match found {
-        Found::Slot(s) => write_channel(state, rx, store, ch, s, bytes, received, out, h),
-        Found::Nothing => {
+        Some(s) => write_channel(state, rx, store, ch, s, bytes, received, out, h),
+        None => {
             put_header(state, h);
             refused(Refusal::ChannelClosed)
         }
@@ -294,7 +289,7 @@ pub fn write(
 {
     let admitted = admit(state, rx.len(), store.len(), out.len());
     match admitted {
-        Admitted::No(refusal) => refused(refusal),
-        Admitted::Yes(h) => write_step(state, rx, store, ch, bytes, received, out, drop_pending(h)),
+        Err(refusal) => refused(refusal),
+        Ok(h) => write_step(state, rx, store, ch, bytes, received, out, drop_pending(h)),
     }
 }

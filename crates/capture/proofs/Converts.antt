@@ -14,27 +14,24 @@ use Rattle.le.proofs.Laws.{bytes_drop}
 use Rattle.le.proofs.Parts.{by-test, length_part}
 use Rattle.stream.specs.Stream.{waiting, message, refused, End, more, stopped, Reading, joined, read_all, Every, none_left, each, written}
 use Rattle.stream.proofs.Cut.{cut}
-use Rattle.protocol.specs.declared.packet.Decoded.{Decoded}
-use Rattle.protocol.specs.declared.packet.Decoded.TheVariants.{Waiting, InvalidCommand, InvalidMagic, PayloadTooLarge, InvalidChecksum, Accepted}
 use Rattle.protocol.specs.Packet.{payload_limit, decode_of}
-use Rattle.pcap.specs.declared.Header.{Header}
-use Rattle.pcap.specs.declared.Header.TheVariants.{Waiting as HeaderWaiting, Invalid, Whole as HeaderWhole}
-use Rattle.pcap.specs.declared.Read.{Read}
-use Rattle.pcap.specs.declared.Read.TheVariants.{Waiting as ReadWaiting, InvalidLength, Whole}
-use Rattle.pcap.specs.Header.{file_header, read_header}
-use Rattle.pcap.specs.Record.{read_record, used_of, record_bytes}
+use Rattle.pcap.specs.declared.Record.{Record}
+use Rattle.pcap.specs.declared.ReadError.TheVariants.{InvalidLength}
+use Rattle.pcap.specs.Header.{file_header, HeaderRead, read_header}
+use Rattle.pcap.specs.Record.{Read, read_record, used_of, record_bytes}
 use Rattle.pcap.specs.File.{Got, answer_of as record_answer, receives, head_on, read_file, bytes_for, file_of, Sent}
 use Rattle.pcap.proofs.ReadLaws.{says as record-says}
 use Rattle.pcap.proofs.WriteLaws.{length-record, record-written}
 use Rattle.pcap.proofs.RoundTrip.{read-header, accepted-bytes}
 use Rattle.pcap.proofs.Pieces.{stable as records-stable, file-pieces, file-arrives}
-use Rattle.capture.specs.declared.Next.{Next}
-use Rattle.capture.specs.declared.Next.TheVariants.{More, Frame, End as Next-as-End}
-use Rattle.capture.specs.Capture.{is_long, next_of, taken_of, next_frame, zero_time}
+use Rattle.capture.specs.Capture.{Next, is_long, next_of, taken_of, next_frame, zero_time}
 use Rattle.capture.specs.Converts.{answer_of, frames, record_of, captured, IsFrame, Ended, incomplete, refusing, too_long, Converts, frames_of, given, RecordsEnded, cut_off, refusing as record-refusing, Held, Gives, no_header, records, ComesBack}
-use Rattle.capture.proofs.FrameLaws.{accepted-small}
+use Rattle.capture.proofs.FrameLaws.{accepted_small}
 use Rattle.capture.proofs.Parts.{Stops, parted}
 use Rattle.capture.proofs.FramePieces.{frame-says, alone, taken_as, ended-as, stable}
+use Rattle.protocol.specs.declared.packet.Packet.{Packet}
+use Rattle.protocol.specs.declared.packet.DecodeError.{DecodeError}
+use Rattle.std.specs.Prelude.{Option, Some, None, Result, Ok, Err}
 
 -- ---- frames to a capture
 
@@ -56,34 +53,31 @@ module _ (hold : ℕ) where
       })
 
   -- what is not taken
-  waits : (d : Decoded) → next_of d ≡ More → d ≡ Waiting
+  waits : (d : Result (Option Packet) DecodeError) → next_of d ≡ Ok None → d ≡ Ok None
   unfolding next_of
-  waits Waiting e = refl
-  waits (InvalidCommand word) e = cc
-  waits InvalidMagic e = cc
-  waits PayloadTooLarge e = cc
-  waits (InvalidChecksum used) e = cc
-  waits (Accepted p) e = cc
+  waits (Ok None) e = refl
+  waits (Err x) e = cc
+  waits (Ok (Some p)) e = cc
 
-  more-at : (s : List ℕ) (x : Next) → answer_of s x ≡ waiting → x ≡ More
+  more-at : (s : List ℕ) (x : Next) → answer_of s x ≡ waiting → x ≡ Ok None
   unfolding answer_of
-  more-at s More e = refl
-  more-at s (Frame n) e = cc
-  more-at s (Next-as-End number) e = cc
+  more-at s (Ok None) e = refl
+  more-at s (Ok (Some n)) e = cc
+  more-at s (Err x) e = cc
 
-  ends-waiting : (rest : List ℕ) → next_frame hold rest ≡ More → Ended hold rest
+  ends-waiting : (rest : List ℕ) → next_frame hold rest ≡ Ok None → Ended hold rest
   unfolding next_frame taken_of
   ends-waiting rest e =
       by-test (is_long hold rest) (λ t. too_long t) (λ t. incomplete (waits (decode_of rest payload_limit) (rw t at e)))
 
-  ends-refused : (rest : List ℕ) (number : ℕ) → next_frame hold rest ≡ Next-as-End number → Ended hold rest
+  ends-refused : (rest : List ℕ) (x : DecodeError) → next_frame hold rest ≡ Err x → Ended hold rest
   unfolding next_frame
-  ends-refused rest number e = by-test (is_long hold rest) (λ t. too_long t) (λ t. refusing number (rw t at e))
+  ends-refused rest x e = by-test (is_long hold rest) (λ t. too_long t) (λ t. refusing x (rw t at e))
 
   ends : (rest : List ℕ) (e : End) → Stops (frames hold) rest e → Ended hold rest
   unfolding Stops frames
   ends rest more s = ends-waiting rest (more-at rest (next_frame hold rest) s)
-  ends rest (stopped number) s = ends-refused rest number (ended-as hold rest number 0 s).0
+  ends rest (stopped number) s = let r = ended-as hold rest number 0 s in ends-refused rest r.error r.error-is
 
   as-they-are : (fs : List (List ℕ)) → written (λ f. f) fs ≡ joined fs
   unfolding written joined
@@ -94,7 +88,7 @@ module _ (hold : ℕ) where
   unfolding captured
   converts cs b =
       let r = read_all (frames hold) (joined cs) in
-      let p = parted (frames hold) (stable hold) (λ f. f) (IsFrame hold) frame-bytes frame-known (λ l number n e. (ended-as hold l number n e).1) (joined cs) b in
+      let p = parted (frames hold) (stable hold) (λ f. f) (IsFrame hold) frame-bytes frame-known (λ l number n e. (ended-as hold l number n e).unused) (joined cs) b in
       record {
         taken = r.messages;
         rest = r.rest;
@@ -109,12 +103,12 @@ module _ (hold : ℕ) where
   -- what a record's answer says
   record-as : (l : List ℕ) (g : Got) (n : ℕ) (r : Read) → Bytes l → read_record hold l ≡ r → record_answer l r ≡ message g n → take n l ≡ bytes_for g
   unfolding record_answer used_of bytes_for
-  record-as l g n ReadWaiting b e f = let z : ◌≡◌ {A = ℕ} 0 1 = cc in absurd (omega arith)
-  record-as l g n InvalidLength b e f = let z : ◌≡◌ {A = ℕ} 0 1 = cc in absurd (omega arith)
-  record-as l g n (Whole t k used) b e f =
-      let en : n ≡ used = cc in
-      let eg : record { time = t; frame = part l 16 k } ≡ g = cc in
-      ap (λ (j : ℕ). take j l) en ∙ accepted-bytes hold l t k used b e ∙ ap bytes_for eg
+  record-as l g n (Ok None) b e f = let z : ◌≡◌ {A = ℕ} 0 1 = cc in absurd (omega arith)
+  record-as l g n (Err x) b e f = let z : ◌≡◌ {A = ℕ} 0 1 = cc in absurd (omega arith)
+  record-as l g n (Ok (Some r)) b e f =
+      let en : n ≡ r.used = cc in
+      let eg : record { time = r.time; frame = part l 16 r.length } ≡ g = cc in
+      ap (λ (j : ℕ). take j l) en ∙ accepted-bytes hold l r b e ∙ ap bytes_for eg
 
   record-bytes : (l : List ℕ) (g : Got) (n : ℕ) → Bytes l → receives hold l ≡ message g n → take n l ≡ bytes_for g
   unfolding receives
@@ -122,45 +116,46 @@ module _ (hold : ℕ) where
 
   held-as : (l : List ℕ) (g : Got) (n : ℕ) (r : Read) → read_record hold l ≡ r → record_answer l r ≡ message g n → Held hold g
   unfolding record_answer used_of
-  held-as l g n ReadWaiting e f = let z : ◌≡◌ {A = ℕ} 0 1 = cc in absurd (omega arith)
-  held-as l g n InvalidLength e f = let z : ◌≡◌ {A = ℕ} 0 1 = cc in absurd (omega arith)
-  held-as l g n (Whole t k used) e f =
-      let y = record-says hold l t k used e in
-      let eg : record { time = t; frame = part l 16 k } ≡ g = cc in
+  held-as l g n (Ok None) e f = let z : ◌≡◌ {A = ℕ} 0 1 = cc in absurd (omega arith)
+  held-as l g n (Err x) e f = let z : ◌≡◌ {A = ℕ} 0 1 = cc in absurd (omega arith)
+  held-as l g n (Ok (Some r)) e f =
+      let y = record-says hold l r e in
+      let k = ap (λ (x : Record). x.length) y.record-is in
+      let eg : record { time = r.time; frame = part l 16 r.length } ≡ g = cc in
       let le = ap (λ (q : Got). length q.frame) eg in
-      let lp = length_part l 16 k (omega (arith, y.length-is, y.whole)) in
-      omega (arith, y.within, y.length-is)
+      let lp = length_part l 16 r.length (omega (arith, y.whole)) in
+      omega (arith, y.within)
 
   record-held : (l : List ℕ) (g : Got) (n : ℕ) → Bytes l → receives hold l ≡ message g n → Held hold g
   unfolding receives
   record-held l g n b e = held-as l g n (read_record hold l) refl e
 
-  refused_as : (l : List ℕ) (number n : ℕ) (r : Read) → record_answer l r ≡ refused number n → (r ≡ InvalidLength) × (n ≡ 0)
+  refused_as : (l : List ℕ) (number n : ℕ) (r : Read) → record_answer l r ≡ refused number n → (r ≡ Err InvalidLength) × (n ≡ 0)
   unfolding record_answer used_of
-  refused_as l number n ReadWaiting f = let z : ◌≡◌ {A = ℕ} 0 1 = cc in absurd (omega arith)
-  refused_as l number n InvalidLength f = (refl, cc)
-  refused_as l number n (Whole t k used) f = let z : ◌≡◌ {A = ℕ} 0 1 = cc in absurd (omega arith)
+  refused_as l number n (Ok None) f = let z : ◌≡◌ {A = ℕ} 0 1 = cc in absurd (omega arith)
+  refused_as l number n (Err InvalidLength) f = (refl, cc)
+  refused_as l number n (Ok (Some r)) f = let z : ◌≡◌ {A = ℕ} 0 1 = cc in absurd (omega arith)
 
-  record-refused : (l : List ℕ) (number n : ℕ) → receives hold l ≡ refused number n → (read_record hold l ≡ InvalidLength) × (n ≡ 0)
+  record-refused : (l : List ℕ) (number n : ℕ) → receives hold l ≡ refused number n → (read_record hold l ≡ Err InvalidLength) × (n ≡ 0)
   unfolding receives
   record-refused l number n e = refused_as l number n (read_record hold l) e
 
-  record-waits : (l : List ℕ) (r : Read) → record_answer l r ≡ waiting → r ≡ ReadWaiting
+  record-waits : (l : List ℕ) (r : Read) → record_answer l r ≡ waiting → r ≡ Ok None
   unfolding record_answer
-  record-waits l ReadWaiting e = refl
-  record-waits l InvalidLength e = cc
-  record-waits l (Whole t k used) e = cc
+  record-waits l (Ok None) e = refl
+  record-waits l (Err x) e = cc
+  record-waits l (Ok (Some r)) e = cc
 
   records-end : (rest : List ℕ) (e : End) → Stops (receives hold) rest e → RecordsEnded hold rest
   unfolding Stops receives
   records-end rest more s = cut_off (record-waits rest (read_record hold rest) s)
   records-end rest (stopped number) s = record-refusing (record-refused rest number 0 s).0
 
-  gives_at : (l : List ℕ) (h : Header) → Bytes l → read_header l ≡ h → Gives hold l (joined (frames_of (head_on hold l h).reading.messages))
+  gives_at : (l : List ℕ) (h : HeaderRead) → Bytes l → read_header l ≡ h → Gives hold l (joined (frames_of (head_on hold l h).reading.messages))
   unfolding head_on frames_of joined file_of
-  gives_at l HeaderWaiting b e = no_header (λ f. let z : ◌≡◌ {A = ℕ} 0 1 = cc in omega arith) refl
-  gives_at l Invalid b e = no_header (λ f. let z : ◌≡◌ {A = ℕ} 0 1 = cc in omega arith) refl
-  gives_at l HeaderWhole b e =
+  gives_at l (Ok None) b e = no_header (λ f. let z : ◌≡◌ {A = ℕ} 0 1 = cc in omega arith) refl
+  gives_at l (Err x) b e = no_header (λ f. let z : ◌≡◌ {A = ℕ} 0 1 = cc in omega arith) refl
+  gives_at l (Ok (Some h)) b e =
       let d = drop 24 l in
       let r = read_all (receives hold) d in
       let p = parted (receives hold) (records-stable hold) bytes_for (Held hold) record-bytes record-held (λ l number n e. (record-refused l number n e).1) d (bytes_drop 24 l b) in
@@ -195,7 +190,7 @@ module _ (hold : ℕ) where
   sent : (f : List ℕ) → IsFrame hold f → Sent hold (at_zero f)
   unfolding at_zero
   sent f y =
-      let small = accepted-small f payload_limit y.packet (decode_of f payload_limit) refl y.accepted in
+      let small = accepted_small f payload_limit y.packet y.accepted in
       let d = record_bytes zero_time f in
       let w = record-written zero_time f d (put d 0 (record_bytes zero_time f)) (omega (arith, y.length-is)) (omega (arith, length-record zero_time f)) refl in
       record {

@@ -15,10 +15,10 @@ use Rattle.stream.specs.Stream.{Answer, waiting, message, refused, Reading, join
 use Rattle.stream.proofs.Cut.{cut}
 use Rattle.protocol.specs.declared.packet.Packet.{Packet}
 use Rattle.protocol.specs.Message.{message_of}
-use Rattle.protocol.specs.Packet.{payload_limit, packet_of, used_of}
+use Rattle.protocol.specs.Packet.{payload_limit, packet_of}
 use Rattle.protocol.proofs.RoundTrip.{says}
 use Rattle.pcap.specs.Header.{file_header}
-use Rattle.capture.specs.declared.Next.TheVariants.{Frame}
+use Rattle.std.proofs.Common.{Some, Ok}
 use Rattle.capture.specs.Capture.{is_long, next_of, taken_of, next_frame}
 use Rattle.capture.specs.Converts.{answer_of, frames, record_of, captured, IsFrame, Ended, incomplete, refusing, too_long, given}
 use Rattle.capture.proofs.FramePieces.{frame-says, taken_as, stable}
@@ -33,9 +33,9 @@ module _ (hold : ℕ) where
       let q = ap (λ (k : Packet). k.data_length) s.known.packet-is in
       rw (le-ltb (length f) 24 s.long) (le-ltb hold (24 + num_of (part f 12 4)) (omega (arith, y.length-is, y.held)))
 
-  frame-next : (f : List ℕ) (y : IsFrame hold f) → next_frame hold f ≡ Frame (length f)
-  unfolding next_frame taken_of next_of used_of
-  frame-next f y = rw (not-long f y, y.accepted) (ap Frame (sym y.length-is))
+  frame-next : (f : List ℕ) (y : IsFrame hold f) → next_frame hold f ≡ Ok (Some (length f))
+  unfolding next_frame taken_of next_of
+  frame-next f y = rw (not-long f y, y.accepted, y.length-is)
 
   frame-alone : (f : List ℕ) → IsFrame hold f → frames hold f ≡ message f (length f)
   unfolding frames answer_of
@@ -46,7 +46,7 @@ module _ (hold : ℕ) where
   frame-first f rest y = (stable hold).stays f rest (ap is_waiting (frame-alone f y)) ∙ frame-alone f y
 
   -- what is behind is not taken
-  not_taken : (tail : List ℕ) (n : ℕ) → Ended hold tail → next_frame hold tail ≡ Frame n → ⊥
+  not_taken : (tail : List ℕ) (n : ℕ) → Ended hold tail → next_frame hold tail ≡ Ok (Some n) → ⊥
   unfolding next_frame
   not_taken tail n (incomplete w) e =
       let y = frame-says hold tail n e in

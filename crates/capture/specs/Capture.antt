@@ -1,29 +1,28 @@
 -- Received frames to the records of a capture, and back (docs/SCOPE.md, 12). Assumes nothing.
-use Rattle.std.specs.Prelude.{ℕ, ◌+◌, ◌≡◌, Bool, false, cond, List, ltb, eqb, length}
+use Rattle.std.specs.Prelude.{ℕ, ◌+◌, ◌≡◌, Bool, false, cond, List, ltb, Option, Some, None, Result, Ok, Err, is_ok, length}
 use Rattle.le.specs.Le.{num_of, part}
-use Rattle.protocol.specs.declared.packet.Decoded.{Decoded}
-use Rattle.protocol.specs.declared.packet.Decoded.TheVariants.{Waiting, InvalidCommand, InvalidMagic, PayloadTooLarge, InvalidChecksum, Accepted}
+use Rattle.protocol.specs.declared.packet.Packet.{Packet}
+use Rattle.protocol.specs.declared.packet.DecodeError.{DecodeError}
+use Rattle.protocol.specs.declared.packet.DecodeError.TheVariants.{PayloadTooLarge}
 use Rattle.protocol.specs.Message.{message_size}
-use Rattle.protocol.specs.Packet.{payload_limit, decode_of, decoded_number, used_of}
+use Rattle.protocol.specs.Packet.{payload_limit, decode_of}
 use Rattle.pcap.specs.declared.Time.{Time}
-use Rattle.pcap.specs.declared.Read.{Read}
-use Rattle.pcap.specs.declared.Read.TheVariants.{Waiting as ReadWaiting, InvalidLength, Whole}
-use Rattle.pcap.specs.Record.{Composed, read_record, read_number, write_head, written_number}
-use Rattle.capture.specs.declared.Next.{Next}
-use Rattle.capture.specs.declared.Next.TheVariants.{More, Frame, End}
+use Rattle.pcap.specs.declared.ReadError.{ReadError}
+use Rattle.pcap.specs.Record.{Read, Composed, read_record, write_head}
 
 -- a header is here that announces a frame of more than `hold` bytes, with the header's own
 unfoldable pub is_long : ℕ → List ℕ → Bool
 is_long hold s = cond (ltb (length s) message_size) false (ltb hold (message_size + num_of (part s 12 4)))
 
--- what decoding gave: a frame's length, or the number of a refusal
-unfoldable pub next_of : Decoded → Next
-next_of Waiting = More
-next_of (InvalidCommand word) = End (decoded_number (InvalidCommand word))
-next_of InvalidMagic = End (decoded_number InvalidMagic)
-next_of PayloadTooLarge = End (decoded_number PayloadTooLarge)
-next_of (InvalidChecksum used) = End (decoded_number (InvalidChecksum used))
-next_of (Accepted p) = Frame (used_of (Accepted p))
+-- what received bytes begin with: a frame of a length
+abbrev pub Next : Type 0
+Next = Result (Option ℕ) DecodeError
+
+-- what decoding gave: a frame's length, or the refusal
+unfoldable pub next_of : Result (Option Packet) DecodeError → Next
+next_of (Ok None) = Ok None
+next_of (Ok (Some p)) = Ok (Some (message_size + p.data_length))
+next_of (Err e) = Err e
 
 -- decoding at limit 1,048,576
 unfoldable pub taken_of : List ℕ → Next
@@ -31,7 +30,7 @@ taken_of s = next_of (decode_of s payload_limit)
 
 -- a longer frame than is held ends the capture, as a payload that is too large; else decoding decides
 unfoldable pub next_frame : ℕ → List ℕ → Next
-next_frame hold s = cond (is_long hold s) (End 3) (taken_of s)
+next_frame hold s = cond (is_long hold s) (Err PayloadTooLarge) (taken_of s)
 
 -- time 0
 abbrev pub zero_time : Time
@@ -43,15 +42,15 @@ head_for n head = write_head zero_time n head
 
 -- what making it promises
 pub record MakesHead (o : Composed) (r : Bool) (head : List ℕ) : Type 0 where
-  pub made-is : r ≡ eqb (written_number o.result) 0
+  pub made-is : r ≡ is_ok o.result
   pub head-is : head ≡ o.out
 
--- what reading a record gave: the length of its frame, or the number of a refusal
-unfoldable pub read_of : Read → Next
-read_of ReadWaiting = More
-read_of InvalidLength = End (read_number InvalidLength)
-read_of (Whole t n used) = Frame n
+-- what reading a record gave: the length of its frame, or the refusal
+unfoldable pub read_of : Read → Result (Option ℕ) ReadError
+read_of (Ok None) = Ok None
+read_of (Ok (Some r)) = Ok (Some r.length)
+read_of (Err e) = Err e
 
 -- a record whose frame is longer than is held is refused
-unfoldable pub next_record : ℕ → List ℕ → Next
+unfoldable pub next_record : ℕ → List ℕ → Result (Option ℕ) ReadError
 next_record hold s = read_of (read_record hold s)

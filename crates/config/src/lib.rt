@@ -53,10 +53,7 @@ impl ConnectionConfig {
         ensures { result ≡ cap_of self }
     {
         let payload = self.max_payload as usize;
-        if self.max_rx_per_channel < payload {
-            return payload;
-        }
-        self.max_rx_per_channel
+        self.max_rx_per_channel.max(payload)
     }
 
     // With fewer bytes held than this, one more full payload fits.
@@ -73,10 +70,7 @@ impl ConnectionConfig {
         ensures { result ≡ watermark_of self }
     {
         let ceiling = self.rx_ceiling();
-        if self.initial_ack_bytes > self.max_payload {
-            return saturate::least(ceiling, self.initial_ack_bytes as usize);
-        }
-        saturate::least(ceiling, self.max_payload as usize)
+        ceiling.min(self.initial_ack_bytes.max(self.max_payload) as usize)
     }
 
     // The credit that an OPEN grants in delayed mode.
@@ -85,7 +79,7 @@ impl ConnectionConfig {
         ensures { result ≡ opening_credit self }
     {
         let ceiling = self.rx_ceiling();
-        saturate::least(ceiling, self.initial_ack_bytes as usize) as u32
+        ceiling.min(self.initial_ack_bytes as usize) as u32
     }
 
     // Bytes of the receive store. Set-aside bytes don't count toward the cap, so a channel's share is two caps.

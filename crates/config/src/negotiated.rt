@@ -27,15 +27,6 @@ pub struct Negotiated {
     pub delayed_ack: bool,
 }
 
-fn all_of(a: bool, b: bool) -> bool
-    ensures { result ≡ both a b }
-{
-    if a {
-        return b;
-    }
-    false
-}
-
 impl Negotiated {
     // From the device's CNXN, whose arguments are its version and its maximum payload.
     pub fn new(
@@ -48,10 +39,10 @@ impl Negotiated {
         ensures { result ≡ negotiated_of host_delayed_ack device_delayed_ack arg0 arg1 config }
     {
         Negotiated {
-            max_payload: saturate::least_u32(arg1, Packet::MAX_PAYLOAD),
-            protocol_version: saturate::least_u32(arg0, ADB_VERSION),
+            max_payload: arg1.min(Packet::MAX_PAYLOAD),
+            protocol_version: arg0.min(ADB_VERSION),
             config,
-            delayed_ack: all_of(host_delayed_ack, device_delayed_ack),
+            delayed_ack: host_delayed_ack && device_delayed_ack,
         }
     }
 

@@ -12,11 +12,7 @@ use Rattle.le.proofs.Laws.{num_of-part, bytes-part}
 use Rattle.le.proofs.Parts.{length_part}
 use Rattle.config.specs.declared.negotiated.Negotiated.{Negotiated}
 use Rattle.protocol.specs.declared.command.Command.{Command}
-use Rattle.protocol.specs.declared.command.CommandWord.{CommandWord}
-use Rattle.protocol.specs.declared.command.CommandWord.TheVariants.{Known, Invalid}
 use Rattle.protocol.specs.declared.packet.Packet.{Packet}
-use Rattle.protocol.specs.declared.packet.Decoded.{Decoded}
-use Rattle.protocol.specs.declared.packet.Decoded.TheVariants.{Waiting as FrameWaiting, InvalidCommand as WordInvalid, InvalidMagic as MagicInvalid, PayloadTooLarge as LengthTooLarge, InvalidChecksum as SumInvalid, Accepted}
 use Rattle.protocol.specs.Command.{magic_of, command_of}
 use Rattle.protocol.specs.Message.{message_of}
 use Rattle.protocol.specs.Packet.{payload_of, check_passes, packet_of, known_of, named_of, decode_of}
@@ -25,17 +21,17 @@ use Rattle.slot.specs.declared.ChannelError.TheVariants.{Closed as ErrorClosed, 
 use Rattle.slot.specs.declared.ChannelFault.{ChannelFault}
 use Rattle.credit.proofs.CreditLaws.{by_number}
 use Rattle.slot.specs.declared.ChannelFault.TheVariants.{RxOverflow, BadCredit as CreditBad, UnexpectedCommand as WriteEarly}
-use Rattle.slot.specs.declared.Failed.{Failed}
-use Rattle.slot.specs.declared.Failed.TheVariants.{No, By}
 use Rattle.slot.specs.Numbers.{fault_number, error_number}
 use Rattle.slot.proofs.Kept.{pick}
 use Rattle.connection.specs.declared.Answer.{Answer}
 use Rattle.connection.specs.declared.Answer.TheVariants.{Refused}
-use Rattle.connection.specs.declared.Received.{Received}
-use Rattle.connection.specs.declared.Received.TheVariants.{Packet as PacketIs, Stop}
 use Rattle.connection.specs.Answer.{refusal_number, answer_number}
 use Rattle.connection.specs.Calls.{Lent, body_of, fault_refusal, error_refusal, unless_fault, received_by, received_of}
 use Rattle.connection.specs.Act.{PacketFits}
+use Rattle.protocol.specs.declared.packet.DecodeError.TheVariants.{InvalidCommand as WordInvalid, InvalidMagic as MagicInvalid, PayloadTooLarge as LengthTooLarge, InvalidChecksum as SumInvalid}
+use Rattle.protocol.specs.declared.packet.DecodeError.{DecodeError}
+use Rattle.std.specs.Prelude.{Option, Some, None, Result, Ok, Err}
+use Rattle.protocol.specs.declared.command.UnknownCommand.{UnknownCommand}
 
 -- ---- answers
 
@@ -44,48 +40,46 @@ abbrev pub Admitted : Answer → Type 0
 Admitted a = (answer_number a ≡ 13 → ⊥) × (answer_number a ≡ 8 → ⊥)
 
 pub fault-fine : (f : ChannelFault) → Admitted (Refused (fault_refusal f))
-unfolding fault_refusal answer_number refusal_number
+unfolding answer_number
 fault-fine RxOverflow = (λ e. omega arith, λ e. omega arith)
 fault-fine (CreditBad f) =
     by_number (λ n. (n ≡ 13 → ⊥) × (n ≡ 8 → ⊥)) (λ e. omega arith, λ e. omega arith) (λ e. omega arith, λ e. omega arith) (λ e. omega arith, λ e. omega arith) f
 fault-fine WriteEarly = (λ e. omega arith, λ e. omega arith)
 
 pub error-fine : (x : ChannelError) → Admitted (Refused (error_refusal x))
-unfolding error_refusal answer_number refusal_number
+unfolding answer_number
 error-fine ErrorClosed = (λ e. omega arith, λ e. omega arith)
 error-fine (Fault f) = fault-fine f
 
 -- a fault's and an error's refusal have their numbers
 pub fault-number : (f : ChannelFault) → refusal_number (fault_refusal f) ≡ fault_number f
-unfolding fault_refusal refusal_number fault_number
 fault-number RxOverflow = refl
 fault-number (CreditBad f) = refl
 fault-number WriteEarly = refl
 
 pub error-number : (x : ChannelError) → refusal_number (error_refusal x) ≡ error_number x
-unfolding error_refusal refusal_number error_number
 error-number ErrorClosed = refl
 error-number (Fault f) = fault-number f
 
-pub unless-fine : (f : Failed) (a : Answer) → Admitted a → Admitted (unless_fault f a)
+pub unless-fine : (f : Option ChannelFault) (a : Answer) → Admitted a → Admitted (unless_fault f a)
 unfolding unless_fault
-unless-fine No a h = h
-unless-fine (By f) a h = fault-fine f
+unless-fine None a h = h
+unless-fine (Some f) a h = fault-fine f
 
 -- ---- packets
 
 module _ (n : Negotiated) (received : List ℕ) where
-  abbrev DecodedFits : Decoded → Type 0
-  DecodedFits FrameWaiting = Unit {0}
-  DecodedFits (WordInvalid word) = Unit {0}
-  DecodedFits MagicInvalid = Unit {0}
-  DecodedFits LengthTooLarge = Unit {0}
-  DecodedFits (SumInvalid used) = Unit {0}
-  DecodedFits (Accepted p) = PacketFits n p (body_of received p)
+  abbrev DecodedFits : Result (Option Packet) DecodeError → Type 0
+  DecodedFits (Ok None) = Unit {0}
+  DecodedFits (Err (WordInvalid word)) = Unit {0}
+  DecodedFits (Err MagicInvalid) = Unit {0}
+  DecodedFits (Err LengthTooLarge) = Unit {0}
+  DecodedFits (Err (SumInvalid used)) = Unit {0}
+  DecodedFits (Ok (Some p)) = PacketFits n p (body_of received p)
 
-  abbrev pub ReceivedFits : Received → Type 0
-  ReceivedFits (PacketIs p) = PacketFits n p (body_of received p)
-  ReceivedFits (Stop a used) = Admitted a
+  abbrev pub ReceivedFits : Result Packet (Answer × ℕ) → Type 0
+  ReceivedFits (Ok p) = PacketFits n p (body_of received p)
+  ReceivedFits (Err (a, used)) = Admitted a
 
   module _ (y : Bytes received) where
     known-fits : (c : Command) → DecodedFits (known_of received n.config.max_payload c (message_of received))
@@ -103,23 +97,23 @@ module _ (n : Negotiated) (received : List ℕ) where
         record { arg0 = num_of-part 4 received 4 y; arg1 = num_of-part 4 received 8 y; small = omega arith; bytes = bytes-part received 24 k y })
         (λ w. tt))))
 
-    named-fits : (w : CommandWord) → DecodedFits (named_of received n.config.max_payload (message_of received) w)
+    named-fits : (w : Result Command UnknownCommand) → DecodedFits (named_of received n.config.max_payload (message_of received) w)
     unfolding named_of
-    named-fits (Known c) = known-fits c
-    named-fits (Invalid word) = tt
+    named-fits (Ok c) = known-fits c
+    named-fits (Err unknown) = tt
 
     decoded-fits : DecodedFits (decode_of received n.config.max_payload)
     unfolding decode_of
     decoded-fits = pick DecodedFits (ltb (length received) 24) (λ t. tt) (λ t. named-fits (command_of (message_of received).command))
 
-    received-by : (d : Decoded) → DecodedFits d → ReceivedFits (received_by d)
-    unfolding received_by answer_number refusal_number
-    received-by FrameWaiting g = (λ e. omega arith, λ e. omega arith)
-    received-by (WordInvalid word) g = (λ e. omega arith, λ e. omega arith)
-    received-by MagicInvalid g = (λ e. omega arith, λ e. omega arith)
-    received-by LengthTooLarge g = (λ e. omega arith, λ e. omega arith)
-    received-by (SumInvalid used) g = (λ e. omega arith, λ e. omega arith)
-    received-by (Accepted p) g = g
+    received-by : (d : Result (Option Packet) DecodeError) → DecodedFits d → ReceivedFits (received_by d)
+    unfolding received_by answer_number
+    received-by (Ok None) g = (λ e. omega arith, λ e. omega arith)
+    received-by (Err (WordInvalid word)) g = (λ e. omega arith, λ e. omega arith)
+    received-by (Err MagicInvalid) g = (λ e. omega arith, λ e. omega arith)
+    received-by (Err LengthTooLarge) g = (λ e. omega arith, λ e. omega arith)
+    received-by (Err (SumInvalid used)) g = (λ e. omega arith, λ e. omega arith)
+    received-by (Ok (Some p)) g = g
 
 pub received-fits : (l : Lent) (received : List ℕ) → Bytes received → ReceivedFits l.state.header.negotiated received (received_of l received)
 unfolding received_of
@@ -136,14 +130,14 @@ pub record PacketRoom (received : List ℕ) (limit : ℕ) (p : Packet) : Type 0 
   pub most : p.data_length ≤ 1_048_576
 
 module _ (received : List ℕ) (limit : ℕ) where
-  abbrev RoomIn : Received → Type 0
-  RoomIn (PacketIs p) = PacketRoom received limit p
-  RoomIn (Stop a used) = Unit {0}
+  abbrev RoomIn : Result Packet (Answer × ℕ) → Type 0
+  RoomIn (Ok p) = PacketRoom received limit p
+  RoomIn (Err (a, used)) = Unit {0}
 
   known-room : (c : Command) → RoomIn (received_by (known_of received limit c (message_of received)))
   unfolding known_of packet_of message_of payload_of received_by
   known-room c =
-      let R : Decoded → Type 0 = λ d. RoomIn (received_by d) in
+      let R : Result (Option Packet) DecodeError → Type 0 = λ d. RoomIn (received_by d) in
       let k = num_of (part received 12 4) in
       let most = min limit 1_048_576 in
       pick R (not (eqb (num_of (part received 20 4)) (magic_of c))) (λ t. tt)
@@ -156,14 +150,14 @@ module _ (received : List ℕ) (limit : ℕ) where
       record { whole = b; body = e; small = omega arith; most = omega arith })
       (λ w. tt))))
 
-  named-room : (w : CommandWord) → RoomIn (received_by (named_of received limit (message_of received) w))
+  named-room : (w : Result Command UnknownCommand) → RoomIn (received_by (named_of received limit (message_of received) w))
   unfolding named_of received_by
-  named-room (Known c) = known-room c
-  named-room (Invalid word) = tt
+  named-room (Ok c) = known-room c
+  named-room (Err unknown) = tt
 
   room_in : RoomIn (received_by (decode_of received limit))
   unfolding decode_of received_by
-  room_in = pick (λ (d : Decoded). RoomIn (received_by d)) (ltb (length received) 24) (λ t. tt) (λ t. named-room (command_of (message_of received).command))
+  room_in = pick (λ (d : Result (Option Packet) DecodeError). RoomIn (received_by d)) (ltb (length received) 24) (λ t. tt) (λ t. named-room (command_of (message_of received).command))
 
-  pub packet-room : (r : Received) (p : Packet) → r ≡ received_by (decode_of received limit) → r ≡ PacketIs p → PacketRoom received limit p
+  pub packet-room : (r : Result Packet (Answer × ℕ)) (p : Packet) → r ≡ received_by (decode_of received limit) → r ≡ Ok p → PacketRoom received limit p
   packet-room r p e f = subst RoomIn (sym e ∙ f) room_in

@@ -25,15 +25,7 @@ use Rattle.slot.specs.declared.ids.RemoteId.{RemoteId}
 use Rattle.slot.specs.declared.ChannelError.{ChannelError}
 use Rattle.slot.specs.declared.ChannelFault.TheVariants.{RxOverflow, BadCredit, UnexpectedCommand}
 use Rattle.slot.specs.declared.ChannelSlot.{ChannelSlot}
-use Rattle.credit.specs.declared.Credit.{Credit}
-use Rattle.credit.specs.declared.Credit.TheVariants.{Of, Bad as CreditBad}
-use Rattle.slot.specs.declared.PendingAck.{PendingAck}
-use Rattle.slot.specs.declared.PendingAck.TheVariants.{Len, Nothing as NoAck}
-use Rattle.slot.specs.declared.Readied.{Readied}
-use Rattle.slot.specs.declared.Readied.TheVariants.{Slot, Bad}
 use Rattle.slot.specs.declared.Settled.{Settled as SettledSlot}
-use Rattle.slot.specs.declared.Taken.{Taken}
-use Rattle.slot.specs.declared.Taken.TheVariants.{Data, Nothing as NothingTaken, Closed as ClosedTaken}
 use Rattle.slot.specs.declared.Wrote.{Wrote}
 use Rattle.slot.specs.Slot.{with_total, total_with, with_numbers, acked, is_ack, is_opening, is_failed, is_closed, opened_by, opened_of, ready_by, ready_of, held_of, acks_now, buffered_with, wrote_of, some_len, delivered_of, ack_len_of, settled_by, settled_some, settled_of, has_data, taken_of, closed_slot, SlotOk}
 use Rattle.credit.specs.Credit.{credit_of as credit_in}
@@ -57,6 +49,8 @@ use Rattle.connection.specs.Answer.{ack_length}
 use Rattle.connection.specs.Calls.{ack_frames, ids_in}
 use Rattle.connection.specs.Frames.{Sent, Frame, open_frame, write_frame, okay_frame, close_frame, frame_bytes, frames_bytes}
 use Rattle.connection.proofs.Slots.{slots_by, slots-append, slot-set-same, slot-set-other}
+use Rattle.credit.specs.declared.CreditFault.{CreditFault}
+use Rattle.std.specs.Prelude.{ℤ, Option, Some, None, Result, Ok, Err}
 
 -- ---- frames and their bytes
 
@@ -148,10 +142,10 @@ few-close n ids h =
     (record { sent = record { arg0-fits = h.local; arg1-fits = h.remote; small = omega arith }; len-fits = λ d. omega arith }) (omega arith)
 
 -- the OKAY of an acknowledgement
-pub few-ack : (n : Negotiated) (s : ChannelSlot) (a : PendingAck) → IdsFit (ids_in s) → (n.delayed_ack ≡ true → ack_length a < 2 ^ 31) → Few n 1 (ack_frames s a)
+pub few-ack : (n : Negotiated) (s : ChannelSlot) (a : Option ℕ) → IdsFit (ids_in s) → (n.delayed_ack ≡ true → ack_length a < 2 ^ 31) → Few n 1 (ack_frames s a)
 unfolding ack_frames ack_length
-few-ack n s (Len k) h d = few-okay n (ids_in s) k h d
-few-ack n s NoAck h d = few-none n 1
+few-ack n s (Some k) h d = few-okay n (ids_in s) k h d
+few-ack n s None h d = few-none n 1
 
 -- ---- what dispatching leaves of the slot at a place
 
@@ -191,19 +185,19 @@ pub record Own (Q : Type 0) (p : RxPolicy) (s : ChannelSlot) (writes : Bool) (t 
   pub sound : Q → SlotOk t p.rx_cap
   pub rests : Rests writes s t
 
-abbrev pub ReadiedIds : Readied → Type 0
-ReadiedIds (Slot t) = IdsFit (ids_in t)
-ReadiedIds (Bad f) = Unit {0}
+abbrev pub ReadiedIds : Result ChannelSlot CreditFault → Type 0
+ReadiedIds (Ok t) = IdsFit (ids_in t)
+ReadiedIds (Err f) = Unit {0}
 
-opened-ids-by : (s : ChannelSlot) (r : RemoteId) (c : Credit) → IdsFit (ids_in s) → r.0 < 2 ^ 32 → ReadiedIds (opened_by s r c)
+opened-ids-by : (s : ChannelSlot) (r : RemoteId) (c : Result ℤ CreditFault) → IdsFit (ids_in s) → r.0 < 2 ^ 32 → ReadiedIds (opened_by s r c)
 unfolding opened_by
-opened-ids-by s r (Of z) h g = record { local = h.local; remote = g }
-opened-ids-by s r (CreditBad f) h g = tt
+opened-ids-by s r (Ok z) h g = record { local = h.local; remote = g }
+opened-ids-by s r (Err f) h g = tt
 
-ready-ids-by : (s : ChannelSlot) (c : Credit) → IdsFit (ids_in s) → ReadiedIds (ready_by s c)
+ready-ids-by : (s : ChannelSlot) (c : Result ℤ CreditFault) → IdsFit (ids_in s) → ReadiedIds (ready_by s c)
 unfolding ready_by
-ready-ids-by s (Of z) h = record { local = h.local; remote = h.remote }
-ready-ids-by s (CreditBad f) h = tt
+ready-ids-by s (Ok z) h = record { local = h.local; remote = h.remote }
+ready-ids-by s (Err f) h = tt
 
 -- an OKAY leaves a slot's numbers of 32 bits
 pub readied-ids : (s : ChannelSlot) (r : RemoteId) (payload : List ℕ) (p : RxPolicy) → IdsFit (ids_in s) → r.0 < 2 ^ 32 → ReadiedIds (readied_of s r payload p)
@@ -273,10 +267,10 @@ module _ (Q : Type 0) (p : RxPolicy) (n : ℕ) (ss : List ChannelSlot) (i : ℕ)
       (λ t. goes_left Unmatched tt)
 
   -- an OKAY
-  goes-granted : (f : ℕ) (remote : RemoteId) (r : Readied) → ReadiedIds r → (i ≡ f → Q → ReadiedSound p.rx_cap r) → Goes (granted f (slot_in ss f) remote r)
+  goes-granted : (f : ℕ) (remote : RemoteId) (r : Result ChannelSlot CreditFault) → ReadiedIds r → (i ≡ f → Q → ReadiedSound p.rx_cap r) → Goes (granted f (slot_in ss f) remote r)
   unfolding granted
-  goes-granted f remote (Slot t) h s = goes-stored (CreditGranted f) f t tt h s (quiet refl)
-  goes-granted f remote (Bad b) h s = goes_left (faulted f (slot_in ss f) remote (BadCredit b)) tt
+  goes-granted f remote (Ok t) h s = goes-stored (CreditGranted f) f t tt h s (quiet refl)
+  goes-granted f remote (Err b) h s = goes_left (faulted f (slot_in ss f) remote (BadCredit b)) tt
 
   goes-stray : (remote : RemoteId) (local : LocalId) → remote.0 < 2 ^ 32 → local.0 < 2 ^ 32 → Goes (left (stray_of remote local))
   unfolding stray_of
@@ -384,15 +378,15 @@ acts Q h ss queue rx store k payload i fit inside ok g0 g1 =
 
 -- nothing is acknowledged, or the ack's length is, and as many bytes as there are and are wanted are set aside
 data Settling (s : ChannelSlot) (p : RxPolicy) (want : ℕ) (r : SettledSlot) : Type 0 where
-  none : r ≡ acked s NoAck → Settling s p want r
-  some-len : (k : ℕ) → ack_len_of s p (min want s.buffered) (s.buffered - min want s.buffered) ≡ Len k
-      → r ≡ acked (with_total (with_numbers s (s.unacked - k) (min want s.buffered) s.head s.buffered) (total_with p s.acked_total k)) (Len k) → Settling s p want r
+  none : r ≡ acked s None → Settling s p want r
+  some-len : (k : ℕ) → ack_len_of s p (min want s.buffered) (s.buffered - min want s.buffered) ≡ Some k
+      → r ≡ acked (with_total (with_numbers s (s.unacked - k) (min want s.buffered) s.head s.buffered) (total_with p s.acked_total k)) (Some k) → Settling s p want r
 
-settling-by : (s : ChannelSlot) (p : RxPolicy) (want : ℕ) (a : PendingAck) → ack_len_of s p (min want s.buffered) (s.buffered - min want s.buffered) ≡ a
+settling-by : (s : ChannelSlot) (p : RxPolicy) (want : ℕ) (a : Option ℕ) → ack_len_of s p (min want s.buffered) (s.buffered - min want s.buffered) ≡ a
     → Settling s p want (settled_by s p (min want s.buffered) a)
 unfolding settled_by
-settling-by s p want (Len k) e = some-len k e refl
-settling-by s p want NoAck e = none refl
+settling-by s p want (Some k) e = some-len k e refl
+settling-by s p want None e = none refl
 
 settling : (s : ChannelSlot) (p : RxPolicy) (want : ℕ) → Settling s p want (settled_of s p want)
 unfolding settled_of settled_some
@@ -411,13 +405,13 @@ settled-ids s p want h = ids-by s p want h (settled_of s p want) (settling s p w
 
 some-small : (n : ℕ) → ack_length (some_len n) ≤ n
 unfolding some_len ack_length
-some-small n = pick (λ (a : PendingAck). ack_length a ≤ n) (eqb n 0) (λ z. omega arith) (λ z. omega arith)
+some-small n = pick (λ (a : Option ℕ). ack_length a ≤ n) (eqb n 0) (λ z. omega arith) (λ z. omega arith)
 
 -- in delayed mode no more is acknowledged than is set aside
 ack-small : (s : ChannelSlot) (p : RxPolicy) (n rest : ℕ) → p.delayed ≡ true → ack_length (ack_len_of s p n rest) ≤ n
 unfolding ack_len_of ack_length
 ack-small s p n rest d =
-    let L : PendingAck → Type 0 = λ a. ack_length a ≤ n in
+    let L : Option ℕ → Type 0 = λ a. ack_length a ≤ n in
     let m = some-small (min n s.unacked) in
     pick L (eqb s.unacked 0) (λ z. omega arith)
     (λ z. pick L p.delayed (λ t. omega arith) (λ t. absurd (true≢false (sym d ∙ t))))
@@ -427,7 +421,7 @@ unfolding ack_length
 small_by s p want cap ok d r (none e) = subst (λ (x : SettledSlot). ack_length x.ack < 2 ^ 31) (sym e) (omega arith)
 small_by s p want cap ok d r (some-len k f e) =
     let m = min want s.buffered in
-    let a : k ≤ m = subst (λ (x : PendingAck). ack_length x ≤ m) f (ack-small s p m (s.buffered - m) d) in
+    let a : k ≤ m = subst (λ (x : Option ℕ). ack_length x ≤ m) f (ack-small s p m (s.buffered - m) d) in
     let run = ok.run_fits in
     let c = ok.cap-small in
     subst (λ (x : SettledSlot). ack_length x.ack < 2 ^ 31) (sym e) (omega arith)
@@ -437,36 +431,36 @@ settled-small s p want cap ok d = small_by s p want cap ok d (settled_of s p wan
 
 -- ---- a second settling
 
-acked-is : (s : ChannelSlot) (p : RxPolicy) (n : ℕ) (a : PendingAck) → (settled_by s p n a).ack ≡ a
+acked-is : (s : ChannelSlot) (p : RxPolicy) (n : ℕ) (a : Option ℕ) → (settled_by s p n a).ack ≡ a
 unfolding settled_by
-acked-is s p n (Len k) = refl
-acked-is s p n NoAck = refl
+acked-is s p n (Some k) = refl
+acked-is s p n None = refl
 
 -- with nothing unacknowledged nothing is acknowledged
-pub silent-clear : (s : ChannelSlot) (p : RxPolicy) (want : ℕ) → s.unacked ≡ 0 → (settled_of s p want).ack ≡ NoAck
+pub silent-clear : (s : ChannelSlot) (p : RxPolicy) (want : ℕ) → s.unacked ≡ 0 → (settled_of s p want).ack ≡ None
 unfolding settled_of settled_some ack_len_of
 silent-clear s p want e =
-    let G : SettledSlot → Type 0 = λ r. r.ack ≡ NoAck in
+    let G : SettledSlot → Type 0 = λ r. r.ack ≡ None in
     pick G s.has_remote
     (λ r. pick G (eqb s.settled 0) (λ z. acked-is s p _ _ ∙ cond-true (eqb s.unacked 0) _ _ (eq-eqb s.unacked 0 e)) (λ z. refl))
     (λ r. refl)
 
-no-len : {P : Type 0} (k : ℕ) → NoAck ≡ Len k → P
+no-len : {P : Type 0} (k : ℕ) → None ≡ Some k → P
 unfolding is_ack
 no-len k e = absurd (true≢false (sym (ap is_ack e)))
 
 -- where no bytes are set aside, all that is unacknowledged is acknowledged, or nothing
-all-len : (s : ChannelSlot) (p : RxPolicy) (n rest k : ℕ) → n ≡ 0 → ack_len_of s p n rest ≡ Len k → k ≡ s.unacked
+all-len : (s : ChannelSlot) (p : RxPolicy) (n rest k : ℕ) → n ≡ 0 → ack_len_of s p n rest ≡ Some k → k ≡ s.unacked
 unfolding ack_len_of some_len ack_length
 all-len s p n rest k z =
-    let L : PendingAck → Type 0 = λ a. a ≡ Len k → k ≡ s.unacked in
+    let L : Option ℕ → Type 0 = λ a. a ≡ Some k → k ≡ s.unacked in
     let m : min n s.unacked ≡ 0 = omega arith in
     pick L (eqb s.unacked 0) (λ t e. no-len k e)
     (λ t. pick L p.delayed (λ d e. no-len k (sym (cond-true (eqb (min n s.unacked) 0) _ _ (eq-eqb (min n s.unacked) 0 m)) ∙ e))
     (λ d. pick L (ltb rest p.watermark) (λ w e. sym (ap ack_length e)) (λ w e. no-len k e)))
 
 -- a slot that was settled, with nothing buffered, has nothing to acknowledge
-again_by : (s : ChannelSlot) (p : RxPolicy) (want : ℕ) (r : SettledSlot) → Settling s p want r → settled_of s p want ≡ r → r.slot.buffered ≡ 0 → (settled_of r.slot p want).ack ≡ NoAck
+again_by : (s : ChannelSlot) (p : RxPolicy) (want : ℕ) (r : SettledSlot) → Settling s p want r → settled_of s p want ≡ r → r.slot.buffered ≡ 0 → (settled_of r.slot p want).ack ≡ None
 again_by s p want r (none e) q h = ap (λ (x : SettledSlot). (settled_of x.slot p want).ack) e ∙ ap (λ (x : SettledSlot). x.ack) (q ∙ e)
 again_by s p want r (some-len k f e) q h =
     let b : s.buffered ≡ 0 = sym (ap (λ (x : SettledSlot). x.slot.buffered) e) ∙ h in
@@ -474,15 +468,15 @@ again_by s p want r (some-len k f e) q h =
     let u : r.slot.unacked ≡ s.unacked - k = ap (λ (x : SettledSlot). x.slot.unacked) e in
     silent-clear r.slot p want (omega arith)
 
-pub silent-again : (s : ChannelSlot) (p : RxPolicy) (want : ℕ) → (settled_of s p want).slot.buffered ≡ 0 → (settled_of (settled_of s p want).slot p want).ack ≡ NoAck
+pub silent-again : (s : ChannelSlot) (p : RxPolicy) (want : ℕ) → (settled_of s p want).slot.buffered ≡ 0 → (settled_of (settled_of s p want).slot p want).ack ≡ None
 silent-again s p want z = again_by s p want (settled_of s p want) (settling s p want) refl z
 
 -- ---- taking
 
-pub data Taking (s : ChannelSlot) (room : ℕ) : Taken → Type 0 where
-  took : (t : ChannelSlot) (n : ℕ) → n ≤ room → Taking s room (Data t n)
-  nothing : has_data s ≡ false → Taking s room NothingTaken
-  shut : (e : ChannelError) → Taking s room (ClosedTaken e)
+pub data Taking (s : ChannelSlot) (room : ℕ) : Result (Option (ChannelSlot × ℕ)) ChannelError → Type 0 where
+  took : (t : ChannelSlot) (n : ℕ) → n ≤ room → Taking s room (Ok (Some (t, n)))
+  nothing : has_data s ≡ false → Taking s room (Ok None)
+  shut : (e : ChannelError) → Taking s room (Err e)
 
 pub taking : (s : ChannelSlot) (room : ℕ) → Taking s room (taken_of s room)
 unfolding taken_of

@@ -12,17 +12,11 @@ use Rattle.config.proofs.Laws.{and-true}
 use Rattle.config.specs.declared.negotiated.Negotiated.{Negotiated}
 use Rattle.config.specs.declared.negotiated.RxPolicy.{RxPolicy}
 use Rattle.config.specs.Config.{stores_fit}
-use Rattle.incoming.specs.declared.Pushed.{Pushed}
-use Rattle.incoming.specs.declared.Pushed.TheVariants.{Queued, Full}
 use Rattle.incoming.specs.Incoming.{PushOutcome, pushed}
 use Rattle.protocol.specs.declared.command.Command.{Command}
 use Rattle.protocol.specs.declared.command.Command.TheVariants.{Sync, Connect, Open, Ready, Close, Write, Auth, StartTls}
 use Rattle.protocol.specs.declared.packet.Packet.{Packet}
-use Rattle.protocol.specs.declared.packet.Decoded.{Decoded}
-use Rattle.protocol.specs.declared.packet.Decoded.TheVariants.{Waiting as FrameWaiting, InvalidCommand as WordInvalid, InvalidMagic as MagicInvalid, PayloadTooLarge as LengthTooLarge, InvalidChecksum as SumInvalid, Accepted}
 use Rattle.protocol.specs.Packet.{decode_of}
-use Rattle.slot.specs.declared.AckDecision.{AckDecision}
-use Rattle.slot.specs.declared.AckDecision.TheVariants.{Now, Hold, Overflow, Early}
 use Rattle.slot.specs.declared.ChannelSlot.{ChannelSlot}
 use Rattle.slot.specs.declared.ids.LocalId.{LocalId}
 use Rattle.slot.specs.declared.ids.RemoteId.{RemoteId}
@@ -41,8 +35,6 @@ use Rattle.table.specs.Table.{place_of}
 use Rattle.table_dispatch.specs.declared.DispatchOutcome.{DispatchOutcome}
 use Rattle.table_dispatch.specs.declared.DispatchOutcome.TheVariants.{AckWrite, CreditGranted, SlotClosed, DataBuffered, IncomingOpen, CancelQueuedOpen, StrayReady, ChannelFault, Unmatched}
 use Rattle.table_dispatch.specs.Dispatch.{Dispatched, wrote_by, wrote_at, write_of, route_of, dispatch_of}
-use Rattle.connection.specs.declared.Received.{Received}
-use Rattle.connection.specs.declared.Received.TheVariants.{Packet as PacketIs, Stop}
 use Rattle.connection.specs.declared.Refusal.{Refusal}
 use Rattle.connection.specs.declared.Refusal.TheVariants.{StoreShort, OutShort, BrokenState}
 use Rattle.connection.specs.Answer.{refusal_number, answer_number}
@@ -51,6 +43,12 @@ use Rattle.connection.specs.Calls.{Lent, Outcome, untouched, ends, checked, chec
 use Rattle.connection.proofs.Decoding.{packet-room}
 use Rattle.connection.proofs.WholeWork.{checked-out-kept, long}
 use Rattle.connection.proofs.WholeCalls.{dispatch-kept}
+use Rattle.protocol.specs.declared.packet.DecodeError.TheVariants.{InvalidCommand as WordInvalid, InvalidMagic as MagicInvalid, PayloadTooLarge as LengthTooLarge, InvalidChecksum as SumInvalid}
+use Rattle.protocol.specs.declared.packet.DecodeError.{DecodeError}
+use Rattle.std.specs.Prelude.{Option, Some, None, Result, Ok, Err}
+use Rattle.slot.specs.declared.ChannelFault.TheVariants.{RxOverflow, UnexpectedCommand}
+use Rattle.slot.specs.declared.ChannelFault.{ChannelFault as SlotFault}
+use Rattle.connection.specs.declared.Answer.{Answer}
 
 -- two outcomes that a caller can tell apart by the stores' bytes alone
 pub record Same (o p : Outcome) : Type 0 where
@@ -70,13 +68,12 @@ module _ (rx rx₂ : List ℕ) where
   abbrev Alike : Dispatched → Dispatched → Type 0
   Alike d e = d.step ≡ e.step
 
-  wrote-by : (p : RxPolicy) (i : ℕ) (s : ChannelSlot) (remote : RemoteId) (payload : List ℕ) (t : ChannelSlot) (a : AckDecision)
+  wrote-by : (p : RxPolicy) (i : ℕ) (s : ChannelSlot) (remote : RemoteId) (payload : List ℕ) (t : ChannelSlot) (a : Result (Option ℕ) SlotFault)
       → Alike (wrote_by p i s remote payload rx t a) (wrote_by p i s remote payload rx₂ t a)
   unfolding wrote_by
-  wrote-by p i s remote payload t (Now len) = refl
-  wrote-by p i s remote payload t Hold = refl
-  wrote-by p i s remote payload t Overflow = refl
-  wrote-by p i s remote payload t Early = refl
+  wrote-by p i s remote payload t (Ok (Some len)) = refl
+  wrote-by p i s remote payload t (Ok None) = refl
+  wrote-by p i s remote payload t (Err why) = refl
 
   both : (t : Bool) (d d₂ e e₂ : Dispatched) → Alike d d₂ → Alike e e₂ → Alike (cond t d e) (cond t d₂ e₂)
   both true d d₂ e e₂ a b = a
@@ -129,10 +126,10 @@ module _ (h : Header) (queue : List QueuedOpen) (payload store store₂ : List �
       either true a a₂ b b₂ f g = f
       either false a a₂ b b₂ f g = g
 
-  pushed-by : (remote : RemoteId) (o o₂ : PushOutcome) → o.changes ≡ o₂.changes → (r : Pushed) → ActedSame (pushed_by h store d remote o r) (pushed_by h store₂ d₂ remote o₂ r)
+  pushed-by : (remote : RemoteId) (o o₂ : PushOutcome) → o.changes ≡ o₂.changes → (r : Option Header) → ActedSame (pushed_by h store d remote o r) (pushed_by h store₂ d₂ remote o₂ r)
   unfolding pushed_by
-  pushed-by remote o o₂ f (Queued more) = record { fault = refl; header = refl; changes = rw (e, f) refl; frames = refl }
-  pushed-by remote o o₂ f Full = record { fault = refl; header = refl; changes = rw e refl; frames = refl }
+  pushed-by remote o o₂ f (Some more) = record { fault = refl; header = refl; changes = rw (e, f) refl; frames = refl }
+  pushed-by remote o o₂ f None = record { fault = refl; header = refl; changes = rw e refl; frames = refl }
 
   acted-by : (o : DispatchOutcome) → ActedSame (acted_by h queue payload store d o) (acted_by h queue payload store₂ d₂ o)
   unfolding acted_by
@@ -142,7 +139,7 @@ module _ (h : Header) (queue : List QueuedOpen) (payload store store₂ : List �
   acted-by (DataBuffered i) = record { fault = refl; header = refl; changes = rw e refl; frames = refl }
   acted-by (IncomingOpen remote credit) =
       let k = pushes_same remote credit in
-      subst (λ (r : Pushed). ActedSame (pushed_by h store d remote (pushed h queue remote credit payload store) (pushed h queue remote credit payload store).result)
+      subst (λ (r : Option Header). ActedSame (pushed_by h store d remote (pushed h queue remote credit payload store) (pushed h queue remote credit payload store).result)
       (pushed_by h store₂ d₂ remote (pushed h queue remote credit payload store₂) r)) k.0
       (pushed-by remote _ _ k.1 (pushed h queue remote credit payload store).result)
   acted-by (CancelQueuedOpen remote) = record { fault = refl; header = refl; changes = rw e refl; frames = refl }
@@ -164,10 +161,10 @@ act-same h ss queue rx store rx₂ store₂ p payload =
 
 -- the step's: of stores of any lengths
 module _ (l l₂ : Lent) (e : l.state ≡ l₂.state) where
-  dispatch-by : (h : Header) (received : List ℕ) (r : Received) → Same (dispatch_by l h received r) (dispatch_by l₂ h received r)
+  dispatch-by : (h : Header) (received : List ℕ) (r : Result Packet (Answer × ℕ)) → Same (dispatch_by l h received r) (dispatch_by l₂ h received r)
   unfolding dispatch_by ends
-  dispatch-by h received (Stop a used) = record { answer = refl; used = refl; frames = refl; handed = refl; changes = refl }
-  dispatch-by h received (PacketIs p) =
+  dispatch-by h received (Err (a, used)) = record { answer = refl; used = refl; frames = refl; handed = refl; changes = refl }
+  dispatch-by h received (Ok p) =
       let k = acts in
       record {
         answer = rw k.fault refl;
@@ -275,23 +272,23 @@ module _ (state rx store : List ℕ) (out : ℕ) (received : List ℕ) (y : Soun
 -- ---- a dispatch that is done uses no more than it was lent
 
 module _ (l : Lent) (received : List ℕ) where
-  abbrev Ends : Received → Type 0
-  Ends (PacketIs p) = frame_len p ≤ length received
-  Ends (Stop a used) = answer_number a ≡ 0 → ⊥
+  abbrev Ends : Result Packet (Answer × ℕ) → Type 0
+  Ends (Ok p) = frame_len p ≤ length received
+  Ends (Err (a, used)) = answer_number a ≡ 0 → ⊥
 
-  stops : (d : Decoded) → d ≡ decode_of received l.state.header.negotiated.config.max_payload → Ends (received_by d)
-  unfolding received_by answer_number refusal_number
-  stops FrameWaiting e = λ t. omega arith
-  stops (WordInvalid word) e = λ t. omega arith
-  stops MagicInvalid e = λ t. omega arith
-  stops LengthTooLarge e = λ t. omega arith
-  stops (SumInvalid used) e = λ t. omega arith
-  stops (Accepted p) e = (packet-room received _ (PacketIs p) p (ap received_by e) refl).whole
+  stops : (d : Result (Option Packet) DecodeError) → d ≡ decode_of received l.state.header.negotiated.config.max_payload → Ends (received_by d)
+  unfolding received_by answer_number
+  stops (Ok None) e = λ t. omega arith
+  stops (Err (WordInvalid word)) e = λ t. omega arith
+  stops (Err MagicInvalid) e = λ t. omega arith
+  stops (Err LengthTooLarge) e = λ t. omega arith
+  stops (Err (SumInvalid used)) e = λ t. omega arith
+  stops (Ok (Some p)) e = (packet-room received _ (Ok p) p (ap received_by e) refl).whole
 
-  used-by : (r : Received) → Ends r → answer_number (dispatch_by l (dropped l.state.header) received r).answer ≡ 0 → (dispatch_by l (dropped l.state.header) received r).used ≤ length received
+  used-by : (r : Result Packet (Answer × ℕ)) → Ends r → answer_number (dispatch_by l (dropped l.state.header) received r).answer ≡ 0 → (dispatch_by l (dropped l.state.header) received r).used ≤ length received
   unfolding dispatch_by ends
-  used-by (Stop a used) f t = absurd (f t)
-  used-by (PacketIs p) f t = f
+  used-by (Err (a, used)) f t = absurd (f t)
+  used-by (Ok p) f t = f
 
   abbrev Within : Outcome → Type 0
   Within o = answer_number o.answer ≡ 0 → o.used ≤ length received

@@ -10,24 +10,13 @@ use borrow.Author.Tests.{ltb-true}
 use Rattle.le.specs.Le.{unsigned, Bytes}
 use Rattle.config.specs.Negotiated.{policy_of}
 use Rattle.config.proofs.Laws.{and-true, sound}
-use Rattle.incoming.specs.declared.Front.{Front}
-use Rattle.incoming.specs.declared.Front.TheVariants.{Open as FrontOpen, Nothing as NoFront}
 use Rattle.protocol.specs.declared.packet.Packet.{Packet}
 use Rattle.protocol.specs.Packet.{payload_limit}
 use Rattle.protocol.specs.Command.{is_ready, is_close, is_write}
-use Rattle.slot.specs.declared.Budget.{Budget}
-use Rattle.slot.specs.declared.Budget.TheVariants.{Bytes as Most, Nothing as NoBudget}
 use Rattle.slot.specs.declared.ChannelSlot.{ChannelSlot}
-use Rattle.slot.specs.declared.Failed.{Failed}
-use Rattle.slot.specs.declared.Failed.TheVariants.{No, By}
-use Rattle.slot.specs.declared.PendingAck.{PendingAck}
-use Rattle.slot.specs.declared.Readied.{Readied}
 use Rattle.credit.specs.declared.CreditFault.{CreditFault}
 use Rattle.slot.specs.declared.ChannelFault.TheVariants.{BadCredit as CreditBad}
-use Rattle.slot.specs.declared.Readied.TheVariants.{Slot, Bad}
 use Rattle.slot.specs.declared.Settled.{Settled as SettledSlot}
-use Rattle.slot.specs.declared.Taken.{Taken}
-use Rattle.slot.specs.declared.Taken.TheVariants.{Data, Nothing as NothingTaken, Closed as ClosedTaken}
 use Rattle.slot.specs.declared.ids.RemoteId.{RemoteId}
 use Rattle.slot.specs.Ids.{closed_by}
 use Rattle.slot.specs.Slot.{emptied_slot, is_closed, ready_of, taken_of, budget_of, closed_slot}
@@ -37,15 +26,11 @@ use Rattle.state.specs.Change.{Change, slot_to, changed_all}
 use Rattle.state.specs.State.{is_ours, none_queued, Connection, with_slot}
 use Rattle.state.proofs.StateLaws.{OpenFits}
 use Rattle.le.proofs.RowLaws.{never}
-use Rattle.table.specs.declared.Allocated.{Allocated}
-use Rattle.table.specs.declared.Allocated.TheVariants.{Channel, NoFree}
 use Rattle.table.specs.declared.ChannelId.{ChannelId}
 use Rattle.table.specs.declared.Want.TheVariants.{Empty}
 use Rattle.table.specs.Table.{wanted_by, place_of, next_local_id, numbered, allocated, slot_in}
 use Rattle.connection.specs.declared.Answer.{Answer}
 use Rattle.connection.specs.declared.Answer.TheVariants.{Done, Waiting, Nothing, Opened, Settled, Read, Written, Front as FrontIs, Numbers, Refused}
-use Rattle.connection.specs.declared.Received.{Received}
-use Rattle.connection.specs.declared.Received.TheVariants.{Packet as PacketIs, Stop}
 use Rattle.connection.specs.declared.Refusal.TheVariants.{PayloadTooLarge, BadCredit, UnexpectedCommand, OutShort, ChannelClosed, NoFreeChannels}
 use Rattle.connection.specs.Answer.{refusal_number, answer_number}
 use Rattle.connection.specs.Act.{Acted, act_on, PacketFits}
@@ -58,6 +43,11 @@ use Rattle.incoming.proofs.QueueLaws.{QueueKeeps, NoOffer, ours-alone, every-get
 use Rattle.connection.proofs.WholeAct.{ActedKeeps, acted-keeps}
 use Rattle.connection.proofs.Decoding.{Admitted, fault-fine, error-fine, unless-fine, ReceivedFits, received-fits}
 use Rattle.connection.proofs.WholeWork.{looked-kept, negotiated, Kept, WorkWhole, At, drop-whole, begun-whole, frames-whole, slot_whole, act-whole, ends-kept, at-frames, at_slot, at-act, at-ends, untouched-kept, dropped-whole, there-live, there-at, Long}
+use Rattle.slot.specs.declared.ChannelFault.{ChannelFault}
+use Rattle.std.specs.Prelude.{Option, Some, None, Result, Ok, Err}
+use Rattle.slot.specs.declared.ChannelError.{ChannelError}
+use Rattle.state.specs.declared.QueuedOpen.{QueuedOpen}
+use Rattle.table.specs.declared.NoFreeChannels.{NoFreeChannels as NoFree}
 
 -- ---- answers that are neither refusal 13 nor 8
 
@@ -77,7 +67,7 @@ opened-fine : (ch : ChannelId) → Admitted (Opened ch)
 unfolding answer_number
 opened-fine ch = (λ e. omega arith, λ e. omega arith)
 
-settled-fine : (a : PendingAck) → Admitted (Settled a)
+settled-fine : (a : Option ℕ) → Admitted (Settled a)
 unfolding answer_number
 settled-fine a = (λ e. omega arith, λ e. omega arith)
 
@@ -99,27 +89,26 @@ numbers-fine t total buffered unacked budget =
     pick (λ (n : ℕ). (n ≡ 13 → ⊥) × (n ≡ 8 → ⊥)) t (λ a. (λ e. omega arith, λ e. omega arith)) (λ a. (λ e. omega arith, λ e. omega arith))
 
 closed-fine : Admitted (Refused ChannelClosed)
-unfolding answer_number refusal_number
+unfolding answer_number
 closed-fine = (λ e. omega arith, λ e. omega arith)
 
 bad-fine : (f : CreditFault) → Admitted (Refused (BadCredit f))
-unfolding fault_refusal
 bad-fine f = fault-fine (CreditBad f)
 
 early-fine : Admitted (Refused UnexpectedCommand)
-unfolding answer_number refusal_number
+unfolding answer_number
 early-fine = (λ e. omega arith, λ e. omega arith)
 
 large-fine : Admitted (Refused PayloadTooLarge)
-unfolding answer_number refusal_number
+unfolding answer_number
 large-fine = (λ e. omega arith, λ e. omega arith)
 
 out-fine : Admitted (Refused OutShort)
-unfolding answer_number refusal_number
+unfolding answer_number
 out-fine = (λ e. omega arith, λ e. omega arith)
 
 free-fine : Admitted (Refused NoFreeChannels)
-unfolding answer_number refusal_number
+unfolding answer_number
 free-fine = (λ e. omega arith, λ e. omega arith)
 
 module _ (l : Lent) (g : Whole (negotiated l) l.state.header l.state.slots l.state.queue) where
@@ -143,11 +132,11 @@ module _ (l : Lent) (g : Whole (negotiated l) l.state.header l.state.slots l.sta
       (λ t. settled-as-kept ch _ (there-at l g ch t) (settled-live (negotiated l) ch.slot (slot_for l ch) (there-live l g ch t) want))
       (λ t. gone-kept)
 
-  taken-kept : (ch : ChannelId) (s : ChannelSlot) (w : Work) → At l ch.slot w → (r : Taken) → TakenLive (negotiated l) ch.slot r → Kept l (taken_by l ch s w r)
+  taken-kept : (ch : ChannelId) (s : ChannelSlot) (w : Work) → At l ch.slot w → (r : Result (Option (ChannelSlot × ℕ)) ChannelError) → TakenLive (negotiated l) ch.slot r → Kept l (taken_by l ch s w r)
   unfolding taken_by
-  taken-kept ch s w k (Data t n) v = at-ends l ch.slot _ (at_slot l ch.slot w k t [] v) (Read n) 0 _ (read-fine n)
-  taken-kept ch s w k NothingTaken v = at-ends l ch.slot w k Nothing 0 [] nothing-fine
-  taken-kept ch s w k (ClosedTaken e) v = at-ends l ch.slot w k (Refused (error_refusal e)) 0 [] (error-fine e)
+  taken-kept ch s w k (Ok (Some (t, n))) v = at-ends l ch.slot _ (at_slot l ch.slot w k t [] v) (Read n) 0 _ (read-fine n)
+  taken-kept ch s w k (Ok None) v = at-ends l ch.slot w k Nothing 0 [] nothing-fine
+  taken-kept ch s w k (Err e) v = at-ends l ch.slot w k (Refused (error_refusal e)) 0 [] (error-fine e)
 
   pub take-kept : (ch : ChannelId) (room : ℕ) → Kept l (take_step l ch room)
   unfolding take_step
@@ -179,10 +168,10 @@ module _ (l : Lent) (g : Whole (negotiated l) l.state.header l.state.slots l.sta
         store_length = refl;
       }
 
-  front_by : (xs : List Change) (f : Front) → FrontAs (dropped l.state.header) l.state.slots l.state.queue gd refl xs f → Kept l (take_front_by l (dropped l.state.header) xs f)
+  front_by : (xs : List Change) (f : Option (QueuedOpen × Header)) → FrontAs (dropped l.state.header) l.state.slots l.state.queue gd refl xs f → Kept l (take_front_by l (dropped l.state.header) xs f)
   unfolding take_front_by
-  front_by xs (FrontOpen q less) k = ends-kept l _ (queue-work less xs k) _ 0 [] (front-fine _ _ _ _)
-  front_by xs NoFront k = ends-kept l _ (dropped-whole l g) Nothing 0 [] nothing-fine
+  front_by xs (Some (q, less)) k = ends-kept l _ (queue-work less xs k) _ 0 [] (front-fine _ _ _ _)
+  front_by xs None k = ends-kept l _ (dropped-whole l g) Nothing 0 [] nothing-fine
 
   pub front_kept : Kept l (take_front_step l)
   unfolding take_front_step
@@ -220,9 +209,9 @@ module _ (l : Lent) (g : Whole (negotiated l) l.state.header l.state.slots l.sta
     pub empty : (slot_in l.state.slots ch.slot).filled ≡ false
     pub local : ch.local.0 < 2 ^ 32
 
-  abbrev AllocatedFree : Allocated → Type 0
-  AllocatedFree (Channel ch) = Free ch
-  AllocatedFree NoFree = Unit {0}
+  abbrev AllocatedFree : Result ChannelId NoFree → Type 0
+  AllocatedFree (Ok ch) = Free ch
+  AllocatedFree (Err _) = Unit {0}
 
   not-filled : (s : ChannelSlot) → wanted_by Empty s ≡ true → s.filled ≡ false
   unfolding wanted_by
@@ -266,11 +255,11 @@ module _ (l : Lent) (g : Whole (negotiated l) l.state.header l.state.slots l.sta
       let full = g.queue.full in
       every-get_or OpenFits l.state.queue l.state.header.queued none_queued (omega arith) g.queue.fits
 
-  accept-on : (remote : RemoteId) (credit : ℕ) → remote.0 < 2 ^ 32 → credit < 2 ^ 32 → (r : Allocated) → AllocatedFree r
+  accept-on : (remote : RemoteId) (credit : ℕ) → remote.0 < 2 ^ 32 → credit < 2 ^ 32 → (r : Result ChannelId NoFree) → AllocatedFree r
       → Kept l (accept_on l (dropped l.state.header) remote credit r)
   unfolding accept_on
-  accept-on remote credit h f NoFree k = reject-on remote (Refused NoFreeChannels) free-fine
-  accept-on remote credit h f (Channel ch) k =
+  accept-on remote credit h f (Err _) k = reject-on remote (Refused NoFreeChannels) free-fine
+  accept-on remote credit h f (Ok ch) k =
       let most = g.limits.within.most-channels in
       let p = k.place in
       ends-kept l _
@@ -316,10 +305,10 @@ module _ (l : Lent) (g : Whole (negotiated l) l.state.header l.state.slots l.sta
 
     -- ---- dispatch
 
-    dispatch-by : (r : Received) → ReceivedFits (negotiated l) received r → Kept l (dispatch_by l (dropped l.state.header) received r)
+    dispatch-by : (r : Result Packet (Answer × ℕ)) → ReceivedFits (negotiated l) received r → Kept l (dispatch_by l (dropped l.state.header) received r)
     unfolding dispatch_by
-    dispatch-by (Stop a used) k = ends-kept l _ (dropped-whole l g) a used [] k
-    dispatch-by (PacketIs p) k = ends-kept l _ (act-whole l _ (dropped-whole l g) _ (acted p k)) _ (frame_len p) [] (unless-fine _ Done done-fine)
+    dispatch-by (Err (a, used)) k = ends-kept l _ (dropped-whole l g) a used [] k
+    dispatch-by (Ok p) k = ends-kept l _ (act-whole l _ (dropped-whole l g) _ (acted p k)) _ (frame_len p) [] (unless-fine _ Done done-fine)
 
     pub dispatch-kept : Bytes received → Kept l (dispatch_step l received)
     unfolding dispatch_step
@@ -328,16 +317,16 @@ module _ (l : Lent) (g : Whole (negotiated l) l.state.header l.state.slots l.sta
     -- ---- read
 
     module _ (ch : ChannelId) (room : ℕ) where
-      reread-kept : (used : ℕ) (fault : Failed) (w : Work) (s : ChannelSlot) → At l ch.slot w → Live (negotiated l) ch.slot s → (r : Taken) → TakenLive (negotiated l) ch.slot r
+      reread-kept : (used : ℕ) (fault : Option ChannelFault) (w : Work) (s : ChannelSlot) → At l ch.slot w → Live (negotiated l) ch.slot s → (r : Result (Option (ChannelSlot × ℕ)) ChannelError) → TakenLive (negotiated l) ch.slot r
           → Kept l (reread ch (policy l).rx_cap used fault w s r)
       unfolding reread
-      reread-kept used fault w s k v (Data t n) u = at-ends l ch.slot _ (at_slot l ch.slot w k t [] u) (Read n) used _ (read-fine n)
-      reread-kept used fault w s k v NothingTaken u =
+      reread-kept used fault w s k v (Ok (Some (t, n))) u = at-ends l ch.slot _ (at_slot l ch.slot w k t [] u) (Read n) used _ (read-fine n)
+      reread-kept used fault w s k v (Ok None) u =
           at-ends l ch.slot _ (at_slot l ch.slot w k s [] v) (unless_fault fault Waiting) used [] (unless-fine fault Waiting pending-fine)
-      reread-kept used fault w s k v (ClosedTaken e) u =
+      reread-kept used fault w s k v (Err e) u =
           at-ends l ch.slot _ (at_slot l ch.slot w k s [] v) (unless_fault fault (Refused (error_refusal e))) used [] (unless-fine fault (Refused (error_refusal e)) (error-fine e))
 
-      settled-kept : (used : ℕ) (fault : Failed) (w : Work) (s : SettledSlot) → At l ch.slot w → Live (negotiated l) ch.slot s.slot → Kept l (read_settled l ch room used fault w s)
+      settled-kept : (used : ℕ) (fault : Option ChannelFault) (w : Work) (s : SettledSlot) → At l ch.slot w → Live (negotiated l) ch.slot s.slot → Kept l (read_settled l ch room used fault w s)
       unfolding read_settled
       settled-kept used fault w s k v =
           reread-kept used fault _ s.slot (at-frames l ch.slot w k (ack_frames s.slot s.ack)) v (taken_of s.slot room) (taken_live (negotiated l) ch.slot s.slot v room)
@@ -359,23 +348,23 @@ module _ (l : Lent) (g : Whole (negotiated l) l.state.header l.state.slots l.sta
         acted-stored p k =
             acted-keeps (dropped l.state.header) (with_slot l.state ch.slot s) l.rx l.store stored.work.facts refl long.rx-long long.store_long p (body_of received p) k
 
-        read-by : (r : Received) → ReceivedFits (negotiated l) received r → Kept l (read_by l ch room (then (begun (dropped l.state.header) l) [] fs) s received r)
+        read-by : (r : Result Packet (Answer × ℕ)) → ReceivedFits (negotiated l) received r → Kept l (read_by l ch room (then (begun (dropped l.state.header) l) [] fs) s received r)
         unfolding read_by read_direct
-        read-by (Stop a used) k = at-ends l ch.slot _ stored a used [] k
-        read-by (PacketIs p) k =
+        read-by (Err (a, used)) k = at-ends l ch.slot _ stored a used [] k
+        read-by (Ok p) k =
             pick (Kept l) (is_direct s room p)
             (λ t. at-ends l ch.slot _ (at_slot l ch.slot _ start _ _ (delivered-live (negotiated l) ch.slot s v p.data_length)) _ (frame_len p) _ (read-fine _))
             (λ t. pick (Kept l) (closed_by (ids_in s) p)
             (λ u. at-ends l ch.slot _ (at_slot l ch.slot _ start (closed_slot s) [] (closed-live (negotiated l) ch.slot s v)) (Refused ChannelClosed) (frame_len p) [] closed-fine)
             (λ u. read-acted (frame_len p) _ _ stored (acted-stored p k)))
 
-        read-taken : Bytes received → (r : Taken) → TakenLive (negotiated l) ch.slot r → Kept l (read_taken l ch room (then (begun (dropped l.state.header) l) [] fs) s received r)
+        read-taken : Bytes received → (r : Result (Option (ChannelSlot × ℕ)) ChannelError) → TakenLive (negotiated l) ch.slot r → Kept l (read_taken l ch room (then (begun (dropped l.state.header) l) [] fs) s received r)
         unfolding read_taken
-        read-taken y (Data t n) u = at-ends l ch.slot _ (at_slot l ch.slot _ start t [] u) (Read n) 0 _ (read-fine n)
-        read-taken y NothingTaken u =
+        read-taken y (Ok (Some (t, n))) u = at-ends l ch.slot _ (at_slot l ch.slot _ start t [] u) (Read n) 0 _ (read-fine n)
+        read-taken y (Ok None) u =
             pick (Kept l) s.has_remote (λ t. read-by (received_of l received) (received-fits l received y))
             (λ t. at-ends l ch.slot _ stored (Refused ChannelClosed) 0 [] closed-fine)
-        read-taken y (ClosedTaken e) u = at-ends l ch.slot _ stored (Refused (error_refusal e)) 0 [] (error-fine e)
+        read-taken y (Err e) u = at-ends l ch.slot _ stored (Refused (error_refusal e)) 0 [] (error-fine e)
 
       read-first : Bytes received → (s : SettledSlot) → At l ch.slot (begun (dropped l.state.header) l) → Live (negotiated l) ch.slot s.slot → Kept l (read_first l ch room received s)
       unfolding read_first
@@ -398,10 +387,10 @@ module _ (l : Lent) (g : Whole (negotiated l) l.state.header l.state.slots l.sta
           pick (Kept l) (ltb out (length (frames_bytes w.header.negotiated w.frames) + 24 + n)) (λ t. untouched-kept l g OutShort out-fine)
           (λ t. at-ends l ch.slot _ (at_slot l ch.slot w k _ _ (spent-live (negotiated l) ch.slot s v n)) (Written n) used [] (written-fine n))
 
-      send-by : (used : ℕ) (w : Work) (s : ChannelSlot) → At l ch.slot w → Live (negotiated l) ch.slot s → (b : Budget) → Kept l (send_by l ch out bytes used w s b)
+      send-by : (used : ℕ) (w : Work) (s : ChannelSlot) → At l ch.slot w → Live (negotiated l) ch.slot s → (b : Option ℕ) → Kept l (send_by l ch out bytes used w s b)
       unfolding send_by
-      send-by used w s k v (Most most) = send-some used w s (send_len l bytes most) k v
-      send-by used w s k v NoBudget = at-ends l ch.slot _ (at_slot l ch.slot w k s [] v) Waiting used [] pending-fine
+      send-by used w s k v (Some most) = send-some used w s (send_len l bytes most) k v
+      send-by used w s k v None = at-ends l ch.slot _ (at_slot l ch.slot w k s [] v) Waiting used [] pending-fine
 
       send-again : (used : ℕ) (w : Work) (s : ChannelSlot) → At l ch.slot w → Live (negotiated l) ch.slot s → Kept l (send_again l ch out bytes used w s)
       unfolding send_again
@@ -409,31 +398,31 @@ module _ (l : Lent) (g : Whole (negotiated l) l.state.header l.state.slots l.sta
           pick (Kept l) (is_closed s.state) (λ t. at-ends l ch.slot _ (at_slot l ch.slot w k s [] v) (Refused ChannelClosed) used [] closed-fine)
           (λ t. send-by used w s k v (budget_of s (policy l)))
 
-      write-readied : (used : ℕ) (w : Work) (s : ChannelSlot) → At l ch.slot w → (r : Readied) → ReadiedLive (negotiated l) ch.slot r → Kept l (write_readied l ch out bytes used w s r)
+      write-readied : (used : ℕ) (w : Work) (s : ChannelSlot) → At l ch.slot w → (r : Result ChannelSlot CreditFault) → ReadiedLive (negotiated l) ch.slot r → Kept l (write_readied l ch out bytes used w s r)
       unfolding write_readied
-      write-readied used w s k (Slot t) v = send-again used w t k v
-      write-readied used w s k (Bad f) v = at-ends l ch.slot w k (Refused (BadCredit f)) used [] (bad-fine f)
+      write-readied used w s k (Ok t) v = send-again used w t k v
+      write-readied used w s k (Err f) v = at-ends l ch.slot w k (Refused (BadCredit f)) used [] (bad-fine f)
 
-      write-acted : (used : ℕ) (w : Work) (a : Acted) → At l ch.slot (then_acted w a) → (f : Failed) → Kept l (write_acted l ch out bytes used w a f)
+      write-acted : (used : ℕ) (w : Work) (a : Acted) → At l ch.slot (then_acted w a) → (f : Option ChannelFault) → Kept l (write_acted l ch out bytes used w a f)
       unfolding write_acted
-      write-acted used w a k (By f) = at-ends l ch.slot _ k (Refused (fault_refusal f)) used [] (fault-fine f)
-      write-acted used w a k No = send-again used (then_acted w a) _ k k.live
+      write-acted used w a k (Some f) = at-ends l ch.slot _ k (Refused (fault_refusal f)) used [] (fault-fine f)
+      write-acted used w a k None = send-again used (then_acted w a) _ k k.live
 
       module _ (start : At l ch.slot (begun (dropped l.state.header) l)) (s : ChannelSlot) (v : Live (negotiated l) ch.slot s) where
-        write-by : (r : Received) → ReceivedFits (negotiated l) received r → Kept l (write_by l ch out bytes (begun (dropped l.state.header) l) s received r)
+        write-by : (r : Result Packet (Answer × ℕ)) → ReceivedFits (negotiated l) received r → Kept l (write_by l ch out bytes (begun (dropped l.state.header) l) s received r)
         unfolding write_by write_act
-        write-by (Stop a used) k = at-ends l ch.slot _ start a used [] k
-        write-by (PacketIs p) k =
+        write-by (Err (a, used)) k = at-ends l ch.slot _ start a used [] k
+        write-by (Ok p) k =
             pick (Kept l) (is_ready p.command && eqb p.arg1 s.local.0)
             (λ t. write-readied (frame_len p) _ s start (ready_of s (body_of received p) (policy l)) (ready-live (negotiated l) ch.slot s (body_of received p) v))
             (λ t. pick (Kept l) (closed_by (ids_in s) p)
             (λ u. at-ends l ch.slot _ (at_slot l ch.slot _ start (closed_slot s) [] (closed-live (negotiated l) ch.slot s v)) (Refused ChannelClosed) (frame_len p) [] closed-fine)
             (λ u. write-acted (frame_len p) _ _ (at-act l ch.slot _ start _ (acted p k)) _))
 
-        write-first : Bytes received → (b : Budget) → Kept l (write_first l ch out bytes received (begun (dropped l.state.header) l) s b)
+        write-first : Bytes received → (b : Option ℕ) → Kept l (write_first l ch out bytes received (begun (dropped l.state.header) l) s b)
         unfolding write_first
-        write-first y (Most most) = send-some 0 _ s (send_len l bytes most) start v
-        write-first y NoBudget =
+        write-first y (Some most) = send-some 0 _ s (send_len l bytes most) start v
+        write-first y None =
             pick (Kept l) s.has_remote (λ t. write-by (received_of l received) (received-fits l received y))
             (λ t. at-ends l ch.slot _ start (Refused ChannelClosed) 0 [] closed-fine)
 
@@ -478,17 +467,17 @@ module _ (l : Lent) (g : Whole (negotiated l) l.state.header l.state.slots l.sta
         (unless_fault a.fault Waiting) used [] (unless-fine a.fault Waiting pending-fine)
 
     module _ (no : NoOffer l.state.header) (ch : ChannelId) (place : ch.slot < (negotiated l).config.channels) (local : ch.local.0 < 2 ^ 32) where
-      open-readied : (remote used : ℕ) (r : Readied) → ReadiedLive (negotiated l) ch.slot r → Kept l (open_readied l ch remote used r)
+      open-readied : (remote used : ℕ) (r : Result ChannelSlot CreditFault) → ReadiedLive (negotiated l) ch.slot r → Kept l (open_readied l ch remote used r)
       unfolding open_readied
-      open-readied remote used (Slot t) v =
+      open-readied remote used (Ok t) v =
           let most = g.limits.within.most-channels in
           ends-kept l _ (slot_whole l _ (dropped-whole l g) ch.slot t [] (omega arith) (λ e. never e) (live-whole (negotiated l) ch.slot t v)) (Opened ch) used [] (opened-fine ch)
-      open-readied remote used (Bad f) v = ends-kept l _ (frames-whole l _ (dropped-whole l g) _) (Refused (BadCredit f)) used [] (bad-fine f)
+      open-readied remote used (Err f) v = ends-kept l _ (frames-whole l _ (dropped-whole l g) _) (Refused (BadCredit f)) used [] (bad-fine f)
 
-      open-by : (r : Received) → ReceivedFits (negotiated l) received r → Kept l (open_by l ch received r)
+      open-by : (r : Result Packet (Answer × ℕ)) → ReceivedFits (negotiated l) received r → Kept l (open_by l ch received r)
       unfolding open_by
-      open-by (Stop a used) k = ends-kept l _ (begun-whole l _ (still-whole l.state l.state.header a g)) a used [] k
-      open-by (PacketIs p) k =
+      open-by (Err (a, used)) k = ends-kept l _ (begun-whole l _ (still-whole l.state l.state.header a g)) a used [] k
+      open-by (Ok p) k =
           pick (Kept l) (is_ready p.command && eqb p.arg1 ch.local.0)
           (λ t. open-readied p.arg0 (frame_len p) _
           (opened-live (negotiated l) ch.slot ch.local (record { 0 = p.arg0 }) place cap-small local k.arg0 (body_of received p) k.bytes))
@@ -524,10 +513,10 @@ module _ (l : Lent) (g : Whole (negotiated l) l.state.header l.state.slots l.sta
           offer = λ e. never e;
         }
 
-    open-on : (out : ℕ) (destination : List ℕ) (r : Allocated) → AllocatedFree r → Kept l (open_on l out destination r)
+    open-on : (out : ℕ) (destination : List ℕ) (r : Result ChannelId NoFree) → AllocatedFree r → Kept l (open_on l out destination r)
     unfolding open_on
-    open-on out destination NoFree k = ends-kept l _ (dropped-whole l g) (Refused NoFreeChannels) 0 [] free-fine
-    open-on out destination (Channel ch) k =
+    open-on out destination (Err _) k = ends-kept l _ (dropped-whole l g) (Refused NoFreeChannels) 0 [] free-fine
+    open-on out destination (Ok ch) k =
         pick (Kept l) (ltb payload_limit (length destination)) (λ t. ends-kept l _ (begun-whole l _ numbered-whole) (Refused PayloadTooLarge) 0 [] large-fine)
         (λ t. pick (Kept l) (ltb out (24 + length destination)) (λ u. untouched-kept l g OutShort out-fine)
         (λ u. ends-kept l _ (frames-whole l _ (begun-whole l _ (waits-whole ch k)) _) Waiting 0 [] pending-fine))

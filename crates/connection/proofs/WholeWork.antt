@@ -187,7 +187,7 @@ module _ (l : Lent) (g : Whole (negotiated l) l.state.header l.state.slots l.sta
   untouched-kept r f = looked-kept (Refused r) f
 
   short-kept : Kept l (untouched l StoreShort)
-  unfolding answer_number refusal_number
+  unfolding answer_number
   short-kept = record { within = tt; facts = g; rx-length = refl; store_length = refl; answer = λ e. omega arith; eight = λ e. refl }
 
   pub dropped-whole : WorkWhole l (begun (dropped l.state.header) l)
@@ -206,12 +206,12 @@ module _ (l : Lent) (g : Whole (negotiated l) l.state.header l.state.slots l.sta
 
   -- the refusals ahead of every step
   pub checked-kept : (o : Outcome) → (stores_fit (negotiated l).config (length l.rx) (length l.store) ≡ true → Kept l o) → Kept l (checked true l o)
-  unfolding checked answer_number refusal_number
+  unfolding checked answer_number
   checked-kept o f =
       pick (Kept l) (stores_fit (negotiated l).config (length l.rx) (length l.store)) f (λ t. short-kept)
 
   pub checked-out-kept : (out : ℕ) (o : Outcome) → (stores_fit (negotiated l).config (length l.rx) (length l.store) ≡ true → Kept l o) → Kept l (checked_out true l out o)
-  unfolding checked_out answer_number refusal_number
+  unfolding checked_out answer_number
   checked-out-kept out o f =
       checked-kept _ (λ t. pick (Kept l) (ltb out 56) (λ u. untouched-kept OutShort (λ e. omega arith, λ e. omega arith)) (λ u. f t))
 

@@ -1,7 +1,5 @@
 -- The numbers and values of answers (docs/SCOPE.md, 6; docs/LAYOUT.md, "The answer"). Assumes nothing.
-use Rattle.std.specs.Prelude.{ℕ, cond, List, [], ◌∷◌}
-use Rattle.slot.specs.declared.PendingAck.{PendingAck}
-use Rattle.slot.specs.declared.PendingAck.TheVariants.{Len, Nothing as NoAck}
+use Rattle.std.specs.Prelude.{ℕ, cond, List, [], ◌∷◌, Option, Some, None, Result, Ok, Err}
 use Rattle.connection.specs.declared.Answer.{Answer}
 use Rattle.connection.specs.declared.Answer.TheVariants.{Done, Waiting, Nothing, Opened, Settled, Read, Written, Front, Numbers, Refused}
 use Rattle.credit.specs.Credit.{credit_fault_number}
@@ -9,7 +7,7 @@ use Rattle.connection.specs.declared.Refusal.{Refusal}
 use Rattle.connection.specs.declared.Refusal.TheVariants.{InvalidCommand, InvalidMagic, PayloadTooLarge, InvalidChecksum, BadCredit, UnexpectedCommand, BadConfig, StoreShort, OutShort, ChannelClosed, ChannelRxOverflow, NoFreeChannels, BrokenState}
 
 -- a refusal's number
-unfoldable pub refusal_number : Refusal → ℕ
+abbrev pub refusal_number : Refusal → ℕ
 refusal_number (InvalidCommand word) = 1
 refusal_number InvalidMagic = 2
 refusal_number PayloadTooLarge = 3
@@ -38,9 +36,9 @@ answer_number (Numbers closed total buffered unacked budget) = cond closed 102 0
 answer_number (Refused refusal) = refusal_number refusal
 
 -- the length acknowledged, 0 for none
-unfoldable pub ack_length : PendingAck → ℕ
-ack_length (Len n) = n
-ack_length NoAck = 0
+unfoldable pub ack_length : Option ℕ → ℕ
+ack_length (Some n) = n
+ack_length None = 0
 
 -- refusal 1 gives the word
 unfoldable pub refusal_word : Refusal → ℕ

@@ -1,36 +1,22 @@
 -- The calls (docs/SCOPE.md, 5 and 6; connection.rs), each as a function of what
 -- its caller lends and hands in. Assumes nothing.
-use Rattle.std.specs.Prelude.{ℕ, ◌+◌, ◌*◌, min, max, Bool, cond, ◌&&◌, List, [], ◌∷◌, ◌++◌, eqb, ltb, leb, length, take, get_or, set, replicate}
+use Rattle.std.specs.Prelude.{ℕ, ◌+◌, ◌*◌, min, max, Bool, cond, ◌&&◌, List, [], ◌∷◌, ◌++◌, eqb, ltb, leb, length, take, get_or, set, replicate, Option, Some, None, Result, Ok, Err}
 use Rattle.le.specs.Le.{unsigned, put}
 use Rattle.config.specs.declared.ConnectionConfig.{ConnectionConfig}
 use Rattle.config.specs.declared.negotiated.Negotiated.{Negotiated}
 use Rattle.config.specs.declared.negotiated.RxPolicy.{RxPolicy}
 use Rattle.config.specs.Config.{within_limits, stores_fit}
 use Rattle.config.specs.Negotiated.{negotiated_of, policy_of, offered_credit}
-use Rattle.incoming.specs.declared.Front.{Front}
-use Rattle.incoming.specs.declared.Front.TheVariants.{Open as FrontOpen, Nothing as NoFront}
 use Rattle.incoming.specs.Incoming.{popped, returned}
 use Rattle.protocol.specs.declared.packet.Packet.{Packet}
-use Rattle.protocol.specs.declared.packet.Decoded.{Decoded}
-use Rattle.protocol.specs.declared.packet.Decoded.TheVariants.{Waiting as FrameWaiting, InvalidCommand as WordInvalid, InvalidMagic as MagicInvalid, PayloadTooLarge as LengthTooLarge, InvalidChecksum as SumInvalid, Accepted}
 use Rattle.protocol.specs.Packet.{payload_limit, payload_of, decode_of}
 use Rattle.protocol.specs.Command.{is_ready, is_close, is_write}
-use Rattle.slot.specs.declared.Budget.{Budget}
-use Rattle.slot.specs.declared.Budget.TheVariants.{Bytes, Nothing as NoBudget}
 use Rattle.slot.specs.declared.ChannelError.{ChannelError}
 use Rattle.slot.specs.declared.ChannelError.TheVariants.{Closed as ErrorClosed, Fault}
 use Rattle.slot.specs.declared.ChannelFault.{ChannelFault}
 use Rattle.slot.specs.declared.ChannelFault.TheVariants.{RxOverflow, BadCredit as CreditBad, UnexpectedCommand as WriteEarly}
 use Rattle.slot.specs.declared.ChannelSlot.{ChannelSlot}
-use Rattle.slot.specs.declared.Failed.{Failed}
-use Rattle.slot.specs.declared.Failed.TheVariants.{No, By}
-use Rattle.slot.specs.declared.PendingAck.{PendingAck}
-use Rattle.slot.specs.declared.PendingAck.TheVariants.{Len, Nothing as NoAck}
-use Rattle.slot.specs.declared.Readied.{Readied}
-use Rattle.slot.specs.declared.Readied.TheVariants.{Slot, Bad}
 use Rattle.slot.specs.declared.Settled.{Settled as SettledSlot}
-use Rattle.slot.specs.declared.Taken.{Taken}
-use Rattle.slot.specs.declared.Taken.TheVariants.{Data, Nothing as NothingTaken, Closed as ClosedTaken}
 use Rattle.slot.specs.declared.ids.ChannelIds.{ChannelIds}
 use Rattle.slot.specs.declared.ids.RemoteId.{RemoteId}
 use Rattle.slot.specs.Ids.{closed_by}
@@ -41,20 +27,20 @@ use Rattle.state.specs.declared.PendingOpen.{PendingOpen}
 use Rattle.state.specs.declared.QueuedOpen.{QueuedOpen}
 use Rattle.state.specs.Change.{Change, slot_to, header_to, changed_all}
 use Rattle.state.specs.State.{Connection, is_ours, is_offer, none_queued, layout}
-use Rattle.table.specs.declared.Allocated.{Allocated}
-use Rattle.table.specs.declared.Allocated.TheVariants.{Channel, NoFree}
 use Rattle.table.specs.declared.ChannelId.{ChannelId}
 use Rattle.table.specs.Table.{there_in, numbered, allocated, slot_in}
 use Rattle.rx_store.specs.RxStore.{front_of}
 use Rattle.connection.specs.declared.Answer.{Answer}
 use Rattle.connection.specs.declared.Answer.TheVariants.{Done, Waiting, Nothing, Opened, Settled, Read, Written, Front as FrontIs, Numbers, Refused}
-use Rattle.connection.specs.declared.Received.{Received}
-use Rattle.connection.specs.declared.Received.TheVariants.{Packet as PacketIs, Stop}
 use Rattle.connection.specs.declared.Refusal.{Refusal}
 use Rattle.connection.specs.declared.Refusal.TheVariants.{InvalidCommand, InvalidMagic, PayloadTooLarge, InvalidChecksum, BadCredit, UnexpectedCommand, BadConfig, StoreShort, OutShort, ChannelClosed, ChannelRxOverflow, NoFreeChannels, BrokenState}
 use Rattle.connection.specs.Act.{Acted, act_on}
 use Rattle.connection.specs.Frames.{Frame, okay_frame, close_frame, open_frame, write_frame, frames_bytes}
 use Rattle.protocol.specs.Message.{message_size}
+use Rattle.protocol.specs.declared.packet.DecodeError.TheVariants.{InvalidCommand as WordInvalid, InvalidMagic as MagicInvalid, PayloadTooLarge as LengthTooLarge, InvalidChecksum as SumInvalid}
+use Rattle.protocol.specs.declared.packet.DecodeError.{DecodeError}
+use Rattle.credit.specs.declared.CreditFault.{CreditFault}
+use Rattle.table.specs.declared.NoFreeChannels.{NoFreeChannels as NoFree}
 
 -- ---- what a call is lent, and what it leaves
 
@@ -166,37 +152,37 @@ unfoldable pub slot_for : Lent → ChannelId → ChannelSlot
 slot_for l ch = slot_in l.state.slots ch.slot
 
 -- the OKAY of an acknowledgement that is due
-unfoldable pub ack_frames : ChannelSlot → PendingAck → List Frame
-ack_frames s (Len n) = okay_frame (ids_in s) n ∷ []
-ack_frames s NoAck = []
+unfoldable pub ack_frames : ChannelSlot → Option ℕ → List Frame
+ack_frames s (Some n) = okay_frame (ids_in s) n ∷ []
+ack_frames s None = []
 
 -- `fault.error()`
-unfoldable pub fault_refusal : ChannelFault → Refusal
+abbrev pub fault_refusal : ChannelFault → Refusal
 fault_refusal RxOverflow = ChannelRxOverflow
 fault_refusal (CreditBad f) = BadCredit f
 fault_refusal WriteEarly = UnexpectedCommand
 
 -- why a channel can be read or written no more, as a refusal
-unfoldable pub error_refusal : ChannelError → Refusal
+abbrev pub error_refusal : ChannelError → Refusal
 error_refusal ErrorClosed = ChannelClosed
 error_refusal (Fault f) = fault_refusal f
 
 -- an answer, unless dispatching failed
-unfoldable pub unless_fault : Failed → Answer → Answer
-unless_fault No a = a
-unless_fault (By f) a = Refused (fault_refusal f)
+unfoldable pub unless_fault : Option ChannelFault → Answer → Answer
+unless_fault None a = a
+unless_fault (Some f) a = Refused (fault_refusal f)
 
 -- `recv_pkt`: waiting and refusals 1 to 3 use nothing, 4 uses the frame
-unfoldable pub received_by : Decoded → Received
-received_by FrameWaiting = Stop Waiting 0
-received_by (WordInvalid word) = Stop (Refused (InvalidCommand word)) 0
-received_by MagicInvalid = Stop (Refused InvalidMagic) 0
-received_by LengthTooLarge = Stop (Refused PayloadTooLarge) 0
-received_by (SumInvalid used) = Stop (Refused InvalidChecksum) used
-received_by (Accepted p) = PacketIs p
+unfoldable pub received_by : Result (Option Packet) DecodeError → Result Packet (Answer × ℕ)
+received_by (Ok None) = Err (Waiting, 0)
+received_by (Err (WordInvalid word)) = Err (Refused (InvalidCommand word), 0)
+received_by (Err MagicInvalid) = Err (Refused InvalidMagic, 0)
+received_by (Err LengthTooLarge) = Err (Refused PayloadTooLarge, 0)
+received_by (Err (SumInvalid used)) = Err (Refused InvalidChecksum, used)
+received_by (Ok (Some p)) = Ok p
 
 -- the packet that received bytes begin with, or the answer where there is none
-unfoldable pub received_of : Lent → List ℕ → Received
+unfoldable pub received_of : Lent → List ℕ → Result Packet (Answer × ℕ)
 received_of l received = received_by (decode_of received l.state.header.negotiated.config.max_payload)
 
 -- a packet's payload
@@ -233,9 +219,9 @@ make_of c a b host device state =
 -- ---- dispatch (one turn of `accept_incoming`'s loop)
 
 -- no packet: its answer; else the packet is dispatched
-unfoldable pub dispatch_by : Lent → Header → List ℕ → Received → Outcome
-dispatch_by l h received (Stop a used) = ends (begun h l) a used []
-dispatch_by l h received (PacketIs p) =
+unfoldable pub dispatch_by : Lent → Header → List ℕ → Result Packet (Answer × ℕ) → Outcome
+dispatch_by l h received (Err (a, used)) = ends (begun h l) a used []
+dispatch_by l h received (Ok p) =
     let a = act_on h l.state.slots l.state.queue l.rx l.store p (body_of received p) in
     ends (then_acted (begun h l) a) (unless_fault a.fault Done) (frame_len p) []
 
@@ -259,10 +245,10 @@ abbrev pub handing : List ℕ → ℕ → ChannelId → ℕ → Work → Channel
 handing rx cap ch used w s t n = ends (then w (slot_to ch.slot t ∷ []) []) (Read n) used (front_of rx cap ch.slot s.head n)
 
 -- taking n bytes, nothing there, or closed with nothing there
-unfoldable pub taken_by : Lent → ChannelId → ChannelSlot → Work → Taken → Outcome
-taken_by l ch s w (Data t n) = handing l.rx (policy l).rx_cap ch 0 w s t n
-taken_by l ch s w NothingTaken = ends w Nothing 0 []
-taken_by l ch s w (ClosedTaken e) = ends w (Refused (error_refusal e)) 0 []
+unfoldable pub taken_by : Lent → ChannelId → ChannelSlot → Work → Result (Option (ChannelSlot × ℕ)) ChannelError → Outcome
+taken_by l ch s w (Ok (Some (t, n))) = handing l.rx (policy l).rx_cap ch 0 w s t n
+taken_by l ch s w (Ok None) = ends w Nothing 0 []
+taken_by l ch s w (Err e) = ends w (Refused (error_refusal e)) 0 []
 
 -- room: the reader's buffer's length
 unfoldable pub take_step : Lent → ChannelId → ℕ → Outcome
@@ -273,13 +259,13 @@ take_step l ch room =
 -- ---- read (`recv_data`)
 
 -- what the second settling and taking give, after a packet that was dispatched
-unfoldable pub reread : ChannelId → ℕ → ℕ → Failed → Work → ChannelSlot → Taken → Outcome
-reread ch cap used fault w s (Data t n) = handing w.rx cap ch used w s t n
-reread ch cap used fault w s NothingTaken = ends_with w ch s (unless_fault fault Waiting) used
-reread ch cap used fault w s (ClosedTaken e) = ends_with w ch s (unless_fault fault (Refused (error_refusal e))) used
+unfoldable pub reread : ChannelId → ℕ → ℕ → Option ChannelFault → Work → ChannelSlot → Result (Option (ChannelSlot × ℕ)) ChannelError → Outcome
+reread ch cap used fault w s (Ok (Some (t, n))) = handing w.rx cap ch used w s t n
+reread ch cap used fault w s (Ok None) = ends_with w ch s (unless_fault fault Waiting) used
+reread ch cap used fault w s (Err e) = ends_with w ch s (unless_fault fault (Refused (error_refusal e))) used
 
 -- the second settling's OKAY, then the second taking
-unfoldable pub read_settled : Lent → ChannelId → ℕ → ℕ → Failed → Work → SettledSlot → Outcome
+unfoldable pub read_settled : Lent → ChannelId → ℕ → ℕ → Option ChannelFault → Work → SettledSlot → Outcome
 read_settled l ch room used fault w s =
     reread ch (policy l).rx_cap used fault (then w [] (ack_frames s.slot s.ack)) s.slot (taken_of s.slot room)
 
@@ -298,20 +284,20 @@ unfoldable pub read_direct : ChannelId → ℕ → Work → List ℕ → Settled
 read_direct ch used w payload d = ends (then w (slot_to ch.slot d.slot ∷ []) (ack_frames d.slot d.ack)) (Read (length payload)) used payload
 
 -- no packet: its answer; else the channel's own WRTE, its CLSE (10), or any other
-unfoldable pub read_by : Lent → ChannelId → ℕ → Work → ChannelSlot → List ℕ → Received → Outcome
-read_by l ch room w s received (Stop a used) = ends_with w ch s a used
-read_by l ch room w s received (PacketIs p) =
+unfoldable pub read_by : Lent → ChannelId → ℕ → Work → ChannelSlot → List ℕ → Result Packet (Answer × ℕ) → Outcome
+read_by l ch room w s received (Err (a, used)) = ends_with w ch s a used
+read_by l ch room w s received (Ok p) =
     cond (is_direct s room p) (read_direct ch (frame_len p) w (body_of received p) (delivered_of s (policy l) p.data_length))
     (cond (closed_by (ids_in s) p) (ends_with w ch (closed_slot s) (Refused ChannelClosed) (frame_len p))
     (read_acted l ch room (frame_len p) (then w (slot_to ch.slot s ∷ []) [])
     (act_on w.header (set l.state.slots ch.slot s) l.state.queue l.rx l.store p (body_of received p))))
 
 -- the first taking: data, closed, or a packet is looked at
-unfoldable pub read_taken : Lent → ChannelId → ℕ → Work → ChannelSlot → List ℕ → Taken → Outcome
-read_taken l ch room w s received (Data t n) = handing l.rx (policy l).rx_cap ch 0 w s t n
-read_taken l ch room w s received NothingTaken =
+unfoldable pub read_taken : Lent → ChannelId → ℕ → Work → ChannelSlot → List ℕ → Result (Option (ChannelSlot × ℕ)) ChannelError → Outcome
+read_taken l ch room w s received (Ok (Some (t, n))) = handing l.rx (policy l).rx_cap ch 0 w s t n
+read_taken l ch room w s received (Ok None) =
     cond s.has_remote (read_by l ch room w s received (received_of l received)) (ends_with w ch s (Refused ChannelClosed) 0)
-read_taken l ch room w s received (ClosedTaken e) = ends_with w ch s (Refused (error_refusal e)) 0
+read_taken l ch room w s received (Err e) = ends_with w ch s (Refused (error_refusal e)) 0
 
 -- the first settling's OKAY, then the first taking
 unfoldable pub read_first : Lent → ChannelId → ℕ → List ℕ → SettledSlot → Outcome
@@ -337,9 +323,9 @@ send_some l ch out bytes used w s n =
     (ends (then w (slot_to ch.slot (spent_of s (policy l) n) ∷ []) (write_frame (ids_in s) (take n bytes) ∷ [])) (Written n) used [])
 
 -- by the budget: sent, or waiting again
-unfoldable pub send_by : Lent → ChannelId → ℕ → List ℕ → ℕ → Work → ChannelSlot → Budget → Outcome
-send_by l ch out bytes used w s (Bytes most) = send_some l ch out bytes used w s (send_len l bytes most)
-send_by l ch out bytes used w s NoBudget = ends_with w ch s Waiting used
+unfoldable pub send_by : Lent → ChannelId → ℕ → List ℕ → ℕ → Work → ChannelSlot → Option ℕ → Outcome
+send_by l ch out bytes used w s (Some most) = send_some l ch out bytes used w s (send_len l bytes most)
+send_by l ch out bytes used w s None = ends_with w ch s Waiting used
 
 -- the turn of the loop after a packet: closed, sent, or waiting again
 unfoldable pub send_again : Lent → ChannelId → ℕ → List ℕ → ℕ → Work → ChannelSlot → Outcome
@@ -348,14 +334,14 @@ send_again l ch out bytes used w s =
     (send_by l ch out bytes used w s (budget_of s (policy l)))
 
 -- the channel's own OKAY: its credit is used at once, or it is short (5)
-unfoldable pub write_readied : Lent → ChannelId → ℕ → List ℕ → ℕ → Work → ChannelSlot → Readied → Outcome
-write_readied l ch out bytes used w s (Slot t) = send_again l ch out bytes used w t
-write_readied l ch out bytes used w s (Bad f) = ends w (Refused (BadCredit f)) used []
+unfoldable pub write_readied : Lent → ChannelId → ℕ → List ℕ → ℕ → Work → ChannelSlot → Result ChannelSlot CreditFault → Outcome
+write_readied l ch out bytes used w s (Ok t) = send_again l ch out bytes used w t
+write_readied l ch out bytes used w s (Err f) = ends w (Refused (BadCredit f)) used []
 
 -- a packet that was dispatched: its fault, or the next turn of the loop
-unfoldable pub write_acted : Lent → ChannelId → ℕ → List ℕ → ℕ → Work → Acted → Failed → Outcome
-write_acted l ch out bytes used w a (By f) = ends (then_acted w a) (Refused (fault_refusal f)) used []
-write_acted l ch out bytes used w a No =
+unfoldable pub write_acted : Lent → ChannelId → ℕ → List ℕ → ℕ → Work → Acted → Option ChannelFault → Outcome
+write_acted l ch out bytes used w a (Some f) = ends (then_acted w a) (Refused (fault_refusal f)) used []
+write_acted l ch out bytes used w a None =
     send_again l ch out bytes used (then_acted w a) (slot_in (changed_all l.state (w.changes ++ a.changes)).slots ch.slot)
 
 -- any other packet: dispatched
@@ -363,18 +349,18 @@ unfoldable pub write_act : Lent → ChannelId → ℕ → List ℕ → ℕ → W
 write_act l ch out bytes used w a = write_acted l ch out bytes used w a a.fault
 
 -- no packet: its answer; else the channel's own OKAY, its CLSE (10), or any other
-unfoldable pub write_by : Lent → ChannelId → ℕ → List ℕ → Work → ChannelSlot → List ℕ → Received → Outcome
-write_by l ch out bytes w s received (Stop a used) = ends w a used []
-write_by l ch out bytes w s received (PacketIs p) =
+unfoldable pub write_by : Lent → ChannelId → ℕ → List ℕ → Work → ChannelSlot → List ℕ → Result Packet (Answer × ℕ) → Outcome
+write_by l ch out bytes w s received (Err (a, used)) = ends w a used []
+write_by l ch out bytes w s received (Ok p) =
     cond (is_ready p.command && eqb p.arg1 s.local.0) (write_readied l ch out bytes (frame_len p) w s (ready_of s (body_of received p) (policy l)))
     (cond (closed_by (ids_in s) p) (ends_with w ch (closed_slot s) (Refused ChannelClosed) (frame_len p))
     (write_act l ch out bytes (frame_len p) w
     (act_on w.header l.state.slots l.state.queue l.rx l.store p (body_of received p))))
 
 -- by the budget: sent at once, or a packet is looked at
-unfoldable pub write_first : Lent → ChannelId → ℕ → List ℕ → List ℕ → Work → ChannelSlot → Budget → Outcome
-write_first l ch out bytes received w s (Bytes most) = send_some l ch out bytes 0 w s (send_len l bytes most)
-write_first l ch out bytes received w s NoBudget =
+unfoldable pub write_first : Lent → ChannelId → ℕ → List ℕ → List ℕ → Work → ChannelSlot → Option ℕ → Outcome
+write_first l ch out bytes received w s (Some most) = send_some l ch out bytes 0 w s (send_len l bytes most)
+write_first l ch out bytes received w s None =
     cond s.has_remote (write_by l ch out bytes w s received (received_of l received)) (ends w (Refused ChannelClosed) 0 [])
 
 -- the first turn: closed, sent at once, or a packet is looked at
@@ -401,10 +387,10 @@ close_step l ch =
 -- ---- take_front (`try_accept_incoming`, without a verdict)
 
 -- the first that is queued and the place of its destination, or none
-unfoldable pub take_front_by : Lent → Header → List Change → Front → Outcome
-take_front_by l h xs (FrontOpen q less) =
+unfoldable pub take_front_by : Lent → Header → List Change → Option (QueuedOpen × Header) → Outcome
+take_front_by l h xs (Some (q, less)) =
     ends (then (begun less l) xs []) (FrontIs q.remote q.credit (q.share * h.negotiated.config.max_payload) q.length) 0 []
-take_front_by l h xs NoFront = ends (begun h l) Nothing 0 []
+take_front_by l h xs None = ends (begun h l) Nothing 0 []
 
 -- what is pending is dropped, then the first is taken off the queue, and stands as an offer
 unfoldable pub take_front_step : Lent → Outcome
@@ -425,9 +411,9 @@ numbers_for l ch = cond (is_there l ch) (numbers_in (slot_for l ch)) (Refused Ch
 -- ---- open (`open_channel`, `await_open_ack`)
 
 -- the OPEN that an open call begins with: 12, then 3 with the next number moved on, then 9 with nothing changed
-unfoldable pub open_on : Lent → ℕ → List ℕ → Allocated → Outcome
-open_on l out destination NoFree = ends (begun (dropped l.state.header) l) (Refused NoFreeChannels) 0 []
-open_on l out destination (Channel ch) =
+unfoldable pub open_on : Lent → ℕ → List ℕ → Result ChannelId NoFree → Outcome
+open_on l out destination (Err _) = ends (begun (dropped l.state.header) l) (Refused NoFreeChannels) 0 []
+open_on l out destination (Ok ch) =
     let h = dropped l.state.header in
     cond (ltb payload_limit (length destination)) (ends (begun (numbered h) l) (Refused PayloadTooLarge) 0 [])
     (cond (ltb out (message_size + length destination)) (untouched l OutShort)
@@ -447,9 +433,9 @@ still_pending (Numbers t total buffered unacked budget) h = dropped h
 still_pending (Refused r) h = dropped h
 
 -- its OKAY
-unfoldable pub open_readied : Lent → ChannelId → ℕ → ℕ → Readied → Outcome
-open_readied l ch remote used (Slot t) = ends (then (begun (dropped l.state.header) l) (slot_to ch.slot t ∷ []) []) (Opened ch) used []
-open_readied l ch remote used (Bad f) =
+unfoldable pub open_readied : Lent → ChannelId → ℕ → ℕ → Result ChannelSlot CreditFault → Outcome
+open_readied l ch remote used (Ok t) = ends (then (begun (dropped l.state.header) l) (slot_to ch.slot t ∷ []) []) (Opened ch) used []
+open_readied l ch remote used (Err f) =
     ends (then (begun (dropped l.state.header) l) [] (close_frame (record { local = ch.local; remote = record { 0 = remote } }) ∷ [])) (Refused (BadCredit f)) used []
 
 -- any other packet: dispatched
@@ -459,9 +445,9 @@ open_acted l used a =
     ends (storing w (still_pending (unless_fault a.fault Waiting) a.header)) (unless_fault a.fault Waiting) used []
 
 -- no packet: its answer; else the open's own OKAY, WRTE (6) or CLSE (10), or any other
-unfoldable pub open_by : Lent → ChannelId → List ℕ → Received → Outcome
-open_by l ch received (Stop a used) = ends (begun (still_pending a l.state.header) l) a used []
-open_by l ch received (PacketIs p) =
+unfoldable pub open_by : Lent → ChannelId → List ℕ → Result Packet (Answer × ℕ) → Outcome
+open_by l ch received (Err (a, used)) = ends (begun (still_pending a l.state.header) l) a used []
+open_by l ch received (Ok p) =
     let mine = eqb p.arg1 ch.local.0 in
     cond (is_ready p.command && mine)
     (open_readied l ch p.arg0 (frame_len p) (opened_of (opening_slot ch.local) (record { 0 = p.arg0 }) (body_of received p) (policy l)))
@@ -497,9 +483,9 @@ reject_on l h remote answer = ends (then (begun h l) [] (close_frame (record { l
 
 -- `accept`: the slot is filled and an OKAY is written, which carries our opening credit in delayed mode; with no slot empty the
 -- open is rejected, and 12 answered
-unfoldable pub accept_on : Lent → Header → RemoteId → ℕ → Allocated → Outcome
-accept_on l h remote credit NoFree = reject_on l h remote (Refused NoFreeChannels)
-accept_on l h remote credit (Channel ch) =
+unfoldable pub accept_on : Lent → Header → RemoteId → ℕ → Result ChannelId NoFree → Outcome
+accept_on l h remote credit (Err _) = reject_on l h remote (Refused NoFreeChannels)
+accept_on l h remote credit (Ok ch) =
     let ids : ChannelIds = record { local = ch.local; remote = remote } in
     ends (then (begun (numbered h) l) (slot_to ch.slot (accepted_slot ids credit (policy l)) ∷ []) (okay_frame ids (offered_credit h.negotiated) ∷ [])) (Opened ch) 0 []
 

@@ -4,15 +4,16 @@
 
 ghost use Rattle.std.specs.Prelude.{◌≡◌, cond};
 ghost use Rattle.connection.specs.Answer.{refusal_number, answer_number};
+ghost use Rattle.connection.specs.Calls.{fault_refusal, error_refusal};
 
 use credit::CreditFault;
-use protocol::packet::Packet;
-use slot::PendingAck;
+use refusal::Numbered;
 use slot::ids::RemoteId;
+use slot::{ChannelError, ChannelFault};
 use table::ChannelId;
 
 // The refusals (docs/SCOPE.md, 6).
-#[derive(Clone, Copy)]
+#[derive(Clone, Copy, Debug, PartialEq, Eq)]
 pub enum Refusal {
     // With the word that names no command, in 64 bits as the other values of answers: an answer is loaded in words of 64
     // bits, and the processor does not forward a store of 32 to such a load.
@@ -40,7 +41,7 @@ pub enum Answer {
     // take: nothing is buffered; take_front: none is queued; accept, reject, let go: none is offered.
     Nothing,
     Opened(ChannelId),
-    Settled(PendingAck),
+    Settled(Option<usize>),
     // Bytes handed over.
     Read(usize),
     // Bytes sent.
@@ -53,18 +54,13 @@ pub enum Answer {
     Refused(Refusal),
 }
 
-// What received bytes give a call.
-#[derive(Clone, Copy)]
-pub enum Received {
-    Packet(Packet),
-    // No packet: the answer, and the bytes used.
-    Stop(Answer, usize),
-}
+// What stops a call where received bytes give no packet: its answer, and the bytes used.
+pub type Stop = (Answer, usize);
 
-impl Refusal {
-    pub fn number(self) -> u32
-        ensures { result ≡ refusal_number self }
-    {
+impl Numbered for Refusal {
+    ghost number = { refusal_number };
+
+    fn number(self) -> u32 {
         match self {
             Refusal::InvalidCommand(_) => 1,
             Refusal::InvalidMagic => 2,
@@ -83,14 +79,36 @@ impl Refusal {
     }
 }
 
+// The refusal of a fault that a packet showed.
+impl From<ChannelFault> for Refusal {
+    ghost from_gives = { λ fault refusal. refusal ≡ fault_refusal fault };
+
+    fn from(fault: ChannelFault) -> Refusal {
+        match fault {
+            ChannelFault::RxOverflow => Refusal::ChannelRxOverflow,
+            ChannelFault::BadCredit(credit) => Refusal::BadCredit(credit),
+            ChannelFault::UnexpectedCommand => Refusal::UnexpectedCommand,
+        }
+    }
+}
+
+// Of a channel that can't be read or written any more.
+impl From<ChannelError> for Refusal {
+    ghost from_gives = { λ error refusal. refusal ≡ error_refusal error };
+
+    fn from(error: ChannelError) -> Refusal {
+        match error {
+            ChannelError::Closed => Refusal::ChannelClosed,
+            ChannelError::Fault(fault) => Refusal::from(fault),
+        }
+    }
+}
+
 // The number of an answer with a channel's numbers.
 fn open_number(closed: bool) -> u32
     ensures { result ≡ cond closed 102 0 }
 {
-    if closed {
-        return 102;
-    }
-    0
+    if closed { 102 } else { 0 }
 }
 
 impl Answer {

@@ -1,7 +1,7 @@
 -- Laws of gathering: what was read up to a place, and what is gathered of it. Assumes nothing.
 use mathlib.Core.Path.{◌≡◌, refl, sym, ap, ◌∙◌}
 use mathlib.Core.List.{List, [], ◌∷◌, ◌++◌, append_assoc, append-nil}
-use Prim.Native.Nat.{ℕ, ◌+◌, ◌-◌, ◌≤◌, ◌<◌}
+use Prim.Native.Nat.{ℕ, ◌+◌, ◌-◌, ◌≤◌}
 use native.Mathlib.Omega.{arith}
 use lib.Dec.{eqb}
 use lib.ListN.{length, take, drop, length-append, length-drop}
@@ -10,14 +10,20 @@ use Rattle.le.specs.Le.{part, put}
 use Rattle.le.proofs.Parts.{by-test, lent-part, put-none, put-put, length_part, length-put}
 use Rattle.stream.specs.Stream.{message, End, more, stopped, Reading, ahead, read_all}
 use Rattle.stream.proofs.Cut.{goes-on, waits, stops}
-use Rattle.shell.specs.declared.Read.{Read}
-use Rattle.shell.specs.declared.Read.TheVariants.{Waiting, InvalidKind, EmptyExit, Whole}
-use Rattle.shell.specs.Frame.{read_frame, read_number, used_of}
+use Rattle.std.proofs.Common.{Option, Some, None, Ok, Err}
+use Rattle.std.specs.Option.{unwrap_or}
+use Rattle.shell.specs.declared.Frame.{Frame as Found}
+use Rattle.shell.specs.declared.ReadError.{ReadError}
+use Rattle.shell.specs.declared.ReadError.TheVariants.{InvalidKind, EmptyExit}
+use Rattle.shell.specs.Kind.{kind_number}
+use Rattle.shell.specs.Frame.{read_frame, used_of}
 use Rattle.shell.specs.Pieces.{Frame, answer_of, receives}
 use Rattle.shell.proofs.ReadLaws.{says}
 use Rattle.shell.proofs.Pieces.{stable}
-use Rattle.console.specs.declared.Next.{Next}
-use Rattle.console.specs.Gather.{kept, of_kind, end_number, gathered_of, gathered, Gathers, next_of, Keeps}
+use Rattle.console.specs.Gather.{kept, of_kind, refusal_of, gathered_of, gathered, Gathers, Keeps}
+
+-- no bytes put change nothing
+pub ruleset puts_none = put-none
 
 -- what a call that is lent `s[at..]` sees
 pub lent-rest : (s : List ℕ) (at : ℕ) → take (length s - at) (drop at s) ≡ drop at s
@@ -26,54 +32,49 @@ lent-rest s at = take_all (length s - at) (drop at s) (omega (arith, length-drop
 -- ---- the frame at a place, or why there is none
 
 -- a frame at place at of s
-pub record Here (s : List ℕ) (at : ℕ) (x : Next) : Type 0 where
-  pub code : ℕ
-  pub place : x.at ≡ 5
-  pub used-is : x.used ≡ 5 + x.length
-  pub within : at + x.used ≤ length s
-  pub goes : read_all receives (drop at s) ≡ ahead (record { kind = x.kind; payload = part s (at + x.at) x.length; code = code }) (read_all receives (drop (at + x.used) s))
+pub record Here (s : List ℕ) (at : ℕ) (f : Found) : Type 0 where
+  pub place : f.at ≡ 5
+  pub used-is : f.used ≡ 5 + f.length
+  pub within : at + f.used ≤ length s
+  pub goes : read_all receives (drop at s)
+      ≡ ahead (record { kind = kind_number f.kind; payload = part s (at + f.at) f.length; code = unwrap_or f.code 0 }) (read_all receives (drop (at + f.used) s))
 
 -- none
-pub record Over (s : List ℕ) (at : ℕ) (x : Next) : Type 0 where
+pub record Over (s : List ℕ) (at : ℕ) (refusal : Option ReadError) : Type 0 where
   pub ending : End
-  pub number_is : x.number ≡ end_number ending
+  pub refusal-is : refusal ≡ refusal_of ending
   pub ends : read_all receives (drop at s) ≡ record { messages = []; ending = ending; rest = drop at s }
 
 module _ (s : List ℕ) (at : ℕ) (within : at ≤ length s) where
-  whole_here : (kind place n used code : ℕ) → read_frame (drop at s) ≡ Whole kind place n used code → Here s at (next_of (Whole kind place n used code))
-  unfolding next_of receives answer_of used_of part
-  whole_here kind place n used code e =
-      let a = says (drop at s) kind place n used code e in
+  pub here : (f : Found) → read_frame (drop at s) ≡ Ok (Some f) → Here s at f
+  unfolding receives answer_of used_of part
+  here f e =
+      let a = says (drop at s) f e in
       let l = length-drop at s in
-      let f : Frame = record { kind = kind; payload = part (drop at s) place n; code = code } in
-      let r : receives (drop at s) ≡ message f used = rw e in
+      let place = ap (λ (x : Found). x.at) a.frame-is in
+      let n = ap (λ (x : Found). x.length) a.frame-is in
+      let u = ap (λ (x : Found). x.used) a.frame-is in
+      let g : Frame = record { kind = kind_number f.kind; payload = part (drop at s) f.at f.length; code = unwrap_or f.code 0 } in
+      let r : receives (drop at s) ≡ message g f.used = rw e in
       record {
-        code = code;
-        place = a.at-is;
-        used-is = a.used-is;
-        within = omega arith;
-        goes = goes-on receives stable (drop at s) f used r ∙ rw (drop-drop place at s, drop-drop used at s);
+        place = place;
+        used-is = omega arith;
+        within = omega (arith, a.whole);
+        goes = goes-on receives stable (drop at s) g f.used r ∙ rw (drop-drop f.at at s, drop-drop f.used at s);
       }
 
-  here-by : (r : Read) → read_frame (drop at s) ≡ r → (next_of r).number ≡ 0 → Here s at (next_of r)
-  unfolding next_of read_number
-  here-by Waiting e z = absurd (omega arith)
-  here-by InvalidKind e z = absurd (omega arith)
-  here-by EmptyExit e z = absurd (omega arith)
-  here-by (Whole kind place n used code) e z = whole_here kind place n used code e
+  -- as a call that is lent the rest finds it
+  pub here-lent : (f : Found) → read_frame (take (length s - at) (drop at s)) ≡ Ok (Some f) → Here s at f
+  here-lent f e = here f (sym (ap read_frame (lent-rest s at)) ∙ e)
 
-  over_by : (r : Read) → read_frame (drop at s) ≡ r → 0 < (next_of r).number → Over s at (next_of r)
-  unfolding next_of read_number receives answer_of used_of end_number
-  over_by Waiting e z = record { ending = more; number_is = refl; ends = waits receives stable (drop at s) (rw e) }
-  over_by InvalidKind e z = record { ending = stopped 18; number_is = refl; ends = stops receives stable (drop at s) 18 0 (rw e) }
-  over_by EmptyExit e z = record { ending = stopped 19; number_is = refl; ends = stops receives stable (drop at s) 19 0 (rw e) }
-  over_by (Whole kind place n used code) e z = absurd (omega arith)
+  pub over-waits : read_frame (drop at s) ≡ Ok None → Over s at None
+  unfolding receives answer_of refusal_of
+  over-waits e = record { ending = more; refusal-is = refl; ends = waits receives stable (drop at s) (rw e) }
 
-  pub here : (x : Next) → x ≡ next_of (read_frame (drop at s)) → x.number ≡ 0 → Here s at x
-  here x e z = rw e (here-by (read_frame (drop at s)) refl (rw e at z))
-
-  pub over : (x : Next) → x ≡ next_of (read_frame (drop at s)) → 0 < x.number → Over s at x
-  over x e z = rw e (over_by (read_frame (drop at s)) refl (rw e at z))
+  pub over-refused : (x : ReadError) → read_frame (drop at s) ≡ Err x → Over s at (Some x)
+  unfolding receives answer_of used_of refusal_of
+  over-refused InvalidKind e = record { ending = stopped 18; refusal-is = refl; ends = stops receives stable (drop at s) 18 0 (rw e) }
+  over-refused EmptyExit e = record { ending = stopped 19; refusal-is = refl; ends = stops receives stable (drop at s) 19 0 (rw e) }
 
 -- ---- gathering
 
@@ -117,18 +118,18 @@ unfolding kept
 kept-short wanted kind payload = by-test (eqb kind wanted) (λ t. rw t (omega arith)) (λ t. rw t (omega arith))
 
 -- a frame's data is gathered
-pub gathering-goes : (wanted : ℕ) (s out₀ out : List ℕ) (at end : ℕ) (x : Next) (out' : List ℕ) (end' : ℕ) → Gathering wanted s out₀ out at end → Here s at x
-    → Keeps (kept wanted x.kind (take (at + x.at + x.length - (at + x.at)) (drop (at + x.at) s))) end out end' out'
+pub gathering-goes : (wanted : ℕ) (s out₀ out : List ℕ) (at end : ℕ) (x : Found) (out' : List ℕ) (end' : ℕ) → Gathering wanted s out₀ out at end → Here s at x
+    → Keeps (kept wanted (kind_number x.kind) (take (at + x.at + x.length - (at + x.at)) (drop (at + x.at) s))) end out end' out'
     → Gathering wanted s out₀ out' (at + x.used) end'
 unfolding of_kind ahead
 gathering-goes wanted s out₀ out at end x out' end' g h k =
     let p = part s (at + x.at) x.length in
-    let f : Frame = record { kind = x.kind; payload = p; code = h.code } in
+    let f : Frame = record { kind = kind_number x.kind; payload = p; code = unwrap_or x.code 0 } in
     let b = g.before in
     let o = of_kind wanted b in
-    let y = kept wanted x.kind p in
-    let ly : length y ≤ x.length = omega (arith, kept-short wanted x.kind p, length_part s (at + x.at) x.length (omega arith)) in
-    let same = ap (kept wanted x.kind) (lent-part s (at + x.at) x.length) in
+    let y = kept wanted (kind_number x.kind) p in
+    let ly : length y ≤ x.length = omega (arith, kept-short wanted (kind_number x.kind) p, length_part s (at + x.at) x.length (omega arith)) in
+    let same = ap (kept wanted (kind_number x.kind)) (lent-part s (at + x.at) x.length) in
     let all : of_kind wanted (b ++ (f ∷ [])) ≡ o ++ y = of-kind-append wanted b (f ∷ []) ∙ ap (λ (l : List ℕ). o ++ l) (append-nil y) in
     let la = length-append o y in
     let n : end' ≡ end + length y = k.end_is ∙ ap (λ (l : List ℕ). end + length l) same in
@@ -146,8 +147,8 @@ gathering-goes wanted s out₀ out at end x out' end' g h k =
     }
 
 -- no frame is left
-pub gathering-ends : (wanted : ℕ) (s out₀ out : List ℕ) (at end : ℕ) (x : Next) → Gathering wanted s out₀ out at end → Over s at x
-    → Gathers wanted s out₀ (record { used = at; length = end; number = x.number }) out
+pub gathering-ends : (wanted : ℕ) (s out₀ out : List ℕ) (at end : ℕ) (x : Option ReadError) → Gathering wanted s out₀ out at end → Over s at x
+    → Gathers wanted s out₀ (record { used = at; length = end; refusal = x }) out
 unfolding gathered gathered_of
 gathering-ends wanted s out₀ out at end x g v =
     let q = g.reads ∙ ap (behind g.before) v.ends in
@@ -155,7 +156,7 @@ gathering-ends wanted s out₀ out at end x g v =
     let u : at ≡ length s - length (drop at s) = omega arith in
     let m : (read_all receives s).messages ≡ g.before = ap (λ (r : Reading Frame). r.messages) q ∙ append-nil g.before in
     record {
-      result-is = rw (m, q) (cc);
+      result-is = rw (m, q) (cc v.refusal-is);
       out-is = g.out-is ∙ ap (λ (fs : List Frame). put out₀ 0 (of_kind wanted fs)) (sym m);
       rest-is = sym (ap (λ (r : Reading Frame). r.rest) q);
       within = g.within;

@@ -9,43 +9,51 @@ use native.Mathlib.Omega.{arith}
 use lib.Dec.{eqb}
 use Rattle.stream.specs.Stream.{refused, End, more, stopped, Ends, Reading, joined, read_all, begun, fed_by, feed, feed_all}
 use Rattle.stream.proofs.Cut.{rest-left, read-ends}
-use Rattle.shell.specs.declared.Read.{Read}
-use Rattle.shell.specs.declared.Read.TheVariants.{Waiting, InvalidKind, EmptyExit, Whole}
-use Rattle.shell.specs.Frame.{read_frame, read_number}
+use Rattle.std.proofs.Common.{Some, None, Ok, Err}
+use Rattle.shell.specs.declared.ReadError.TheVariants.{InvalidKind, EmptyExit}
+use Rattle.shell.specs.Frame.{Read, read_frame}
 use Rattle.shell.specs.Pieces.{Frame, answer_of, receives}
 use Rattle.shell.proofs.Pieces.{stable, pieces}
-use Rattle.console.specs.Gather.{of_kind, end_number, gathered_of, gathered}
+use Rattle.console.specs.Gather.{of_kind, end_number, refusal_of, refusal_as_number, gathered_of, gathered}
 use Rattle.console.specs.Shown.{Shown, blank, goes_on, shows, shows_all, shown_of}
 use Rattle.console.proofs.GatherLaws.{of-kind-append}
 
--- no refusal has waiting's number
-abbrev NotWaiting : ℕ → Type 0
-NotWaiting n = eqb n 100 ≡ false
+-- a refusal is known by its number, which is not waiting's
+record Known (n : ℕ) : Type 0 where
+  other : eqb n 100 ≡ false
+  again : refusal_as_number (refusal_of (stopped n)) ≡ n
 
-refusal-number : (l : List ℕ) (r : Read) (number n : ℕ) → answer_of l r ≡ refused number n → NotWaiting number
-unfolding answer_of read_number
-refusal-number l Waiting number n e = let z : ◌≡◌ {A = ℕ} 0 1 = cc in absurd (omega arith)
-refusal-number l InvalidKind number n e = let z : number ≡ 18 = cc in rw z
-refusal-number l EmptyExit number n e = let z : number ≡ 19 = cc in rw z
-refusal-number l (Whole kind at k used code) number n e = let z : ◌≡◌ {A = ℕ} 0 1 = cc in absurd (omega arith)
+known-by : (l : List ℕ) (r : Read) (number n : ℕ) → answer_of l r ≡ refused number n → Known number
+unfolding answer_of refusal_of
+known-by l (Ok None) number n e = let z : ◌≡◌ {A = ℕ} 0 1 = cc in absurd (omega arith)
+known-by l (Ok (Some f)) number n e = let z : ◌≡◌ {A = ℕ} 0 1 = cc in absurd (omega arith)
+known-by l (Err InvalidKind) number n e = let z : number ≡ 18 = cc in rw z (record { other = refl; again = refl })
+known-by l (Err EmptyExit) number n e = let z : number ≡ 19 = cc in rw z (record { other = refl; again = refl })
 
-plain : (l : List ℕ) → Ends NotWaiting (read_all receives l).ending
+plain : (l : List ℕ) → Ends Known (read_all receives l).ending
 unfolding receives
-plain l = read-ends receives stable NotWaiting (λ t number n e. refusal-number t (read_frame t) number n e) l
+plain l = read-ends receives stable Known (λ t number n e. known-by t (read_frame t) number n e) l
+
+same-number : (e : End) → Ends Known e → refusal_as_number (refusal_of e) ≡ end_number e
+unfolding refusal_of end_number Ends
+same-number more h = refl
+same-number (stopped n) h = h.again
 
 -- a piece is shown as it is read
-shows-by : (wanted : ℕ) (ms : List Frame) (rest c : List ℕ) (e : End) → Ends NotWaiting e
+shows-by : (wanted : ℕ) (ms : List Frame) (rest c : List ℕ) (e : End) → Ends Known e
     → shows wanted (shown_of wanted (record { messages = ms; ending = e; rest = rest })) c ≡ shown_of wanted (feed receives (record { messages = ms; ending = e; rest = rest }) c)
 unfolding shows goes_on shown_of end_number feed fed_by Ends gathered gathered_of
-shows-by wanted ms rest c more h = rw (of-kind-append wanted ms (read_all receives (rest ++ c)).messages, rest-left receives stable (rest ++ c))
-shows-by wanted ms rest c (stopped n) h = rw h
+shows-by wanted ms rest c more h =
+    let q = read_all receives (rest ++ c) in
+    rw (of-kind-append wanted ms q.messages, rest-left receives stable (rest ++ c), same-number q.ending (plain (rest ++ c)))
+shows-by wanted ms rest c (stopped n) h = rw h.other
 
-feed-ends : (r : Reading Frame) (c : List ℕ) (e : End) → Ends NotWaiting e → Ends NotWaiting (fed_by receives r c e).ending
+feed-ends : (r : Reading Frame) (c : List ℕ) (e : End) → Ends Known e → Ends Known (fed_by receives r c e).ending
 unfolding fed_by
 feed-ends r c more h = plain (r.rest ++ c)
 feed-ends r c (stopped n) h = h
 
-all_shown : (wanted : ℕ) (r : Reading Frame) (cs : List (List ℕ)) → Ends NotWaiting r.ending
+all_shown : (wanted : ℕ) (r : Reading Frame) (cs : List (List ℕ)) → Ends Known r.ending
     → shows_all wanted (shown_of wanted r) cs ≡ shown_of wanted (feed_all receives r cs)
 unfolding shows_all feed_all feed
 all_shown wanted r [] h = refl

@@ -1,12 +1,11 @@
 -- The data of a session's frames of one kind (docs/SCOPE.md, 11). Assumes nothing.
-use Rattle.std.specs.Prelude.{ℕ, ◌+◌, ◌-◌, ◌≤◌, ◌≡◌, cond, List, [], ◌∷◌, ◌++◌, eqb, length, drop}
+use Rattle.std.specs.Prelude.{ℕ, ◌+◌, ◌-◌, ◌≤◌, ◌≡◌, cond, List, [], ◌∷◌, ◌++◌, eqb, Option, Some, None, length, drop}
 use Rattle.le.specs.Le.{put}
 use Rattle.stream.specs.Stream.{End, more, stopped, Reading, read_all}
-use Rattle.shell.specs.declared.Read.{Read}
-use Rattle.shell.specs.declared.Read.TheVariants.{Waiting, InvalidKind, EmptyExit, Whole}
-use Rattle.shell.specs.Frame.{read_number}
+use Rattle.shell.specs.declared.ReadError.{ReadError}
+use Rattle.shell.specs.declared.ReadError.TheVariants.{InvalidKind, EmptyExit}
+use Rattle.shell.specs.Frame.{refusal_number}
 use Rattle.shell.specs.Pieces.{Frame, receives}
-use Rattle.console.specs.declared.Next.{Next}
 use Rattle.console.specs.declared.Gathered.{Gathered}
 
 -- a frame's data where its kind is the wanted one
@@ -23,9 +22,19 @@ unfoldable pub end_number : End → ℕ
 end_number more = 100
 end_number (stopped n) = n
 
+-- the same as the reader's refusal, none for want of bytes; its refusals have the numbers 18 and 19
+unfoldable pub refusal_of : End → Option ReadError
+refusal_of more = None
+refusal_of (stopped n) = Some (cond (eqb n 18) InvalidKind EmptyExit)
+
+-- and its number again
+abbrev pub refusal_as_number : Option ReadError → ℕ
+refusal_as_number None = 100
+refusal_as_number (Some e) = refusal_number e
+
 -- what the frames that are all there come to: the bytes that they use, the bytes gathered, and why there are no more
 unfoldable pub gathered_of : ℕ → ℕ → Reading Frame → Gathered
-gathered_of wanted n q = record { used = n - length q.rest; length = length (of_kind wanted q.messages); number = end_number q.ending }
+gathered_of wanted n q = record { used = n - length q.rest; length = length (of_kind wanted q.messages); refusal = refusal_of q.ending }
 
 unfoldable pub gathered : ℕ → List ℕ → Gathered
 gathered wanted s = gathered_of wanted (length s) (read_all receives s)
@@ -40,13 +49,6 @@ pub record Gathers (wanted : ℕ) (s out : List ℕ) (r : Gathered) (out' : List
   pub short : r.length ≤ r.used
 
 -- ---- inside
-
--- an answer of the reader, with its number
-unfoldable pub next_of : Read → Next
-next_of Waiting = record { kind = 0; at = 0; length = 0; used = 0; number = read_number Waiting }
-next_of InvalidKind = record { kind = 0; at = 0; length = 0; used = 0; number = read_number InvalidKind }
-next_of EmptyExit = record { kind = 0; at = 0; length = 0; used = 0; number = read_number EmptyExit }
-next_of (Whole kind at n used code) = record { kind = kind; at = at; length = n; used = used; number = read_number (Whole kind at n used code) }
 
 -- bytes put at a place, and the place behind them
 pub record Keeps (bytes : List ℕ) (end : ℕ) (out : List ℕ) (r : ℕ) (out' : List ℕ) : Type 0 where

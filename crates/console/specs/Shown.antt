@@ -2,7 +2,7 @@
 use Rattle.std.specs.Prelude.{ℕ, cond, List, [], ◌∷◌, ◌++◌, eqb, drop}
 use Rattle.stream.specs.Stream.{Reading, read_all}
 use Rattle.shell.specs.Pieces.{Frame, receives}
-use Rattle.console.specs.Gather.{of_kind, end_number, gathered}
+use Rattle.console.specs.Gather.{of_kind, end_number, refusal_as_number, gathered}
 
 -- the text so far, the bytes that are left, and why there is no more: 100, or a refusal's number
 pub record Shown : Type 0 where
@@ -20,7 +20,7 @@ goes_on wanted text s =
     record {
       text = text ++ of_kind wanted (read_all receives s).messages;
       rest = drop (gathered wanted s).used s;
-      number = (gathered wanted s).number;
+      number = refusal_as_number (gathered wanted s).refusal;
     }
 
 -- a piece more: gathered with the rest ahead of it; after a refusal it is only kept

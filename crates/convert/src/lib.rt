@@ -2,120 +2,150 @@
 // written to the output, and where a part of one is held, more is read behind it.
 #![tactic(auto)]
 
-ghost use Rattle.std.specs.Prelude.{◌≡◌, ◌+◌};
-ghost use Rattle.intake.specs.Intake.{Within};
-ghost use Rattle.convert.specs.Convert.{ahead_of, next_by};
+ghost use Rattle.std.specs.Prelude.{◌≡◌, ℕ, List, ◌+◌, ◌≤◌, Option, Result, Some, Ok, length};
+ghost use Rattle.intake.specs.Intake.{Within, held_of};
+ghost use Rattle.capture.specs.Capture.{next_frame, next_record};
+ghost use Rattle.convert.specs.Convert.{hold};
+ghost use Rattle.convert.specs.Laws.{frame_here, record_here};
 
-use capture::Next;
 use intake::Held;
+use protocol::packet::DecodeError;
 use std::io::{Read, Write};
+use std::ops::ControlFlow;
 
 // Longest frame with its header.
 const HOLD: u32 = 65_536;
 
+// A way of converting.
+pub trait Way: Copy {
+    // Why what is held is not taken.
+    type Refusal: Copy;
+
+    // How many bytes stand ahead of a frame.
+    const AHEAD: usize;
+
+    ghost AHEAD: { ℕ };
+
+    ghost next: { List ℕ → Result (Option ℕ) Self.Refusal };
+
+    // How long the frame is that held bytes begin with.
+    fn next(self, held: &[u8]) -> Result<Option<usize>, Self::Refusal>
+        ensures { result ≡ next held.now };
+
+    // It is held, with what stands ahead of it.
+    ghost here: { (s : List ℕ) → (n : ℕ) → next s ≡ Ok (Some n) → AHEAD + n ≤ length s };
+
+    // Writes what goes ahead of a frame of n bytes. Answers whether all of it was written.
+    fn put_ahead<W: Write>(self, output: &mut W, n: usize) -> bool;
+}
+
+// Received frames to the records of a capture.
 #[derive(Clone, Copy)]
-pub enum Way {
-    // Received frames to the records of a capture.
-    ToRecords,
-    // Records to their frames.
-    ToFrames,
-}
+pub struct ToRecords;
 
-// What held bytes begin with.
-fn next(way: Way, held: &[u8]) -> Next
-    ensures { result ≡ next_by way held.now }
-{
-    match way {
-        Way::ToRecords => capture::next_frame(held, HOLD),
-        Way::ToFrames => capture::next_record(held, HOLD),
+impl Way for ToRecords {
+    type Refusal = DecodeError;
+
+    const AHEAD: usize = 0;
+
+    ghost AHEAD = { 0 };
+
+    ghost next = { next_frame hold };
+
+    ghost here = { frame_here };
+
+    fn next(self, held: &[u8]) -> Result<Option<usize>, DecodeError> {
+        capture::next_frame(held, HOLD)
+    }
+
+    fn put_ahead<W: Write>(self, output: &mut W, n: usize) -> bool {
+        let mut head = [0u8; 16];
+        capture::make_head(n, &mut head) && output.write_all(&head).is_ok()
     }
 }
 
-// How many bytes stand ahead of a frame.
-fn ahead(way: Way) -> usize
-    ensures { result ≡ ahead_of way }
-{
-    match way {
-        Way::ToRecords => 0,
-        Way::ToFrames => pcap::RECORD_SIZE,
-    }
-}
+// Records to their frames.
+#[derive(Clone, Copy)]
+pub struct ToFrames;
 
-// The header of a record with a frame of n bytes.
-fn put_head<W: Write>(output: &mut W, n: usize) -> bool {
-    let mut head = [0u8; 16];
-    let is_made = capture::make_head(n, &mut head);
-    if is_made {
-        return output.write_all(&head).is_ok();
-    }
-    false
-}
+impl Way for ToFrames {
+    type Refusal = pcap::ReadError;
 
-// What is written ahead of a frame. Answers whether all of it was.
-fn put_ahead<W: Write>(output: &mut W, way: Way, n: usize) -> bool {
-    match way {
-        Way::ToRecords => put_head(output, n),
-        Way::ToFrames => true,
+    const AHEAD: usize = pcap::RECORD_SIZE;
+
+    ghost AHEAD = { 16 };
+
+    ghost next = { next_record hold };
+
+    ghost here = { record_here };
+
+    fn next(self, held: &[u8]) -> Result<Option<usize>, pcap::ReadError> {
+        capture::next_record(held, HOLD)
+    }
+
+    fn put_ahead<W: Write>(self, _output: &mut W, _n: usize) -> bool {
+        true
     }
 }
 
 // A frame of n bytes is written. What is held then is what stands behind it.
-fn take<W: Write>(output: &mut W, way: Way, buf: &[u8], at: usize, end: usize, n: usize) -> Held
-    requires { Within (at + (ahead_of way + n)) end buf.now }
-    ensures { Within result.at result.end buf.now }
+fn take<V: Way, W: Write>(
+    output: &mut W,
+    way: V,
+    buf: &[u8],
+    held: Held,
+    n: usize,
+) -> ControlFlow<Held, Held>
+    requires { Within (held.at + (V.AHEAD + n)) held.end buf.now }
+    ensures { Within (held_of result).at (held_of result).end buf.now }
 {
-    let from = at + ahead(way);
+    let from = held.at + V::AHEAD;
     let to = from + n;
-    let is_ahead = put_ahead(output, way, n);
-    if is_ahead {
-        let more = output.write_all(&buf[from..to]).is_ok();
-        return Held { at: to, end, more };
-    }
-    Held {
+    let rest = Held {
         at: to,
-        end,
-        more: false,
+        end: held.end,
+    };
+    if way.put_ahead(output, n) && output.write_all(&buf[from..to]).is_ok() {
+        ControlFlow::Continue(rest)
+    } else {
+        ControlFlow::Break(rest)
     }
 }
 
 // One frame, or one read.
-fn turn<R: Read, W: Write>(
+fn turn<V: Way, R: Read, W: Write>(
     input: &mut R,
     output: &mut W,
-    way: Way,
+    way: V,
     buf: &mut [u8],
     held: Held,
-) -> Held
+) -> ControlFlow<Held, Held>
     requires { Within held.at held.end buf.old }
-    ensures { Within result.at result.end buf.new }
+    ensures { Within (held_of result).at (held_of result).end buf.new }
 {
-    let at = held.at;
-    let end = held.end;
-    let due = next(way, &buf[at..end]);
-    match due {
-        Next::More => intake::read_more(input, buf, at, end),
-        Next::Frame(n) => take(output, way, buf, at, end, n),
-        Next::End(_) => Held {
-            at,
-            end,
-            more: false,
-        },
+    match way.next(&buf[held.at..held.end]) {
+        Ok(Some(n)) => take(output, way, buf, held, n),
+        Ok(None) => held.read_more(input, buf),
+        Err(_) => ControlFlow::Break(held),
     }
 }
 
 // All of the input, up to its end or to what is not taken. Answers what is held then: what was read and not taken. Nothing says
-// that input ends, so that the turns are counted, from a number that no run uses up.
-pub fn convert<R: Read, W: Write>(input: &mut R, output: &mut W, way: Way, buf: &mut [u8]) -> Held
+// that input ends, so that the turns are counted, up to a number that no run reaches.
+pub fn convert<V: Way, R: Read, W: Write>(
+    input: &mut R,
+    output: &mut W,
+    way: V,
+    buf: &mut [u8],
+) -> Held
     ensures { Within result.at result.end buf.new }
 {
     let mut held = intake::begin();
-    let mut turns = u64::MAX;
-    while turns > 0 {
-        if !held.more {
-            return held;
+    for _ in 0..u64::MAX {
+        match turn(input, output, way, buf, held) {
+            ControlFlow::Continue(next) => held = next,
+            ControlFlow::Break(last) => return last,
         }
-        held = turn(input, output, way, buf, held);
-        turns -= 1;
     }
     held
 }

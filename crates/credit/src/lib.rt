@@ -2,10 +2,12 @@
 #![tactic(auto)]
 
 ghost use Rattle.std.specs.Prelude.{◌≡◌};
-ghost use Rattle.credit.specs.Credit.{credit_of, credit_number, credit_fault_number};
+ghost use Rattle.credit.specs.Credit.{credit_of, credit_fault_number};
 
-// What is wrong with it: refusals 5, 20 and 21.
-#[derive(Clone, Copy)]
+use refusal::Numbered;
+
+// What is wrong with it: refusals 5, 20 and 21 (docs/SCOPE.md, 6).
+#[derive(Clone, Copy, Debug, PartialEq, Eq)]
 pub enum CreditFault {
     // Under 4 bytes.
     Short,
@@ -15,19 +17,10 @@ pub enum CreditFault {
     Negative,
 }
 
-// The credit that a delayed OKAY carries.
-#[derive(Clone, Copy)]
-pub enum Credit {
-    Of(i32),
-    Bad(CreditFault),
-}
+impl Numbered for CreditFault {
+    ghost number = { credit_fault_number };
 
-// The number of each answer (docs/SCOPE.md, 6): a refusal's own, 0 for a credit.
-
-impl CreditFault {
-    pub fn number(self) -> u32
-        ensures { result ≡ credit_fault_number self }
-    {
+    fn number(self) -> u32 {
         match self {
             CreditFault::Short => 5,
             CreditFault::Long => 20,
@@ -36,30 +29,19 @@ impl CreditFault {
     }
 }
 
-impl Credit {
-    pub fn number(self) -> u32
-        ensures { result ≡ credit_number self }
-    {
-        match self {
-            Credit::Of(_) => 0,
-            Credit::Bad(fault) => fault.number(),
-        }
-    }
-}
-
 // The four bytes of an OKAY's payload, signed, and not below 0.
-pub fn parse_ready_credit(payload: &[u8]) -> Credit
+pub fn parse_ready_credit(payload: &[u8]) -> Result<i32, CreditFault>
     ensures { result ≡ credit_of payload.now }
 {
     if payload.len() < 4 {
-        return Credit::Bad(CreditFault::Short);
+        return Err(CreditFault::Short);
     }
     if payload.len() > 4 {
-        return Credit::Bad(CreditFault::Long);
+        return Err(CreditFault::Long);
     }
-    let credit = le::get_i32(payload, 0);
+    let credit = le::get(payload, 0);
     if credit < 0 {
-        return Credit::Bad(CreditFault::Negative);
+        return Err(CreditFault::Negative);
     }
-    Credit::Of(credit)
+    Ok(credit)
 }

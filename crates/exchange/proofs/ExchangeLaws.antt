@@ -5,7 +5,7 @@ use mathlib.Core.List.{List, [], ◌∷◌}
 use Prim.Native.Nat.{ℕ, ◌≤◌, ◌<◌, ◌^◌}
 use native.Mathlib.Omega.{arith}
 use lib.Dec.{eqb, ltb, lit<}
-use borrow.Author.Tests.{eqb-true, ltb-true, ltb-false, not-true}
+use borrow.Author.Tests.{eqb-true, eq-eqb, ltb-true, ltb-false, not-true}
 use Rattle.le.specs.Le.{num_of}
 use Rattle.le.proofs.Parts.{by-test}
 use Rattle.le.proofs.RowLaws.{never}
@@ -13,9 +13,14 @@ use Rattle.exchange.specs.declared.SyncId.{SyncId}
 use Rattle.exchange.specs.declared.SyncId.TheVariants.{List as LIST, Recv as RECV, Send as SEND, Stat as STAT, Data as DATA, Done as DONE, Quit as QUIT, Dent as DENT, Okay as OKAY, Fail as FAIL, Lis2 as LIS2, Sta2 as STA2, Dnt2 as DNT2}
 use Rattle.exchange.specs.declared.Layout.{Layout}
 use Rattle.exchange.specs.declared.Layout.TheVariants.{Text, Number, Stat, Entry, End, StatV2, EntryV2, EndV2}
-use Rattle.exchange.specs.declared.Found.TheVariants.{Known}
 use Rattle.exchange.specs.declared.Exchange.{Exchange}
-use Rattle.exchange.specs.Exchange.{letters_of, word_of, is_over, head_of, longest_of, layout_number, Row, requests, list_replies, stat_replies, recv_replies, send_replies, list_v2_replies, stat_v2_replies, rows_of, among_of, found_of, exchange_of, exchange_v2_of}
+use Rattle.exchange.specs.Exchange.{letters_of, word_of, head_of, longest_of, layout_number, Row, rows_of, found_of, exchange_of, exchange_v2_of}
+use denote.Enum.Bare.{sameb, same_true}
+use borrow.Author.Rules.{rules}
+use Rattle.exchange.specs.contracts.Layout.{the_type}
+use Rattle.std.specs.Int.{from_le_bytes, w32}
+use Rattle.std.specs.List.{find}
+use Rattle.std.specs.Prelude.{◌==◌, Option, Some}
 
 -- words are of 32 bits
 pub word_small : (id : SyncId) → word_of id < 2 ^ 32
@@ -33,6 +38,23 @@ word_small FAIL = lit< tt
 word_small LIS2 = lit< tt
 word_small STA2 = lit< tt
 word_small DNT2 = lit< tt
+
+-- the library's number of an id's letters is its word
+pub letters_word : (id : SyncId) → from_le_bytes w32 (letters_of id) ≡ word_of id
+unfolding letters_of word_of num_of
+letters_word LIST = refl
+letters_word RECV = refl
+letters_word SEND = refl
+letters_word STAT = refl
+letters_word DATA = refl
+letters_word DONE = refl
+letters_word QUIT = refl
+letters_word DENT = refl
+letters_word OKAY = refl
+letters_word FAIL = refl
+letters_word LIS2 = refl
+letters_word STA2 = refl
+letters_word DNT2 = refl
 
 -- the id that has a word
 abbrev id_of : ℕ → SyncId
@@ -70,35 +92,37 @@ id-of-word DNT2 = refl
 pub same_id : (a b : SyncId) → word_of a ≡ word_of b → a ≡ b
 same_id a b e = sym (id-of-word a) ∙ ap id_of e ∙ id-of-word b
 
+-- the first of some messages whose id has this word
+abbrev among : List Row → ℕ → Option Row
+among ms w = find (λ (m : Row). word_of m.0 == w) ms
+
 -- a word under which a message is found is its id's
-found_among : (ms : List Row) (w : ℕ) (id : SyncId) (k : Layout) → among_of ms w ≡ Known id k → w ≡ word_of id
-unfolding among_of
+found_among : (ms : List Row) (w : ℕ) (id : SyncId) (k : Layout) → among ms w ≡ Some (id, k) → w ≡ word_of id
 found_among [] w id k e = cc
 found_among (m ∷ ms) w id k e =
-    by-test (eqb w (word_of m.id))
-    (λ t. let n = eqb-true w (word_of m.id) t in let f = rw t at e in cc)
+    by-test (word_of m.0 == w)
+    (λ t. let n = eqb-true (word_of m.0) w t in let f = rw t at e in cc)
     (λ t. found_among ms w id k (rw t at e))
 
-pub found_word : (x : Exchange) (w : ℕ) (id : SyncId) (k : Layout) → found_of x w ≡ Known id k → w ≡ word_of id
+pub found_word : (x : Exchange) (w : ℕ) (id : SyncId) (k : Layout) → found_of x w ≡ Some (id, k) → w ≡ word_of id
 unfolding found_of
 found_word x w id k e = found_among (rows_of x) w id k e
 
 -- what an id's word finds has that id
-pub found-id : (x : Exchange) (a id : SyncId) (k : Layout) → found_of x (word_of a) ≡ Known id k → found_of x (word_of a) ≡ Known a k
+pub found-id : (x : Exchange) (a id : SyncId) (k : Layout) → found_of x (word_of a) ≡ Some (id, k) → found_of x (word_of a) ≡ Some (a, k)
 found-id x a id k e = let s = same_id a id (found_word x (word_of a) id k e) in cc
 
 -- what is found has a layout of the messages
 abbrev all_rows : (Layout → Bool) → List Row → Bool
 all_rows p [] = true
-all_rows p (m ∷ ms) = cond (p m.layout) (all_rows p ms) false
+all_rows p (m ∷ ms) = cond (p m.1) (all_rows p ms) false
 
-layout-among : (p : Layout → Bool) (ms : List Row) (w : ℕ) (id : SyncId) (k : Layout) → all_rows p ms ≡ true → among_of ms w ≡ Known id k → p k ≡ true
-unfolding among_of
-layout-among p [] w id k h e = let z : ◌≡◌ {A = ℕ} 0 1 = cc in absurd (omega arith)
+layout-among : (p : Layout → Bool) (ms : List Row) (w : ℕ) (id : SyncId) (k : Layout) → all_rows p ms ≡ true → among ms w ≡ Some (id, k) → p k ≡ true
+layout-among p [] w id k h e = cc
 layout-among p (m ∷ ms) w id k h e =
-    by-test (p m.layout)
-    (λ v. by-test (eqb w (word_of m.id))
-    (λ t. let f = rw t at e in let g : m.layout ≡ k = cc in sym (ap p g) ∙ v)
+    by-test (p m.1)
+    (λ v. by-test (word_of m.0 == w)
+    (λ t. let f = rw t at e in let g : m.1 ≡ k = cc in sym (ap p g) ∙ v)
     (λ t. layout-among p ms w id k (rw v at h) (rw t at e)))
     (λ v. never (rw v at h))
 
@@ -107,7 +131,7 @@ abbrev is_first : Layout → Bool
 is_first k = ltb (layout_number k) 5
 
 first_rows : (n : ℕ) → all_rows is_first (rows_of (exchange_of n)) ≡ true
-unfolding exchange_of rows_of requests list_replies stat_replies recv_replies send_replies layout_number
+unfolding exchange_of rows_of layout_number
 first_rows n =
     by-test (eqb n 0) (λ t. rw t refl)
     (λ t₀. by-test (eqb n 1) (λ t. rw (t₀, t) refl)
@@ -116,15 +140,15 @@ first_rows n =
     (λ t₃. by-test (eqb n 4) (λ t. rw (t₀, t₁, t₂, t₃, t) refl) (λ t. rw (t₀, t₁, t₂, t₃, t) refl)))))
 
 second-rows : (n : ℕ) → all_rows (λ (k : Layout). not (is_first k)) (rows_of (exchange_v2_of n)) ≡ true
-unfolding exchange_v2_of rows_of list_v2_replies stat_v2_replies layout_number
+unfolding exchange_v2_of rows_of layout_number
 second-rows n =
     by-test (eqb n 5) (λ t. rw t refl) (λ t₀. by-test (eqb n 6) (λ t. rw (t₀, t) refl) (λ t. rw (t₀, t) refl))
 
-pub first-layout : (n w : ℕ) (id : SyncId) (k : Layout) → found_of (exchange_of n) w ≡ Known id k → layout_number k < 5
+pub first-layout : (n w : ℕ) (id : SyncId) (k : Layout) → found_of (exchange_of n) w ≡ Some (id, k) → layout_number k < 5
 unfolding found_of
 first-layout n w id k e = ltb-true _ _ (layout-among is_first (rows_of (exchange_of n)) w id k (first_rows n) e)
 
-pub second-layout : (n w : ℕ) (id : SyncId) (k : Layout) → found_of (exchange_v2_of n) w ≡ Known id k → 5 ≤ layout_number k
+pub second-layout : (n w : ℕ) (id : SyncId) (k : Layout) → found_of (exchange_v2_of n) w ≡ Some (id, k) → 5 ≤ layout_number k
 unfolding found_of
 second-layout n w id k e =
     ltb-false _ _ (not-true _ (layout-among (λ (j : Layout). not (is_first j)) (rows_of (exchange_v2_of n)) w id k (second-rows n) e))
@@ -165,6 +189,21 @@ layout-at EndV2 = refl
 pub same-layout-number : (a b : Layout) → layout_number a ≡ layout_number b → a ≡ b
 same-layout-number a b e = sym (layout-at a) ∙ ap layout_at e ∙ layout-at b
 
--- the code's test of data, over what it was called with
-pub over-is : (id : SyncId) (n m : ℕ) (r t : Bool) → r ≡ is_over id n → n ≡ m → r ≡ t → is_over id m ≡ t
-over-is id n m r t e f g = cc
+-- the derived test of two layouts is that of their numbers
+same_self : (a : Layout) → sameb the_type a a ≡ true
+same_self Text = refl
+same_self Number = refl
+same_self Stat = refl
+same_self Entry = refl
+same_self End = refl
+same_self StatV2 = refl
+same_self EntryV2 = refl
+same_self EndV2 = refl
+
+pub same_by_number : (a b : Layout) → sameb the_type a b ≡ eqb (layout_number a) (layout_number b)
+same_by_number a b =
+    by-test (eqb (layout_number a) (layout_number b))
+    (λ t. let e = same-layout-number a b (eqb-true (layout_number a) (layout_number b) t) in rw (t, e, same_self b))
+    (λ f. by-test (sameb the_type a b)
+    (λ t. let e = same_true the_type (search rules) a b t in never (sym f ∙ eq-eqb (layout_number a) (layout_number b) (ap layout_number e)))
+    (λ g. g ∙ sym f))

@@ -1,13 +1,12 @@
 -- The ids of the sync messages and the exchanges that have them (SYNC.TXT; docs/SCOPE.md, 10, for QUIT, FAIL and the
 -- numbers of a listing's DONE, and 12 for LIS2, STA2 and DNT2). Assumes nothing.
-use Rattle.std.specs.Prelude.{ℕ, Bool, false, cond, List, [], ◌∷◌, ltb, eqb}
+use Rattle.std.specs.Prelude.{ℕ, Bool, false, cond, List, [], ◌∷◌, ltb, eqb, ◌==◌, Option}
+use Rattle.std.specs.List.{find}
 use Rattle.le.specs.Le.{num_of}
 use Rattle.exchange.specs.declared.SyncId.{SyncId}
 use Rattle.exchange.specs.declared.SyncId.TheVariants.{List as LIST, Recv as RECV, Send as SEND, Stat as STAT, Data as DATA, Done as DONE, Quit as QUIT, Dent as DENT, Okay as OKAY, Fail as FAIL, Lis2 as LIS2, Sta2 as STA2, Dnt2 as DNT2}
 use Rattle.exchange.specs.declared.Layout.{Layout}
 use Rattle.exchange.specs.declared.Layout.TheVariants.{Text, Number, Stat, Entry, End, StatV2, EntryV2, EndV2}
-use Rattle.exchange.specs.declared.Found.{Found}
-use Rattle.exchange.specs.declared.Found.TheVariants.{Known, Unknown}
 use Rattle.exchange.specs.declared.Exchange.{Exchange}
 use Rattle.exchange.specs.declared.Exchange.TheVariants.{Requests, ListReplies, StatReplies, RecvReplies, SendReplies, ListV2Replies, StatV2Replies, Unnamed}
 
@@ -33,7 +32,8 @@ word_of id = num_of (letters_of id)
 
 -- more than the 64k that one DATA may have (SYNC.TXT, SEND and RECV)
 unfoldable pub is_over : SyncId → ℕ → Bool
-is_over id n = cond (eqb (word_of id) (word_of DATA)) (ltb 65_536 n) false
+is_over DATA n = ltb 65_536 n
+is_over _ n = false
 
 -- bytes ahead of the text: the id, and one word, three or four; of the second stat layout 72, and a word
 unfoldable pub head_of : Layout → ℕ
@@ -69,41 +69,37 @@ layout_number EntryV2 = 6
 layout_number EndV2 = 7
 
 -- a message of an exchange: its id, and what stands behind it
-pub record Row : Type 0 where
-  pub id : SyncId
-  pub layout : Layout
-
-abbrev pub row : SyncId → Layout → Row
-row i k = record { id = i; layout = k }
+abbrev pub Row : Type 0
+Row = SyncId × Layout
 
 -- ours (SYNC.TXT, "The following sync requests are accepted", and SEND for DATA and DONE; docs/SCOPE.md, 10, for QUIT, and 12 for LIS2 and
 -- STA2)
-unfoldable pub requests : List Row
-requests = row LIST Text ∷ row RECV Text ∷ row SEND Text ∷ row STAT Text ∷ row DATA Text ∷ row DONE Number ∷ row QUIT Number ∷ row LIS2 Text ∷ row STA2 Text ∷ []
+abbrev pub requests : List Row
+requests = (LIST, Text) ∷ (RECV, Text) ∷ (SEND, Text) ∷ (STAT, Text) ∷ (DATA, Text) ∷ (DONE, Number) ∷ (QUIT, Number) ∷ (LIS2, Text) ∷ (STA2, Text) ∷ []
 
 -- the replies to LIST (SYNC.TXT, LIST; docs/SCOPE.md, 10, for the four numbers of DONE)
-unfoldable pub list_replies : List Row
-list_replies = row DENT Entry ∷ row DONE End ∷ []
+abbrev pub list_replies : List Row
+list_replies = (DENT, Entry) ∷ (DONE, End) ∷ []
 
 -- the reply to STAT (docs/SCOPE.md, 10)
-unfoldable pub stat_replies : List Row
-stat_replies = row STAT Stat ∷ []
+abbrev pub stat_replies : List Row
+stat_replies = (STAT, Stat) ∷ []
 
 -- the replies to RECV (SYNC.TXT, RECV; docs/SCOPE.md, 10, for FAIL)
-unfoldable pub recv_replies : List Row
-recv_replies = row DATA Text ∷ row DONE Number ∷ row FAIL Text ∷ []
+abbrev pub recv_replies : List Row
+recv_replies = (DATA, Text) ∷ (DONE, Number) ∷ (FAIL, Text) ∷ []
 
 -- the replies to SEND (SYNC.TXT, SEND; docs/SCOPE.md, 10, for FAIL)
-unfoldable pub send_replies : List Row
-send_replies = row OKAY Number ∷ row FAIL Text ∷ []
+abbrev pub send_replies : List Row
+send_replies = (OKAY, Number) ∷ (FAIL, Text) ∷ []
 
 -- the replies to LIS2 (docs/SCOPE.md, 13)
-unfoldable pub list_v2_replies : List Row
-list_v2_replies = row DNT2 EntryV2 ∷ row DONE EndV2 ∷ []
+abbrev pub list_v2_replies : List Row
+list_v2_replies = (DNT2, EntryV2) ∷ (DONE, EndV2) ∷ []
 
 -- the reply to STA2 (docs/SCOPE.md, 13)
-unfoldable pub stat_v2_replies : List Row
-stat_v2_replies = row STA2 StatV2 ∷ []
+abbrev pub stat_v2_replies : List Row
+stat_v2_replies = (STA2, StatV2) ∷ []
 
 -- the messages of an exchange
 unfoldable pub rows_of : Exchange → List Row
@@ -116,14 +112,9 @@ rows_of ListV2Replies = list_v2_replies
 rows_of StatV2Replies = stat_v2_replies
 rows_of Unnamed = []
 
--- the first of some messages whose id has this word
-unfoldable pub among_of : List Row → ℕ → Found
-among_of [] word = Unknown
-among_of (m ∷ ms) word = cond (eqb word (word_of m.id)) (Known m.id m.layout) (among_of ms word)
-
--- the message of an exchange that a word begins
-unfoldable pub found_of : Exchange → ℕ → Found
-found_of x word = among_of (rows_of x) word
+-- the message of an exchange that a word begins: the first whose id has this word
+unfoldable pub found_of : Exchange → ℕ → Option Row
+found_of x word = find (λ (m : Row). word_of m.0 == word) (rows_of x)
 
 -- the exchange that a number names, of those of the first stat layout
 unfoldable pub exchange_of : ℕ → Exchange

@@ -3,39 +3,12 @@
 #![tactic(auto)]
 
 ghost use Rattle.std.specs.Prelude.{◌≡◌};
-ghost use Rattle.exchange.specs.Exchange.{word_of, is_over, head_of, longest_of, layout_number, exchange_of, exchange_v2_of, among_of, requests};
-ghost use Rattle.exchange.specs.Exchange.{list_replies, stat_replies, recv_replies, send_replies, list_v2_replies, stat_v2_replies, found_of};
-
-const ID_LIST: u32 = 0x5453_494c;
-
-const ID_RECV: u32 = 0x5643_4552;
-
-const ID_SEND: u32 = 0x444e_4553;
-
-const ID_STAT: u32 = 0x5441_5453;
-
-const ID_DATA: u32 = 0x4154_4144;
-
-const ID_DONE: u32 = 0x454e_4f44;
-
-const ID_QUIT: u32 = 0x5449_5551;
-
-const ID_DENT: u32 = 0x544e_4544;
-
-const ID_OKAY: u32 = 0x5941_4b4f;
-
-const ID_FAIL: u32 = 0x4c49_4146;
-
-const ID_LIS2: u32 = 0x3253_494c;
-
-const ID_STA2: u32 = 0x3241_5453;
-
-const ID_DNT2: u32 = 0x3254_4e44;
+ghost use Rattle.exchange.specs.Exchange.{letters_of, word_of, is_over, head_of, longest_of, exchange_of, exchange_v2_of, rows_of, found_of};
 
 // Longest data of one DATA message.
 pub const SYNC_DATA_MAX: usize = 65_536;
 
-#[derive(Clone, Copy)]
+#[derive(Clone, Copy, PartialEq, Eq)]
 pub enum SyncId {
     List,
     Recv,
@@ -53,40 +26,47 @@ pub enum SyncId {
 }
 
 impl SyncId {
-    // The id's four letters, read as a little-endian number.
-    pub fn word(self) -> u32
-        ensures { result ≡ word_of self }
+    // The id's four letters.
+    #[tactic(auto, unfolding(crate::specs::Exchange::letters_of))]
+    pub fn letters(self) -> &'static [u8; 4]
+        ensures { result.now ≡ letters_of self }
     {
         match self {
-            SyncId::List => ID_LIST,
-            SyncId::Recv => ID_RECV,
-            SyncId::Send => ID_SEND,
-            SyncId::Stat => ID_STAT,
-            SyncId::Data => ID_DATA,
-            SyncId::Done => ID_DONE,
-            SyncId::Quit => ID_QUIT,
-            SyncId::Dent => ID_DENT,
-            SyncId::Okay => ID_OKAY,
-            SyncId::Fail => ID_FAIL,
-            SyncId::Lis2 => ID_LIS2,
-            SyncId::Sta2 => ID_STA2,
-            SyncId::Dnt2 => ID_DNT2,
+            SyncId::List => b"LIST",
+            SyncId::Recv => b"RECV",
+            SyncId::Send => b"SEND",
+            SyncId::Stat => b"STAT",
+            SyncId::Data => b"DATA",
+            SyncId::Done => b"DONE",
+            SyncId::Quit => b"QUIT",
+            SyncId::Dent => b"DENT",
+            SyncId::Okay => b"OKAY",
+            SyncId::Fail => b"FAIL",
+            SyncId::Lis2 => b"LIS2",
+            SyncId::Sta2 => b"STA2",
+            SyncId::Dnt2 => b"DNT2",
         }
     }
 
+    // The letters, read as a little-endian number.
+    #[tactic(auto, using(crate::proofs::ExchangeLaws::letters_word))]
+    pub fn word(self) -> u32
+        ensures { result ≡ word_of self }
+    {
+        u32::from_le_bytes(*self.letters())
+    }
+
     // Whether data is over its maximum. Other texts have none.
+    #[tactic(auto, unfolding(crate::specs::Exchange::is_over))]
     pub fn is_over(self, n: usize) -> bool
         ensures { result ≡ is_over self n }
     {
-        if self.word() == ID_DATA {
-            return n > SYNC_DATA_MAX;
-        }
-        false
+        self == SyncId::Data && n > SYNC_DATA_MAX
     }
 }
 
 // What stands behind an id.
-#[derive(Clone, Copy)]
+#[derive(Clone, Copy, PartialEq, Eq)]
 pub enum Layout {
     // A length, then a text or data of that length.
     Text,
@@ -108,62 +88,33 @@ pub enum Layout {
 
 impl Layout {
     // Bytes ahead of the text.
+    #[tactic(auto, unfolding(crate::specs::Exchange::head_of))]
     pub fn head_length(self) -> usize
         ensures { result ≡ head_of self }
     {
         match self {
-            Layout::Text => 8,
-            Layout::Number => 8,
+            Layout::Text | Layout::Number => 8,
             Layout::Stat => 16,
-            Layout::Entry => 20,
-            Layout::End => 20,
+            Layout::Entry | Layout::End => 20,
             Layout::StatV2 => 72,
-            Layout::EntryV2 => 76,
-            Layout::EndV2 => 76,
+            Layout::EntryV2 | Layout::EndV2 => 76,
         }
     }
 
     // The longest text: what a length of 32 bits can say, none where there is no length.
+    #[tactic(auto, unfolding(crate::specs::Exchange::longest_of))]
     pub fn longest(self) -> usize
         ensures { result ≡ longest_of self }
     {
         match self {
-            Layout::Text => 0xffff_ffff,
-            Layout::Number => 0,
-            Layout::Stat => 0,
-            Layout::Entry => 0xffff_ffff,
-            Layout::End => 0,
-            Layout::StatV2 => 0,
-            Layout::EntryV2 => 0xffff_ffff,
-            Layout::EndV2 => 0,
+            Layout::Text | Layout::Entry | Layout::EntryV2 => 0xffff_ffff,
+            Layout::Number | Layout::Stat | Layout::End | Layout::StatV2 | Layout::EndV2 => 0,
         }
     }
-
-    pub fn number(self) -> u32
-        ensures { result ≡ layout_number self }
-    {
-        match self {
-            Layout::Text => 0,
-            Layout::Number => 1,
-            Layout::Stat => 2,
-            Layout::Entry => 3,
-            Layout::End => 4,
-            Layout::StatV2 => 5,
-            Layout::EntryV2 => 6,
-            Layout::EndV2 => 7,
-        }
-    }
-}
-
-// What an exchange has under a word.
-#[derive(Clone, Copy)]
-pub enum Found {
-    Known(SyncId, Layout),
-    Unknown,
 }
 
 // Whose messages are read or written.
-#[derive(Clone, Copy)]
+#[derive(Clone, Copy, PartialEq, Eq)]
 pub enum Exchange {
     // Ours.
     Requests,
@@ -179,88 +130,52 @@ pub enum Exchange {
     ListV2Replies,
     // The reply to STA2.
     StatV2Replies,
-    // A number that names no exchange: one with no messages.
+    // A number that names no exchange: one with no messages. It stays a case of its own: reading and writing then take every
+    // number, and an Option would bring the case of none back into each call.
     Unnamed,
 }
 
-fn request(word: u32) -> Found
-    ensures { result ≡ among_of requests word }
-{
-    match word {
-        ID_LIST => Found::Known(SyncId::List, Layout::Text),
-        ID_RECV => Found::Known(SyncId::Recv, Layout::Text),
-        ID_SEND => Found::Known(SyncId::Send, Layout::Text),
-        ID_STAT => Found::Known(SyncId::Stat, Layout::Text),
-        ID_DATA => Found::Known(SyncId::Data, Layout::Text),
-        ID_DONE => Found::Known(SyncId::Done, Layout::Number),
-        ID_QUIT => Found::Known(SyncId::Quit, Layout::Number),
-        ID_LIS2 => Found::Known(SyncId::Lis2, Layout::Text),
-        ID_STA2 => Found::Known(SyncId::Sta2, Layout::Text),
-        _ => Found::Unknown,
-    }
-}
+// The messages of each exchange: an id, and what stands behind it.
+const REQUESTS: [(SyncId, Layout); 9] = [
+    (SyncId::List, Layout::Text),
+    (SyncId::Recv, Layout::Text),
+    (SyncId::Send, Layout::Text),
+    (SyncId::Stat, Layout::Text),
+    (SyncId::Data, Layout::Text),
+    (SyncId::Done, Layout::Number),
+    (SyncId::Quit, Layout::Number),
+    (SyncId::Lis2, Layout::Text),
+    (SyncId::Sta2, Layout::Text),
+];
 
-fn list_reply(word: u32) -> Found
-    ensures { result ≡ among_of list_replies word }
-{
-    match word {
-        ID_DENT => Found::Known(SyncId::Dent, Layout::Entry),
-        ID_DONE => Found::Known(SyncId::Done, Layout::End),
-        _ => Found::Unknown,
-    }
-}
+const LIST_REPLIES: [(SyncId, Layout); 2] = [
+    (SyncId::Dent, Layout::Entry),
+    (SyncId::Done, Layout::End),
+];
 
-fn stat_reply(word: u32) -> Found
-    ensures { result ≡ among_of stat_replies word }
-{
-    match word {
-        ID_STAT => Found::Known(SyncId::Stat, Layout::Stat),
-        _ => Found::Unknown,
-    }
-}
+const STAT_REPLIES: [(SyncId, Layout); 1] = [(SyncId::Stat, Layout::Stat)];
 
-fn recv_reply(word: u32) -> Found
-    ensures { result ≡ among_of recv_replies word }
-{
-    match word {
-        ID_DATA => Found::Known(SyncId::Data, Layout::Text),
-        ID_DONE => Found::Known(SyncId::Done, Layout::Number),
-        ID_FAIL => Found::Known(SyncId::Fail, Layout::Text),
-        _ => Found::Unknown,
-    }
-}
+const RECV_REPLIES: [(SyncId, Layout); 3] = [
+    (SyncId::Data, Layout::Text),
+    (SyncId::Done, Layout::Number),
+    (SyncId::Fail, Layout::Text),
+];
 
-fn send_reply(word: u32) -> Found
-    ensures { result ≡ among_of send_replies word }
-{
-    match word {
-        ID_OKAY => Found::Known(SyncId::Okay, Layout::Number),
-        ID_FAIL => Found::Known(SyncId::Fail, Layout::Text),
-        _ => Found::Unknown,
-    }
-}
+const SEND_REPLIES: [(SyncId, Layout); 2] = [
+    (SyncId::Okay, Layout::Number),
+    (SyncId::Fail, Layout::Text),
+];
 
-fn list_v2_reply(word: u32) -> Found
-    ensures { result ≡ among_of list_v2_replies word }
-{
-    match word {
-        ID_DNT2 => Found::Known(SyncId::Dnt2, Layout::EntryV2),
-        ID_DONE => Found::Known(SyncId::Done, Layout::EndV2),
-        _ => Found::Unknown,
-    }
-}
+const LIST_V2_REPLIES: [(SyncId, Layout); 2] = [
+    (SyncId::Dnt2, Layout::EntryV2),
+    (SyncId::Done, Layout::EndV2),
+];
 
-fn stat_v2_reply(word: u32) -> Found
-    ensures { result ≡ among_of stat_v2_replies word }
-{
-    match word {
-        ID_STA2 => Found::Known(SyncId::Sta2, Layout::StatV2),
-        _ => Found::Unknown,
-    }
-}
+const STAT_V2_REPLIES: [(SyncId, Layout); 1] = [(SyncId::Sta2, Layout::StatV2)];
 
 impl Exchange {
     // The exchange that a number names, from 0 in the order above, but for those of the second stat layout.
+    #[tactic(auto, unfolding(crate::specs::Exchange::exchange_of))]
     pub fn from_number(number: u32) -> Exchange
         ensures { result ≡ exchange_of number }
     {
@@ -274,7 +189,9 @@ impl Exchange {
         }
     }
 
-    // Of the exchanges of the second stat layout, the one that a number names.
+    // Of the exchanges of the second stat layout, the one that a number names. A function beside the other, for each call of C takes the
+    // numbers of its own layout alone.
+    #[tactic(auto, unfolding(crate::specs::Exchange::exchange_v2_of))]
     pub fn from_v2_number(number: u32) -> Exchange
         ensures { result ≡ exchange_v2_of number }
     {
@@ -285,19 +202,28 @@ impl Exchange {
         }
     }
 
-    // The message that a word begins, or that the exchange has none.
-    pub fn find(self, word: u32) -> Found
-        ensures { result ≡ found_of self word }
+    // The messages of an exchange.
+    #[tactic(auto, unfolding(crate::specs::Exchange::rows_of))]
+    fn rows(self) -> &'static [(SyncId, Layout)]
+        ensures { result.now ≡ rows_of self }
     {
         match self {
-            Exchange::Requests => request(word),
-            Exchange::ListReplies => list_reply(word),
-            Exchange::StatReplies => stat_reply(word),
-            Exchange::RecvReplies => recv_reply(word),
-            Exchange::SendReplies => send_reply(word),
-            Exchange::ListV2Replies => list_v2_reply(word),
-            Exchange::StatV2Replies => stat_v2_reply(word),
-            Exchange::Unnamed => Found::Unknown,
+            Exchange::Requests => &REQUESTS,
+            Exchange::ListReplies => &LIST_REPLIES,
+            Exchange::StatReplies => &STAT_REPLIES,
+            Exchange::RecvReplies => &RECV_REPLIES,
+            Exchange::SendReplies => &SEND_REPLIES,
+            Exchange::ListV2Replies => &LIST_V2_REPLIES,
+            Exchange::StatV2Replies => &STAT_V2_REPLIES,
+            Exchange::Unnamed => &[],
         }
+    }
+
+    // The message that a word begins, if the exchange has one.
+    #[tactic(auto, unfolding(crate::specs::Exchange::found_of))]
+    pub fn find(self, word: u32) -> Option<(SyncId, Layout)>
+        ensures { result ≡ found_of self word }
+    {
+        self.rows().iter().copied().find(|row| row.0.word() == word)
     }
 }

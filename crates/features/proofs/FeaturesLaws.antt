@@ -1,80 +1,95 @@
 -- Laws of equal texts, of a text's colons and properties, of the name in it and of its parts. Assumes nothing.
-use mathlib.Core.Path.{◌≡◌, refl, sym, ap, subst, ◌∙◌}
-use mathlib.Core.Bool.{Bool, true, false, ◌&&◌, ◌||◌}
-use mathlib.Core.List.{List, [], ◌∷◌}
-use mathlib.Core.Option.{none, some}
-use Prim.Native.Nat.{ℕ, zero, suc, ◌+◌, ◌-◌, ◌≤◌, ◌<◌}
+use Rattle.std.proofs.Common.{◌≡◌, refl, sym, ap, ◌∙◌, Bool, true, false, ◌&&◌, ◌||◌, List, [], ◌∷◌, Option, Some, None, ℕ, zero, suc, ◌+◌, ◌-◌, ◌≤◌, ◌<◌, eqb, ltb, length, take, drop, get_or, MatchOption, IfSome, option_map, option_copied, Bor, arith, length-take, length-drop, cond, take_all}
 use native.Mathlib.Nat.{suc-sub-suc, sub-zero}
-use native.Mathlib.Numerals.{add-one}
-use native.Mathlib.Omega.{arith}
-use lib.Dec.{T, eqb, ltb, eqb-zero-suc, eqb-suc-zero, eqb-suc-suc, leb-suc-suc, leb-suc-zero, leb-zero}
-use lib.ListN.{length, take, drop, get_or, length-take, length-drop, drop_of_length-le}
-use lib.Seq.{drop-cons, drop-drop}
+use lib.Dec.{eqb-zero-suc, eqb-suc-zero, eqb-suc-suc, leb-suc-suc, leb-suc-zero, leb-zero}
 use borrow.Author.Tests.{eqb-true, eqb-false, eq-eqb, ne_eqb, ltb-true, ltb-false}
+use Rattle.std.specs.List.{position, position_or_len, onto_first, slice_split, list_any}
+use Rattle.std.specs.Option.{option_eq}
+use Rattle.std.specs.Str.{bytes_eq}
+use Rattle.std.proofs.lemmas.Slice.Eq.{bytes_eq-Decides}
+use Rattle.std.proofs.lemmas.Slice.{between_to_end}
 use Rattle.le.proofs.Parts.{by-test}
 use Rattle.features.specs.Features.{colon, semicolon, comma, features_name, same_bytes, colons_in, colon_after, begins, named, after_name, first_part, on_first, parts_of, any_same, listed, has_feature, Behind}
 
--- texts of different lengths are not equal
-pub same_length : (a b : List ℕ) → (length a ≡ length b → ⊥) → same_bytes a b ≡ false
+-- ---- equal texts
+
+-- std's test of two texts is the same
+pub same-is : (a b : List ℕ) → same_bytes a b ≡ bytes_eq a b
 unfolding same_bytes
-same_length [] [] h = absurd (h refl)
-same_length [] (y ∷ ys) h = refl
-same_length (x ∷ xs) [] h = refl
-same_length (x ∷ xs) (y ∷ ys) h =
-    let r = same_length xs ys (λ e. h (ap suc e)) in
-    by-test (eqb x y) (λ t. rw (t, r)) (λ t. rw t)
+same-is [] [] = refl
+same-is [] (y ∷ ys) = refl
+same-is (x ∷ xs) [] = refl
+same-is (x ∷ xs) (y ∷ ys) = rw (same-is xs ys)
 
 -- a text equals itself
 pub eq-same : (a : List ℕ) → same_bytes a a ≡ true
-unfolding same_bytes
-eq-same [] = refl
-eq-same (x ∷ xs) = rw (eq-eqb x x refl, eq-same xs)
+eq-same a = same-is a a ∙ (bytes_eq-Decides a a).1 refl
 
 -- texts that compare as equal are equal
 pub same-eq : (a b : List ℕ) → same_bytes a b ≡ true → a ≡ b
-unfolding same_bytes
-same-eq [] [] h = refl
-same-eq [] (y ∷ ys) h = absurd (subst T (sym h) tt)
-same-eq (x ∷ xs) [] h = absurd (subst T (sym h) tt)
-same-eq (x ∷ xs) (y ∷ ys) h =
-    by-test (eqb x y)
-    (λ t. let e = eqb-true x y t in let r = same-eq xs ys (rw t at h) in cc)
-    (λ t. absurd (subst T (sym (rw t at h)) tt))
+same-eq a b h = (bytes_eq-Decides a b).0 (sym (same-is a b) ∙ h)
 
--- one byte more
-pub same_step : (a b : List ℕ) (i : ℕ) → i < length a → i < length b → get_or a i 0 ≡ get_or b i 0
-    → same_bytes (drop i a) (drop i b) ≡ same_bytes (drop (i + 1) a) (drop (i + 1) b)
+-- the order of the two does not matter
+pub same-sym : (a b : List ℕ) → bytes_eq a b ≡ same_bytes b a
 unfolding same_bytes
-same_step a b i h k e = rw (add-one, drop-cons a i 0, drop-cons b i 0, eq-eqb (get_or a i 0) (get_or b i 0) e)
+same-sym [] [] = refl
+same-sym [] (y ∷ ys) = refl
+same-sym (x ∷ xs) [] = refl
+same-sym (x ∷ xs) (y ∷ ys) = rw (same-sym xs ys) (ap (λ (t : Bool). t && same_bytes ys xs) (swapped x y))
+  where
+    swapped : (m n : ℕ) → eqb m n ≡ eqb n m
+    swapped m n = by-test (eqb n m) (λ t. rw t (eq-eqb m n (sym (eqb-true n m t)))) (λ t. rw t (ne_eqb m n (λ e. eqb-false n m t (sym e))))
 
--- a byte that differs
-pub same_not : (a b : List ℕ) (i : ℕ) → i < length a → i < length b → (get_or a i 0 ≡ get_or b i 0 → ⊥)
-    → same_bytes (drop i a) (drop i b) ≡ false
-unfolding same_bytes
-same_not a b i h k e = rw (drop-cons a i 0, drop-cons b i 0, ne_eqb (get_or a i 0) (get_or b i 0) e)
+-- texts of different lengths are not equal
+same_length : (a b : List ℕ) → (length a ≡ length b → ⊥) → same_bytes a b ≡ false
+same_length a b h = by-test (same_bytes a b) (λ t. absurd (h (ap length (same-eq a b t)))) (λ t. t)
 
--- nothing is left of both
-pub same_end : (a b : List ℕ) (i : ℕ) → length a ≤ i → length b ≤ i → same_bytes (drop i a) (drop i b) ≡ true
-unfolding same_bytes
-same_end a b i h k = rw (drop_of_length-le a h, drop_of_length-le b k)
+-- ---- the first place of a byte
+
+-- a first part ends at the first `cut`, or with the text
+place-is : (cut : ℕ) (t : List ℕ) → position_or_len (λ b. eqb b cut) t ≡ length (first_part cut t)
+unfolding first_part
+place-is cut [] = refl
+place-is cut (b ∷ t) = by-test (eqb b cut) (λ c. rw c) (λ c. let r = place-is cut t in rw c (omega arith))
+
+-- a first part is the text up to its length
+part-take : (cut : ℕ) (t : List ℕ) → take (length (first_part cut t)) t ≡ first_part cut t
+unfolding first_part
+part-take cut [] = refl
+part-take cut (b ∷ t) = by-test (eqb b cut) (λ c. rw c) (λ c. rw c (ap (λ (x : List ℕ). b ∷ x) (part-take cut t)))
+
+module _ (cut : ℕ) (t : List ℕ) where
+  found : (i : ℕ) → position (λ b. eqb b cut) t ≡ Some i → (i ≡ length (first_part cut t)) × (i < length t)
+  found i h =
+      let n = position_or_len (λ b. eqb b cut) t in
+      let e = place-is cut t in
+      by-test (ltb n (length t))
+      (λ c. let q : Some n ≡ Some i = rw c at h in let p : i ≡ n = cc in (cc, omega (arith, ltb-true)))
+      (λ c. let q : None ≡ Some i = rw c at h in cc)
+
+  not-found : position (λ b. eqb b cut) t ≡ None → length t ≤ length (first_part cut t)
+  not-found h =
+      let n = position_or_len (λ b. eqb b cut) t in
+      let e = place-is cut t in
+      by-test (ltb n (length t))
+      (λ c. let q : Some n ≡ None = rw c at h in cc)
+      (λ c. omega (arith, ltb-false n (length t) c))
+
+  pub part-found : (i : ℕ) → position (λ b. eqb b cut) t ≡ Some i → take i t ≡ first_part cut t
+  part-found i h = rw ((found i h).0) (part-take cut t)
+
+  pub part-all : position (λ b. eqb b cut) t ≡ None → t ≡ first_part cut t
+  part-all h = sym (take_all _ t (not-found h)) ∙ part-take cut t
+
+-- ---- colons
 
 -- a test that fails, last
 and-false : (t : Bool) → (t && false) ≡ false
 and-false true = refl
 and-false false = refl
 
--- a test that holds, last
-or-true : (t : Bool) → (t || true) ≡ true
-or-true true = refl
-or-true false = refl
-
--- a test that fails, left out
-or-false : (t : Bool) → (t || false) ≡ t
-or-false true = refl
-or-false false = refl
-
 -- no colon: none stands at any place
-pub colon-none : (t : List ℕ) (k i : ℕ) → length (first_part colon t) ≡ length t → colon_after k t i ≡ false
+colon-none : (t : List ℕ) (k i : ℕ) → length t ≤ length (first_part colon t) → colon_after k t i ≡ false
 unfolding colon_after colons_in first_part
 colon-none [] k i h = refl
 colon-none (b ∷ t) k zero h =
@@ -87,7 +102,7 @@ colon-none (b ∷ t) k (suc i) h =
     (λ c. let z = rw c at h in rw c (colon-none t k i (omega arith)))
 
 -- the first colon ends the first part
-pub colon-first : (t : List ℕ) (i : ℕ) → length (first_part colon t) < length t → colon_after 0 t i ≡ eqb i (length (first_part colon t))
+colon-first : (t : List ℕ) (i : ℕ) → length (first_part colon t) < length t → colon_after 0 t i ≡ eqb i (length (first_part colon t))
 unfolding colon_after colons_in first_part
 colon-first [] i h = absurd (omega arith)
 colon-first (b ∷ t) zero h =
@@ -100,7 +115,7 @@ colon-first (b ∷ t) (suc i) h =
     (λ c. let z = rw c at h in rw (c, eqb-suc-suc) (colon-first t i (omega arith)))
 
 -- one more colon before a place: it stands behind the first, and the rest has one fewer
-pub colon-next : (t : List ℕ) (k i : ℕ) → length (first_part colon t) < length t
+colon-next : (t : List ℕ) (k i : ℕ) → length (first_part colon t) < length t
     → colon_after (suc k) t i ≡ (ltb (length (first_part colon t)) i && colon_after k (drop (suc (length (first_part colon t))) t) (i - suc (length (first_part colon t))))
 unfolding colon_after colons_in first_part
 colon-next [] k i h = absurd (omega arith)
@@ -117,64 +132,87 @@ colon-next (b ∷ t) k (suc i) h =
 behind-place : (d e i n : ℕ) → n ≡ suc d + e → (ltb d i && eqb (i - suc d) e) ≡ eqb (suc i) (n + 1)
 behind-place d e i n s =
     by-test (ltb d i)
-    (λ l. rw l (by-test (eqb (i - suc d) e) (λ q. rw q (sym (found l q))) (λ q. rw q (sym (other l q)))))
+    (λ l. rw l (by-test (eqb (i - suc d) e) (λ q. rw q (sym (both l q))) (λ q. rw q (sym (other l q)))))
     (λ l. rw l (sym (ne_eqb (suc i) (n + 1) (λ r. omega (arith, ltb-false)))))
   where
-    found : ltb d i ≡ true → eqb (i - suc d) e ≡ true → eqb (suc i) (n + 1) ≡ true
-    found l q = eq-eqb (suc i) (n + 1) (omega (arith, ltb-true, eqb-true))
+    both : ltb d i ≡ true → eqb (i - suc d) e ≡ true → eqb (suc i) (n + 1) ≡ true
+    both l q = eq-eqb (suc i) (n + 1) (omega (arith, ltb-true, eqb-true))
 
     other : ltb d i ≡ true → eqb (i - suc d) e ≡ false → eqb (suc i) (n + 1) ≡ false
     other l q = ne_eqb (suc i) (n + 1) (λ r. eqb-false (i - suc d) e q (omega (arith, ltb-true)))
 
 -- not one colon
-pub behind-none : (t : List ℕ) → length (first_part colon t) ≡ length t → Behind t 0
-behind-none t h i = colon-none t 1 i h ∙ sym (eqb-suc-zero i)
+pub behind-none : (t : List ℕ) → position (λ b. eqb b colon) t ≡ None → Behind t None
+behind-none t h i = colon-none t 1 i (not-found colon t h)
 
--- a first colon at `first`, and the part behind it ends at `second`
-module _ (t : List ℕ) (first second : ℕ) (f : first ≡ length (first_part colon t)) (h : first < length t)
-    (s : second ≡ first + 1 + length (first_part colon (drop (first + 1) t))) where
-  -- with no second colon
-  pub behind-one : second ≡ length t → Behind t 0
-  behind-one z i =
-      let g = rw (f, add-one) at s in
+-- a first colon at `first`
+module _ (t : List ℕ) (first : ℕ) (f : position (λ b. eqb b colon) t ≡ Some first) where
+  -- what follows it, as the call that looks for the second is lent it
+  abbrev rest : List ℕ
+  rest = take (length t - (first + 1)) (drop (first + 1) t)
+
+  rest-is : rest ≡ drop (suc (length (first_part colon t))) t
+  rest-is =
+      let p = found colon t first f in
+      let e : first + 1 ≡ suc (length (first_part colon t)) = omega arith in
+      between_to_end t (first + 1) (length t) (omega arith) ∙ ap (λ (n : ℕ). drop n t) e
+
+  -- with no second
+  pub behind-one : position (λ b. eqb b colon) rest ≡ None → Behind t None
+  behind-one s i =
+      let p = found colon t first f in
       let d = length (first_part colon t) in
-      let n = colon-none (drop (suc d) t) 0 (i - suc d) (omega (arith, length-drop (suc d) t)) in
-      colon-next t 0 i (omega arith) ∙ rw n (and-false (ltb d i)) ∙ sym (eqb-suc-zero i)
+      let n = colon-none (drop (suc d) t) 0 (i - suc d) (not-found colon _ (rw rest-is at s)) in
+      colon-next t 0 i (omega arith) ∙ rw n (and-false (ltb d i))
 
-  -- with one
-  pub behind-two : second < length t → Behind t (second + 1)
-  behind-two z i =
-      let g = rw (f, add-one) at s in
+  -- with a second, `second` bytes behind it
+  pub behind-two : (second : ℕ) → position (λ b. eqb b colon) rest ≡ Some second → Behind t (Some (first + 1 + (second + 1)))
+  behind-two second s i =
+      let p = found colon t first f in
       let d = length (first_part colon t) in
-      let n = colon-first (drop (suc d) t) (i - suc d) (omega (arith, length-drop (suc d) t)) in
-      colon-next t 0 i (omega arith) ∙ rw n (behind-place d (length (first_part colon (drop (suc d) t))) i second g)
+      let q = found colon (drop (suc d) t) second (rw rest-is at s) in
+      let n = colon-first (drop (suc d) t) (i - suc d) (omega arith) in
+      let e : first + 1 + (second + 1) ≡ (suc d + second) + 1 = omega arith in
+      colon-next t 0 i (omega arith) ∙ rw (n, e) (behind-place d (length (first_part colon (drop (suc d) t))) i (suc d + second) (omega arith))
 
--- no property begins with the text
-pub begins-none : (t : List ℕ) (at : ℕ) → at ≡ 0 → begins t at ≡ false
-unfolding begins
-begins-none t zero e = refl
-begins-none t (suc i) e = absurd (omega arith)
+-- ---- where a property begins
 
--- one begins behind the second colon
-pub begins-start : (t : List ℕ) (at start : ℕ) → Behind t start → (at ≡ 0 → ⊥) → at ≡ start → begins t at ≡ true
+module _ (t : List ℕ) (at : ℕ) (start : Option ℕ) where
+  pub begins-none : at ≤ 0 → begins t at ≡ false
+  unfolding begins
+  begins-none h = let e : at ≡ 0 = omega arith in rw e
+
+-- behind the second colon
+pub begins-start : (t : List ℕ) (at : ℕ) (start : Option ℕ) → Behind t start → 0 < at → option_eq eqb start (Some at) ≡ true → begins t at ≡ true
 unfolding begins
-begins-start t zero start b n e = absurd (n refl)
-begins-start t (suc i) start b n e = rw (b i, eq-eqb (suc i) start e) (or-true (eqb (get_or t i 0) semicolon))
+begins-start t zero start b h e = absurd (omega arith)
+begins-start t (suc i) None b h e = cc
+begins-start t (suc i) (Some s) b h e = rw (b i, eqb-true s (suc i) e, eq-eqb (suc i) (suc i) refl) (or-true (eqb (get_or t i 0) semicolon))
+  where
+    or-true : (t : Bool) → (t || true) ≡ true
+    or-true true = refl
+    or-true false = refl
+
+or-false : (t : Bool) → t ≡ (t || false)
+or-false true = refl
+or-false false = refl
 
 -- and elsewhere behind a semicolon
-pub begins-other : (t : List ℕ) (at start : ℕ) → Behind t start → (at ≡ 0 → ⊥) → (at ≡ start → ⊥)
-    → begins t at ≡ eqb (get_or t (at - 1) 0) semicolon
+pub begins-other : (t : List ℕ) (at : ℕ) (start : Option ℕ) → Behind t start → 0 < at → option_eq eqb start (Some at) ≡ false
+    → eqb (get_or t (at - 1) 0) semicolon ≡ begins t at
 unfolding begins
-begins-other t zero start b n e = absurd (n refl)
-begins-other t (suc i) start b n e =
+begins-other t zero start b h e = absurd (omega arith)
+begins-other t (suc i) None b h e = let m : suc i - 1 ≡ i = omega arith in rw (b i, m) (or-false (eqb (get_or t i 0) semicolon))
+begins-other t (suc i) (Some s) b h e =
     let m : suc i - 1 ≡ i = omega arith in
-    rw (b i, ne_eqb (suc i) start e, m) (or-false (eqb (get_or t i 0) semicolon))
+    rw (b i, ne_eqb (suc i) s (λ q. eqb-false s (suc i) e (sym q)), m) (or-false (eqb (get_or t i 0) semicolon))
+
+-- ---- the name
 
 -- where a property begins the name is compared
-pub named-beginning : (t : List ℕ) (at : ℕ) → begins t at ≡ true
-    → named t at ≡ same_bytes (take (at + 9 - at) (drop at t)) features_name
+pub named-beginning : (t : List ℕ) (at : ℕ) → begins t at ≡ true → bytes_eq features_name (take 9 (drop at t)) ≡ named t at
 unfolding named
-named-beginning t at b = let e : at + 9 - at ≡ 9 = omega arith in rw (b, e)
+named-beginning t at b = rw b (same-sym features_name (take 9 (drop at t)))
 
 -- elsewhere it does not count
 pub named-inside : (t : List ℕ) (at : ℕ) → begins t at ≡ false → named t at ≡ false
@@ -188,118 +226,57 @@ named-short t at h =
     let n : length (take 9 (drop at t)) ≡ length features_name → ⊥ = λ e. omega (arith, length-take 9 (drop at t), length-drop at t) in
     rw (same_length (take 9 (drop at t)) features_name n) (and-false (begins t at))
 
--- nor do the places before a text's end
-pub after-short : (t : List ℕ) (at n : ℕ) → n < 9 → length t ≤ at + n → after_name t at n ≡ none
+named-long : (t : List ℕ) (at : ℕ) → named t at ≡ true → at + 9 ≤ length t
+named-long t at h = by-test (ltb (length t) (at + 9)) (λ l. absurd (let e = named-short t at (ltb-true _ _ l) in cc)) (λ l. ltb-false _ _ l)
+
+-- the name stands at none of `n` places
+after-none : (t : List ℕ) (at n : ℕ) → ((k : ℕ) → at ≤ k → k < at + n → named t k ≡ false) → after_name t at n ≡ None
 unfolding after_name
-after-short t at zero h k = refl
-after-short t at (suc n) h k = rw (named-short t at (omega arith)) (after-short t (suc at) n (omega arith) (omega arith))
+after-none t at zero h = refl
+after-none t at (suc n) h = rw (h at (omega arith) (omega arith)) (after-none t (suc at) n (λ k a b. h k (omega arith) (omega arith)))
 
--- the name stands at the first of `n` places
-pub after-found : (t : List ℕ) (at n : ℕ) → 0 < n → named t at ≡ true → after_name t at n ≡ some (drop (at + 9) t)
+-- it stands at one of them, and at none before
+after-found : (t : List ℕ) (at n i : ℕ) → at ≤ i → i < at + n → named t i ≡ true → ((k : ℕ) → at ≤ k → k < i → named t k ≡ false)
+    → after_name t at n ≡ Some (drop (i + 9) t)
 unfolding after_name
-after-found t at zero h e = absurd (omega arith)
-after-found t at (suc n) h e = rw e
+after-found t at zero i h k e f = absurd (omega arith)
+after-found t at (suc n) i h k e f =
+    by-test (eqb at i)
+    (λ q. let same : at ≡ i = eqb-true at i q in rw (same, e))
+    (λ q. let below : at < i = omega (arith, eqb-false at i q) in
+    rw (f at (omega arith) below) (after-found t (suc at) n i (omega arith) (omega arith) e (λ j a b. f j (omega arith) b)))
 
--- it does not
-pub after-step : (t : List ℕ) (at n : ℕ) → 0 < n → named t at ≡ false → after_name t at n ≡ after_name t (suc at) (n - 1)
-unfolding after_name
-after-step t at zero h e = absurd (omega arith)
-after-step t at (suc n) h e = let m : suc n - 1 ≡ n = omega arith in rw (e, m)
+-- what std's `find` answers, over every place
+pub first-named : (t : List ℕ) (r : Option ℕ)
+    → MatchOption r ((k : ℕ) → 0 ≤ k → k < length t → named t k ≡ false)
+    (λ i. (0 ≤ i) × (i < length t) × (named t i ≡ true) × ((k : ℕ) → 0 ≤ k → k < i → named t k ≡ false))
+    → IfSome r (λ i. i + 9 ≤ length t) × (option_map (λ i. drop (i + 9) t) r ≡ after_name t 0 (length t))
+first-named t None h = (tt, sym (after-none t 0 (length t) (λ k a b. h k a (omega arith))))
+first-named t (Some i) h = (named-long t i h.2, sym (after-found t 0 (length t) i h.0 (omega arith) h.2 h.3))
 
-module _ (cut : ℕ) (l : List ℕ) (i : ℕ) where
-  -- a part ends at a cut
-  pub part_cut : i < length l → get_or l i 0 ≡ cut → length (first_part cut (drop i l)) ≡ 0
-  unfolding first_part
-  part_cut h e = rw (drop-cons l i 0, eq-eqb (get_or l i 0) cut e)
+-- ---- the parts of a list
 
-  -- and goes on at any other byte
-  pub part_step : i < length l → (get_or l i 0 ≡ cut → ⊥) → length (first_part cut (drop i l)) ≡ suc (length (first_part cut (drop (i + 1) l)))
-  unfolding first_part
-  part_step h e = rw (add-one, drop-cons l i 0, ne_eqb (get_or l i 0) cut e)
+parts-is : (l : List ℕ) → parts_of l ≡ slice_split (λ b. eqb b comma) l
+unfolding parts_of on_first
+parts-is [] = refl
+parts-is (b ∷ t) = rw (parts-is t) (ap (λ (x : List (List ℕ)). cond (eqb b comma) ([] ∷ slice_split (λ b. eqb b comma) t) x) (onto b (slice_split (λ b. eqb b comma) t)))
+  where
+    onto : (b : ℕ) (ps : List (List ℕ)) → on_first b ps ≡ onto_first b ps
+    onto b [] = refl
+    onto b (p ∷ ps) = refl
 
-  -- a part ends with the text
-  pub part-stop : length l ≤ i → length (first_part cut (drop i l)) ≡ 0
-  unfolding first_part
-  part-stop h = rw (drop_of_length-le l h)
-
--- a first part is no longer than the text
-pub part-fits : (cut : ℕ) (l : List ℕ) → length (first_part cut l) ≤ length l
-unfolding first_part
-part-fits cut [] = omega arith
-part-fits cut (b ∷ t) = let r = part-fits cut t in by-test (eqb b cut) (λ t. rw t (omega arith)) (λ t. rw t (omega arith))
-
--- a first part is the text up to its length
-pub part-take : (cut : ℕ) (l : List ℕ) → take (length (first_part cut l)) l ≡ first_part cut l
-unfolding first_part
-part-take cut [] = refl
-part-take cut (b ∷ t) = by-test (eqb b cut) (λ c. rw c) (λ c. rw c (ap (λ (x : List ℕ). b ∷ x) (part-take cut t)))
-
--- no cut: one part
-pub parts-one : (l : List ℕ) → length (first_part comma l) ≡ length l → parts_of l ≡ first_part comma l ∷ []
-unfolding first_part parts_of on_first
-parts-one [] h = refl
-parts-one (b ∷ t) h =
-    by-test (eqb b comma)
-    (λ c. absurd (let z = rw c at h in omega arith))
-    (λ c. let z = rw c at h in rw (c, parts-one t (omega arith)))
-
--- a cut: the first part, and the parts of what is behind the cut
-pub parts_more : (l : List ℕ) → length (first_part comma l) < length l
-    → parts_of l ≡ first_part comma l ∷ parts_of (drop (suc (length (first_part comma l))) l)
-unfolding first_part parts_of on_first
-parts_more [] h = absurd (omega arith)
-parts_more (b ∷ t) h =
-    by-test (eqb b comma)
-    (λ c. rw c)
-    (λ c. let z = rw c at h in rw (c, parts_more t (omega arith)))
-
--- the first part equals the name
-pub any-first : (l name : List ℕ) → same_bytes (first_part comma l) name ≡ true → any_same (parts_of l) name ≡ true
+any-is : (ps : List (List ℕ)) (name : List ℕ) → any_same ps name ≡ list_any (λ p. bytes_eq p name) ps
 unfolding any_same
-any-first l name s =
-    by-test (eqb (length (first_part comma l)) (length l))
-    (λ t. rw (parts-one l (eqb-true (length (first_part comma l)) (length l) t), s))
-    (λ t. rw (parts_more l (omega (arith, eqb-false (length (first_part comma l)) (length l) t, part-fits comma l)), s))
+any-is [] name = refl
+any-is (p ∷ ps) name = rw (same-is p name, any-is ps name)
 
--- the part of `l` from `at` to `end` is a first part
-module _ (cut : ℕ) (l : List ℕ) (at end : ℕ) (h : at ≤ length l) (e : end ≡ at + length (first_part cut (drop at l))) where
-  -- it ends within `l`
-  pub end_fits : end ≤ length l
-  end_fits = omega (arith, part-fits cut (drop at l), length-drop at l)
+-- what std's `split` and `any` answer
+pub any-part : (l name : List ℕ) → list_any (λ p. bytes_eq p name) (slice_split (λ b. eqb b comma) l) ≡ any_same (parts_of l) name
+any-part l name = sym (rw (parts-is l) (any-is (slice_split (λ b. eqb b comma) l) name))
 
-  -- what a call that is lent this part sees
-  pub piece : take (end - at) (drop at l) ≡ first_part cut (drop at l)
-  piece = let n : end - at ≡ length (first_part cut (drop at l)) = omega arith in rw n (part-take cut (drop at l))
-
-module _ (l : List ℕ) (at end : ℕ) (h : at ≤ length l) (e : end ≡ at + length (first_part comma (drop at l))) where
-  -- it equals the name
-  pub any_found : (name : List ℕ) → same_bytes (take (end - at) (drop at l)) name ≡ true → any_same (parts_of (drop at l)) name ≡ true
-  any_found name s = any-first (drop at l) name (rw (piece comma l at end h e) at s)
-
-  -- it does not, and is the last
-  pub any_none : (name : List ℕ) → same_bytes (take (end - at) (drop at l)) name ≡ false → end ≡ length l → any_same (parts_of (drop at l)) name ≡ false
-  unfolding any_same
-  any_none name s z =
-      let f : length (first_part comma (drop at l)) ≡ length (drop at l) = omega (arith, length-drop at l) in
-      rw (parts-one (drop at l) f, rw (piece comma l at end h e) at s)
-
-  -- it does not, and others follow
-  pub any-more : (name : List ℕ) → same_bytes (take (end - at) (drop at l)) name ≡ false → (end ≡ length l → ⊥)
-      → any_same (parts_of (drop at l)) name ≡ any_same (parts_of (drop (end + 1) l)) name
-  unfolding any_same
-  any-more name s z =
-      let f : length (first_part comma (drop at l)) < length (drop at l) = omega (arith, end_fits comma l at end h e, length-drop at l) in
-      let n : at + suc (length (first_part comma (drop at l))) ≡ end + 1 = omega arith in
-      rw (parts_more (drop at l) f, rw (piece comma l at end h e) at s, drop-drop, n)
-
--- a feature is looked for in the parts of what follows the name, up to the next semicolon
-pub feature-found : (l name : List ℕ) (at end : ℕ) → at ≤ length l → after_name l 0 (length l) ≡ some (drop at l)
-    → end ≡ at + length (first_part semicolon (drop at l))
-    → has_feature l name ≡ any_same (parts_of (take (end - at) (drop at l))) name
+-- what std's `is_some_and` answers, where what it calls says of a list whether it has the name
+pub feature-is : (t name : List ℕ) (list : Option (Bor (List ℕ))) (r : Bool) {Q : Bor (List ℕ) → Type 0} → option_copied list ≡ after_name t 0 (length t)
+    → MatchOption list (r ≡ false) Q → ((rest : Bor (List ℕ)) → Q rest → r ≡ any_same (parts_of (first_part semicolon rest.now)) name) → r ≡ has_feature t name
 unfolding has_feature listed
-feature-found l name at end h e s = rw (e, piece semicolon l at end h s)
-
--- no name, no feature
-pub feature-none : (l name : List ℕ) → after_name l 0 (length l) ≡ none → has_feature l name ≡ false
-unfolding has_feature listed
-feature-none l name e = rw e
+feature-is t name None r e h f = rw (← e, h)
+feature-is t name (Some rest) r e h f = rw (← e, f rest h)

@@ -1,14 +1,13 @@
 -- On which texts, with which names, libadb's reading of a feature list and ours differ. Nothing else cites libadb's here.
 -- Assumes nothing.
-use Rattle.std.specs.Prelude.{ℕ, Bool, false, cond, ◌||◌, List, [], ◌∷◌, eqb, take, drop}
+use Rattle.std.specs.Prelude.{ℕ, Bool, false, cond, ◌||◌, List, [], ◌∷◌, Option, Some, None, eqb, take, drop}
 use Rattle.std.specs.Bool.{xor}
-use Rattle.std.proofs.Math.Option.{Option, none, some}
 use Rattle.features.specs.Features.{comma, semicolon, features_name, same_bytes, on_first, any_same, has_feature}
 
 -- what follows the first "features=" anywhere in a text
 unfoldable pub after_first : List ℕ → Option (List ℕ)
-after_first [] = none
-after_first (b ∷ t) = cond (same_bytes (take 9 (b ∷ t)) features_name) (some (drop 9 (b ∷ t))) (after_first t)
+after_first [] = None
+after_first (b ∷ t) = cond (same_bytes (take 9 (b ∷ t)) features_name) (Some (drop 9 (b ∷ t))) (after_first t)
 
 -- a text, cut at every comma and semicolon
 unfoldable pub pieces_of : List ℕ → List (List ℕ)
@@ -17,8 +16,8 @@ pieces_of (b ∷ t) = cond (eqb b comma || eqb b semicolon) ([] ∷ pieces_of t)
 
 -- one piece of such a rest equals the name; no rest has none
 unfoldable pub among_pieces : Option (List ℕ) → List ℕ → Bool
-among_pieces none name = false
-among_pieces (some rest) name = any_same (pieces_of rest) name
+among_pieces None name = false
+among_pieces (Some rest) name = any_same (pieces_of rest) name
 
 -- libadb's reading (its has_feature, features.rs)
 unfoldable pub first_reading : List ℕ → List ℕ → Bool

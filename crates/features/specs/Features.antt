@@ -1,9 +1,6 @@
 -- Whether an identity text lists a feature (docs/SCOPE.md, 2): the text has properties between semicolons, `features` is one
 -- of them, commas cut its list, and one part equals the name. Assumes nothing.
-use Rattle.std.specs.Prelude.{ℕ, zero, suc, ◌+◌, ◌≤◌, ◌≡◌, Bool, true, false, cond, ◌&&◌, ◌||◌, List, [], ◌∷◌, eqb, length, take, drop, get_or}
-use Rattle.std.proofs.Math.Option.{Option, none, some}
-use Rattle.features.specs.declared.ListStart.{ListStart}
-use Rattle.features.specs.declared.ListStart.TheVariants.{From, Nowhere}
+use Rattle.std.specs.Prelude.{ℕ, zero, suc, ◌+◌, ◌≡◌, Bool, true, false, cond, ◌&&◌, ◌||◌, List, [], ◌∷◌, Option, Some, None, eqb, length, take, drop, get_or}
 
 -- the byte ","
 abbrev pub comma : ℕ
@@ -48,8 +45,8 @@ named text i = begins text i && same_bytes (take 9 (drop i text)) features_name
 
 -- what follows "features=" at the first of `n` places, from `i` on, at which that property begins
 unfoldable pub after_name : List ℕ → ℕ → ℕ → Option (List ℕ)
-after_name text i zero = none
-after_name text i (suc n) = cond (named text i) (some (drop (i + 9) text)) (after_name text (suc i) n)
+after_name text i zero = None
+after_name text i (suc n) = cond (named text i) (Some (drop (i + 9) text)) (after_name text (suc i) n)
 
 -- a text up to its first `cut`
 unfoldable pub first_part : ℕ → List ℕ → List ℕ
@@ -73,18 +70,14 @@ any_same (p ∷ ps) name = same_bytes p name || any_same ps name
 
 -- one part of the list, which ends at the next semicolon, equals the name; no list has none
 unfoldable pub listed : Option (List ℕ) → List ℕ → Bool
-listed none name = false
-listed (some rest) name = any_same (parts_of (first_part semicolon rest)) name
+listed None name = false
+listed (Some rest) name = any_same (parts_of (first_part semicolon rest)) name
 
 -- an identity text lists a feature
 unfoldable pub has_feature : List ℕ → List ℕ → Bool
 has_feature text name = listed (after_name text 0 (length text)) name
 
--- the place behind the second colon, or 0 where there are not two
-abbrev pub Behind : List ℕ → ℕ → Type 0
-Behind text at = (i : ℕ) → colon_after 1 text i ≡ eqb (suc i) at
-
--- the place at which the list begins is the right one
-abbrev pub Finds : List ℕ → ListStart → Type 0
-Finds text (From at) = (at ≤ length text) × (after_name text 0 (length text) ≡ some (drop at text))
-Finds text Nowhere = after_name text 0 (length text) ≡ none
+-- the place behind the second colon
+abbrev pub Behind : List ℕ → Option ℕ → Type 0
+Behind text (Some at) = (i : ℕ) → colon_after 1 text i ≡ eqb (suc i) at
+Behind text None = (i : ℕ) → colon_after 1 text i ≡ false

@@ -1,134 +1,83 @@
 // The feature list of a CNXN's identity text.
 #![tactic(auto)]
 
-ghost use Rattle.std.specs.Prelude.{◌≡◌, ◌+◌, ◌≤◌, length, drop};
-ghost use Rattle.features.specs.Features.{same_bytes, Behind, begins, named, Finds, first_part, any_same, parts_of, has_feature};
+ghost use Rattle.std.specs.Prelude.{◌≡◌, ◌+◌, ◌≤◌, ◌==◌, length, drop, option_map, option_copied, IfSome};
+ghost use Rattle.std.specs.List.{position};
+ghost use Rattle.features.specs.Features.{Behind, begins, named, after_name, first_part, any_same, parts_of, has_feature};
 
-// Where the list begins in the text.
-#[derive(Clone, Copy)]
-enum ListStart {
-    From(usize),
-    Nowhere,
-}
+const NAME: &[u8] = b"features=";
 
-// Whether two slices hold the same bytes.
-fn same(a: &[u8], b: &[u8]) -> bool
-    ensures { result ≡ same_bytes a.now b.now }
+// The first place of a byte.
+fn place_of(text: &[u8], byte: u8) -> Option<usize>
+    ensures { result ≡ position (λ b. b == byte) text.now }
 {
-    if a.len() != b.len() {
-        return false;
-    }
-    let mut i = 0;
-    while i < a.len() {
-        if a[i] != b[i] {
-            return false;
-        }
-        i += 1;
-    }
-    true
+    text.iter().position(|b| *b == byte)
 }
 
-// Where the part that begins at `at` ends: at the next `cut`, or with the text.
-fn part_end(text: &[u8], at: usize, cut: u8) -> usize
-    requires { at ≤ length text.now }
-    ensures { result ≡ at + length (first_part cut (drop at text.now)) }
+// The text up to its first `cut`, or all of it.
+fn first_part(text: &[u8], cut: u8) -> &[u8]
+    ensures { result.now ≡ first_part cut text.now }
 {
-    let mut i = at;
-    while i < text.len() {
-        if text[i] == cut {
-            return i;
-        }
-        i += 1;
+    match place_of(text, cut) {
+        Some(end) => &text[..end],
+        None => text,
     }
-    i
 }
 
-// The place behind the second colon, or 0 where there are not two.
-fn after_colons(banner: &[u8]) -> usize
+// The place behind the second colon.
+fn after_colons(banner: &[u8]) -> Option<usize>
     ensures { Behind banner.now result }
 {
-    let first = part_end(banner, 0, b':');
-    if first == banner.len() {
-        return 0;
-    }
-    let second = part_end(banner, first + 1, b':');
-    if second == banner.len() {
-        return 0;
-    }
-    second + 1
+    let first = place_of(banner, b':')? + 1;
+    let second = place_of(&banner[first..], b':')? + 1;
+    Some(first + second)
 }
 
 // Whether a property begins at `at`: behind a semicolon, or at `start`, behind the second colon.
-fn is_beginning(banner: &[u8], at: usize, start: usize) -> bool
+fn is_beginning(banner: &[u8], at: usize, start: Option<usize>) -> bool
     requires at_in_bounds { at ≤ length banner.now }
     requires behind { Behind banner.now start }
     ensures { result ≡ begins banner.now at }
 {
-    if at == 0 {
-        return false;
-    }
-    if at == start {
-        return true;
-    }
-    banner[at - 1] == b';'
+    at > 0 && (start == Some(at) || banner[at - 1] == b';')
 }
 
 // Whether the property `features` begins at `at`.
-fn is_named(banner: &[u8], at: usize, start: usize) -> bool
-    requires at_in_bounds { at + 9 ≤ length banner.now }
+fn is_named(banner: &[u8], at: usize, start: Option<usize>) -> bool
+    requires at_in_bounds { at ≤ length banner.now }
     requires behind { Behind banner.now start }
     ensures { result ≡ named banner.now at }
 {
-    if is_beginning(banner, at, start) {
-        let end = at + 9;
-        return same(&banner[at..end], b"features=");
-    }
-    false
+    is_beginning(banner, at, start) && banner[at..].starts_with(NAME)
 }
 
-// Past the name of the first property `features`. `left` bytes are left to look at; fewer than nine do not hold the name.
-fn find_list(banner: &[u8]) -> ListStart
-    ensures { Finds banner.now result }
+// The first place at which the property `features` begins.
+fn find_name(banner: &[u8]) -> Option<usize>
+    ensures in_bounds { IfSome result (λ at. at + 9 ≤ length banner.now) }
+    ensures list { option_map (λ at. drop (at + 9) banner.now) result ≡ after_name banner.now 0 (length banner.now) }
 {
     let start = after_colons(banner);
-    let mut left = banner.len();
-    while left > 8 {
-        let at = banner.len() - left;
-        if is_named(banner, at, start) {
-            let end = at + 9;
-            return ListStart::From(end);
-        }
-        left -= 1;
-    }
-    ListStart::Nowhere
+    (0..banner.len()).find(|at| is_named(banner, *at, start))
+}
+
+// What follows the name of the first property `features`.
+fn find_list(banner: &[u8]) -> Option<&[u8]>
+    ensures { option_copied result ≡ after_name banner.now 0 (length banner.now) }
+{
+    let at = find_name(banner)?;
+    Some(&banner[at + NAME.len()..])
 }
 
 // Whether one part of the list equals the name.
 fn any_part(list: &[u8], name: &[u8]) -> bool
     ensures { result ≡ any_same (parts_of list.now) name.now }
 {
-    let mut at = 0;
-    loop {
-        let end = part_end(list, at, b',');
-        if same(&list[at..end], name) {
-            return true;
-        }
-        if end == list.len() {
-            return false;
-        }
-        at = end + 1;
-    }
+    list.split(|b| *b == b',').any(|part| part == name)
 }
 
 // Whether an identity text lists a feature.
 pub fn has_feature(banner: &[u8], feature: &[u8]) -> bool
     ensures { result ≡ has_feature banner.now feature.now }
 {
-    match find_list(banner) {
-        ListStart::From(at) => {
-            let end = part_end(banner, at, b';');
-            any_part(&banner[at..end], feature)
-        }
-        ListStart::Nowhere => false,
-    }
+    find_list(banner).is_some_and(|rest| any_part(first_part(rest, b';'), feature))
 }

@@ -13,11 +13,7 @@ use borrow.Author.Tests.{ltb-false, le-ltb}
 use Rattle.le.proofs.Parts.{by-test, part-front}
 use Rattle.checksum.specs.declared.Checksum.{Checksum}
 use Rattle.protocol.specs.declared.command.Command.{Command}
-use Rattle.protocol.specs.declared.command.CommandWord.{CommandWord}
-use Rattle.protocol.specs.declared.command.CommandWord.TheVariants.{Known, Invalid}
 use Rattle.protocol.specs.declared.message.Message.{Message}
-use Rattle.protocol.specs.declared.packet.Decoded.{Decoded}
-use Rattle.protocol.specs.declared.packet.Decoded.TheVariants.{Waiting, InvalidCommand, InvalidMagic, PayloadTooLarge, InvalidChecksum, Accepted}
 use Rattle.checksum.specs.Checksum.{check_for}
 use Rattle.protocol.specs.Command.{magic_of, command_of}
 use Rattle.protocol.specs.Message.{message_of}
@@ -28,6 +24,11 @@ use Rattle.protocol.proofs.RoundTrip.{frame-payload, not-refused, own-check}
 use Rattle.stream.specs.Stream.{message, refused, is_waiting, joined, read_all, begun, feed_all, Stable, more, Every, written, ReadsBack}
 use Rattle.stream.proofs.Cut.{cut, arrives, every}
 use Rattle.frame_stream.specs.Frames.{Got, answer_of, receives, bytes_for, Sendable}
+use Rattle.protocol.specs.declared.packet.DecodeError.TheVariants.{InvalidCommand, InvalidMagic, PayloadTooLarge, InvalidChecksum}
+use Rattle.protocol.specs.declared.packet.Packet.{Packet}
+use Rattle.protocol.specs.declared.packet.DecodeError.{DecodeError}
+use Rattle.std.specs.Prelude.{Option, Some, None, Result, Ok, Err}
+use Rattle.protocol.specs.declared.command.UnknownCommand.{UnknownCommand}
 
 -- what is used is here
 module _ (s : List ℕ) (limit : ℕ) where
@@ -44,10 +45,10 @@ module _ (s : List ℕ) (limit : ℕ) where
       (λ t. rw (t₁, t₂, t₃, t) (ltb-false (length s) (24 + m.data_length) t₃))
       (λ t. rw (t₁, t₂, t₃, t) (ltb-false (length s) (24 + m.data_length) t₃)))))
 
-  named-used : (m : Message) (w : CommandWord) → used_of (named_of s limit m w) ≤ length s
+  named-used : (m : Message) (w : Result Command UnknownCommand) → used_of (named_of s limit m w) ≤ length s
   unfolding named_of used_of
-  named-used m (Known c) = known-used c m
-  named-used m (Invalid word) = omega arith
+  named-used m (Ok c) = known-used c m
+  named-used m (Err unknown) = omega arith
 
   decode-used : used_of (decode_of s limit) ≤ length s
   unfolding decode_of used_of
@@ -85,10 +86,10 @@ module _ (l m : List ℕ) (limit : ℕ) where
       (λ t₃. let w = ltb-false (length l) (24 + n) t₃ in
       rw (t₁, t₂, t₃, le-ltb (length (l ++ m)) (24 + n) (omega arith), payload-front l m n w))))
 
-  named-stays : (h : Message) (w : CommandWord) → is_waiting (answer_of l (named_of l limit h w)) ≡ false → named_of (l ++ m) limit h w ≡ named_of l limit h w
+  named-stays : (h : Message) (w : Result Command UnknownCommand) → is_waiting (answer_of l (named_of l limit h w)) ≡ false → named_of (l ++ m) limit h w ≡ named_of l limit h w
   unfolding named_of
-  named-stays h (Known c) e = known-stays c h e
-  named-stays h (Invalid word) e = refl
+  named-stays h (Ok c) e = known-stays c h e
+  named-stays h (Err unknown) e = refl
 
   decode-stays : is_waiting (answer_of l (decode_of l limit)) ≡ false → decode_of (l ++ m) limit ≡ decode_of l limit
   unfolding decode_of answer_of is_waiting
@@ -99,33 +100,33 @@ module _ (l m : List ℕ) (limit : ℕ) where
       (λ t. let h = ltb-false (length l) 24 t in
       rw (le-ltb (length (l ++ m)) 24 (omega arith), t, message-front l m h) (named-stays (message_of l) (command_of (message_of l).command) (rw t at e)))
 
-  answer-stays : (d : Decoded) → used_of d ≤ length l → answer_of (l ++ m) d ≡ answer_of l d
+  answer-stays : (d : Result (Option Packet) DecodeError) → used_of d ≤ length l → answer_of (l ++ m) d ≡ answer_of l d
   unfolding answer_of used_of
-  answer-stays Waiting h = refl
-  answer-stays (InvalidCommand word) h = refl
-  answer-stays InvalidMagic h = refl
-  answer-stays PayloadTooLarge h = refl
-  answer-stays (InvalidChecksum used) h = refl
-  answer-stays (Accepted p) h = rw (payload-front l m p.data_length h)
+  answer-stays (Ok None) h = refl
+  answer-stays (Err (InvalidCommand word)) h = refl
+  answer-stays (Err InvalidMagic) h = refl
+  answer-stays (Err PayloadTooLarge) h = refl
+  answer-stays (Err (InvalidChecksum used)) h = refl
+  answer-stays (Ok (Some p)) h = rw (payload-front l m p.data_length h)
 
 -- what an answer of the stream's says that it uses
-used-by : (l : List ℕ) (g : Got) (n : ℕ) (d : Decoded) → answer_of l d ≡ message g n → (n ≡ used_of d) × (0 < n)
+used-by : (l : List ℕ) (g : Got) (n : ℕ) (d : Result (Option Packet) DecodeError) → answer_of l d ≡ message g n → (n ≡ used_of d) × (0 < n)
 unfolding answer_of used_of
-used-by l g n Waiting e = let z : ◌≡◌ {A = ℕ} 0 1 = cc in absurd (omega arith)
-used-by l g n (InvalidCommand word) e = let z : ◌≡◌ {A = ℕ} 0 1 = cc in absurd (omega arith)
-used-by l g n InvalidMagic e = let z : ◌≡◌ {A = ℕ} 0 1 = cc in absurd (omega arith)
-used-by l g n PayloadTooLarge e = let z : ◌≡◌ {A = ℕ} 0 1 = cc in absurd (omega arith)
-used-by l g n (InvalidChecksum used) e = let z : ◌≡◌ {A = ℕ} 0 1 = cc in absurd (omega arith)
-used-by l g n (Accepted p) e = let i : n ≡ 24 + p.data_length = cc in (i, omega arith)
+used-by l g n (Ok None) e = let z : ◌≡◌ {A = ℕ} 0 1 = cc in absurd (omega arith)
+used-by l g n (Err (InvalidCommand word)) e = let z : ◌≡◌ {A = ℕ} 0 1 = cc in absurd (omega arith)
+used-by l g n (Err InvalidMagic) e = let z : ◌≡◌ {A = ℕ} 0 1 = cc in absurd (omega arith)
+used-by l g n (Err PayloadTooLarge) e = let z : ◌≡◌ {A = ℕ} 0 1 = cc in absurd (omega arith)
+used-by l g n (Err (InvalidChecksum used)) e = let z : ◌≡◌ {A = ℕ} 0 1 = cc in absurd (omega arith)
+used-by l g n (Ok (Some p)) e = let i : n ≡ 24 + p.data_length = cc in (i, omega arith)
 
-used-refused : (l : List ℕ) (number n : ℕ) (d : Decoded) → answer_of l d ≡ refused number n → n ≡ used_of d
+used-refused : (l : List ℕ) (number n : ℕ) (d : Result (Option Packet) DecodeError) → answer_of l d ≡ refused number n → n ≡ used_of d
 unfolding answer_of
-used-refused l number n Waiting e = cc
-used-refused l number n (InvalidCommand word) e = cc
-used-refused l number n InvalidMagic e = cc
-used-refused l number n PayloadTooLarge e = cc
-used-refused l number n (InvalidChecksum used) e = cc
-used-refused l number n (Accepted p) e = cc
+used-refused l number n (Ok None) e = cc
+used-refused l number n (Err (InvalidCommand word)) e = cc
+used-refused l number n (Err InvalidMagic) e = cc
+used-refused l number n (Err PayloadTooLarge) e = cc
+used-refused l number n (Err (InvalidChecksum used)) e = cc
+used-refused l number n (Ok (Some p)) e = cc
 
 pub stable : (limit : ℕ) → Stable (receives limit)
 unfolding receives decode_of answer_of

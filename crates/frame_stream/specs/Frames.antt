@@ -2,10 +2,11 @@
 use Rattle.std.specs.Prelude.{ℕ, ◌≤◌, ◌<◌, ◌^◌, min, ◌≡◌, List, length}
 use Rattle.checksum.specs.declared.Checksum.{Checksum}
 use Rattle.protocol.specs.declared.packet.Packet.{Packet}
-use Rattle.protocol.specs.declared.packet.Decoded.{Decoded}
-use Rattle.protocol.specs.declared.packet.Decoded.TheVariants.{Waiting, InvalidCommand, InvalidMagic, PayloadTooLarge, InvalidChecksum, Accepted}
 use Rattle.protocol.specs.Packet.{payload_limit, payload_of, decode_of, decoded_number, used_of, frame_for}
 use Rattle.stream.specs.Stream.{Answer, waiting, message, refused}
+use Rattle.protocol.specs.declared.packet.DecodeError.TheVariants.{InvalidCommand, InvalidMagic, PayloadTooLarge, InvalidChecksum}
+use Rattle.protocol.specs.declared.packet.DecodeError.{DecodeError}
+use Rattle.std.specs.Prelude.{Option, Some, None, Result, Ok, Err}
 
 -- a frame with its payload
 pub record Got : Type 0 where
@@ -13,16 +14,16 @@ pub record Got : Type 0 where
   pub payload : List ℕ
 
 -- an answer that is no frame: a refusal's number, and the bytes that it uses
-abbrev pub refusal : Decoded → Answer Got
+abbrev pub refusal : Result (Option Packet) DecodeError → Answer Got
 refusal d = refused (decoded_number d) (used_of d)
 
-unfoldable pub answer_of : List ℕ → Decoded → Answer Got
-answer_of s Waiting = waiting
-answer_of s (InvalidCommand word) = refusal (InvalidCommand word)
-answer_of s InvalidMagic = refusal InvalidMagic
-answer_of s PayloadTooLarge = refusal PayloadTooLarge
-answer_of s (InvalidChecksum used) = refusal (InvalidChecksum used)
-answer_of s (Accepted p) = message (record { packet = p; payload = payload_of s p.data_length }) (used_of (Accepted p))
+unfoldable pub answer_of : List ℕ → Result (Option Packet) DecodeError → Answer Got
+answer_of s (Ok None) = waiting
+answer_of s (Err (InvalidCommand word)) = refusal (Err (InvalidCommand word))
+answer_of s (Err InvalidMagic) = refusal (Err InvalidMagic)
+answer_of s (Err PayloadTooLarge) = refusal (Err PayloadTooLarge)
+answer_of s (Err (InvalidChecksum used)) = refusal (Err (InvalidChecksum used))
+answer_of s (Ok (Some p)) = message (record { packet = p; payload = payload_of s p.data_length }) (used_of (Ok (Some p)))
 
 unfoldable pub receives : ℕ → List ℕ → Answer Got
 receives limit s = answer_of s (decode_of s limit)

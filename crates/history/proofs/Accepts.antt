@@ -17,8 +17,6 @@ use Rattle.slot.specs.Slot.{accepted_slot, opening_slot, is_closed}
 use Rattle.slot.proofs.Kept.{pick}
 use Rattle.state.specs.declared.Header.{Header}
 use Rattle.state.specs.Change.{changed_all}
-use Rattle.table.specs.declared.Allocated.{Allocated}
-use Rattle.table.specs.declared.Allocated.TheVariants.{Channel, NoFree}
 use Rattle.table.specs.declared.ChannelId.{ChannelId}
 use Rattle.table.specs.declared.Want.TheVariants.{Empty}
 use Rattle.table.specs.Table.{place_of, allocated, numbered}
@@ -35,11 +33,13 @@ use Rattle.history.proofs.Heard.{credit-back}
 use Rattle.history.proofs.Marks.{Tame}
 use Rattle.history.proofs.Opens.{refused-some}
 use Rattle.history.proofs.Places.{TableOk}
+use Rattle.table.specs.declared.NoFreeChannels.{NoFreeChannels}
+use Rattle.std.specs.Prelude.{Option, Some, None, Result, Ok, Err}
 
 -- a place that was allocated is one of the channels', and its number is the next
-abbrev Allotted : Header → Allocated → Type 0
-Allotted h (Channel ch) = (ch.slot < h.negotiated.config.channels) × (ch.local.0 ≡ h.next_local)
-Allotted h NoFree = Unit {0}
+abbrev Allotted : Header → Result ChannelId NoFreeChannels → Type 0
+Allotted h (Ok ch) = (ch.slot < h.negotiated.config.channels) × (ch.local.0 ≡ h.next_local)
+Allotted h (Err _) = Unit {0}
 
 allotted-by : (h : Header) (ss : List ChannelSlot) → Allotted h (allocated h ss)
 unfolding allocated
@@ -47,10 +47,10 @@ allotted-by h ss =
     let n = h.negotiated.config.channels in
     pick (Allotted h) (ltb (place_of Empty n ss) n) (λ t. (ltb-true (place_of Empty n ss) n t, refl)) (λ t. tt)
 
-pub allocated-below : (h : Header) (ss : List ChannelSlot) (ch : ChannelId) → allocated h ss ≡ Channel ch → ch.slot < h.negotiated.config.channels
+pub allocated-below : (h : Header) (ss : List ChannelSlot) (ch : ChannelId) → allocated h ss ≡ Ok ch → ch.slot < h.negotiated.config.channels
 allocated-below h ss ch e = (subst (Allotted h) e (allotted-by h ss)).0
 
-pub allocated-local : (h : Header) (ss : List ChannelSlot) (ch : ChannelId) → allocated h ss ≡ Channel ch → ch.local.0 ≡ h.next_local
+pub allocated-local : (h : Header) (ss : List ChannelSlot) (ch : ChannelId) → allocated h ss ≡ Ok ch → ch.local.0 ≡ h.next_local
 allocated-local h ss ch e = (subst (Allotted h) e (allotted-by h ss)).1
 
 -- the two numbers of a channel that is accepted
@@ -59,17 +59,17 @@ taken_ids ch remote = record { local = ch.local; remote = remote }
 
 -- a slot is filled, or none is
 pub data Accepts (l : Lent) : Outcome → Type 0 where
-  takes : (x : Outcome) (ch : ChannelId) (remote : RemoteId) (credit : ℕ) → allocated l.state.header l.state.slots ≡ Channel ch → x.answer ≡ Opened ch
+  takes : (x : Outcome) (ch : ChannelId) (remote : RemoteId) (credit : ℕ) → allocated l.state.header l.state.slots ≡ Ok ch → x.answer ≡ Opened ch
       → slots_by l.state.slots x.changes ≡ set l.state.slots ch.slot (accepted_slot (taken_ids ch remote) credit (policy l)) → x.rx ≡ l.rx
       → x.frames ≡ okay_frame (taken_ids ch remote) (offered_credit l.state.header.negotiated) ∷ []
       → (changed_all l.state x.changes).header ≡ numbered (dropped l.state.header) → Accepts l x
   declines : (x : Outcome) → eqb (answer_number x.answer) 0 ≡ false → Tame l.state.slots x.changes → slots_by l.state.slots x.changes ≡ l.state.slots → x.rx ≡ l.rx → Accepts l x
 
 module _ (l : Lent) (ok : TableOk (policy l) l.state.header.negotiated.config.channels l.state.slots l.rx) where
-  accepts-on : (remote : RemoteId) (credit : ℕ) (r : Allocated) → allocated l.state.header l.state.slots ≡ r → Accepts l (accept_on l (dropped l.state.header) remote credit r)
-  unfolding accept_on reject_on ends answer_number refusal_number
-  accepts-on remote credit NoFree e = declines _ refl tt refl refl
-  accepts-on remote credit (Channel ch) e = takes _ ch remote credit e refl refl refl refl refl
+  accepts-on : (remote : RemoteId) (credit : ℕ) (r : Result ChannelId NoFreeChannels) → allocated l.state.header l.state.slots ≡ r → Accepts l (accept_on l (dropped l.state.header) remote credit r)
+  unfolding accept_on reject_on ends answer_number
+  accepts-on remote credit (Err _) e = declines _ refl tt refl refl
+  accepts-on remote credit (Ok ch) e = takes _ ch remote credit e refl refl refl refl refl
 
   pub accepts : Accepts l (accept_step l)
   unfolding accept_step ends answer_number

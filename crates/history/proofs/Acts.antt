@@ -12,8 +12,6 @@ use Rattle.rx_store.proofs.ShareLaws.{share_in, length-buffered}
 use Rattle.le.proofs.Parts.{by-test}
 use Rattle.config.specs.declared.negotiated.RxPolicy.{RxPolicy}
 use Rattle.config.specs.Negotiated.{policy_of}
-use Rattle.incoming.specs.declared.Pushed.{Pushed}
-use Rattle.incoming.specs.declared.Pushed.TheVariants.{Queued, Full}
 use Rattle.incoming.specs.Incoming.{PushOutcome, pushed, withdrawal}
 use Rattle.protocol.specs.declared.command.Command.{Command}
 use Rattle.protocol.specs.declared.message.Message.{Message}
@@ -21,18 +19,8 @@ use Rattle.protocol.specs.declared.packet.Packet.{Packet}
 use Rattle.protocol.specs.Command.{is_close, is_write, is_the, word_of, letters_of}
 use Rattle.slot.specs.declared.ids.LocalId.{LocalId}
 use Rattle.slot.specs.declared.ids.RemoteId.{RemoteId}
-use Rattle.slot.specs.declared.AckDecision.{AckDecision}
-use Rattle.slot.specs.declared.AckDecision.TheVariants.{Now, Hold, Overflow, Early}
-use Rattle.slot.specs.declared.ChannelFault.TheVariants.{RxOverflow}
+use Rattle.slot.specs.declared.ChannelFault.TheVariants.{RxOverflow, UnexpectedCommand}
 use Rattle.slot.specs.declared.ChannelSlot.{ChannelSlot}
-use Rattle.credit.specs.declared.Credit.{Credit}
-use Rattle.credit.specs.declared.Credit.TheVariants.{Of, Bad as CreditBad}
-use Rattle.slot.specs.declared.Failed.{Failed}
-use Rattle.slot.specs.declared.Failed.TheVariants.{No, By}
-use Rattle.slot.specs.declared.PendingAck.{PendingAck}
-use Rattle.slot.specs.declared.PendingAck.TheVariants.{Len, Nothing}
-use Rattle.slot.specs.declared.Readied.{Readied}
-use Rattle.slot.specs.declared.Readied.TheVariants.{Slot, Bad}
 use Rattle.slot.specs.declared.Wrote.{Wrote}
 use Rattle.slot.specs.Slot.{is_opening, is_closed, buffered_with, is_failed, acks_now, wrote_of, ready_by, ready_of, closed_slot, held_of, SlotOk}
 use Rattle.credit.specs.Credit.{credit_of}
@@ -58,6 +46,9 @@ use Rattle.history.specs.Demand3.{run_of}
 use Rattle.history.proofs.Good.{Terms, Good, Limits, Leaves, carried, carried_none, refuse-good, accept-good, shut-good, ready-good}
 use Rattle.connection.proofs.Slots.{slots_by, slots-append}
 use Rattle.history.proofs.Places.{SameRun, ready-run, found-filled, room_for, Decides, buffers, overflows, is_taken, decides, TableOk, fault_of, At, apart, wrote, over, credited, shut, at-route}
+use Rattle.credit.specs.declared.CreditFault.{CreditFault}
+use Rattle.std.specs.Prelude.{ℤ, Option, Some, None, Result, Ok, Err}
+use Rattle.slot.specs.declared.ChannelFault.{ChannelFault as SlotFault}
 
 -- ---- the credit of frames
 
@@ -77,15 +68,15 @@ acks-append p l (open_frame local credit destination ∷ fs) ys = acks-append p 
 acks-append p l (write_frame ids bytes ∷ fs) ys = acks-append p l fs ys
 
 -- an acknowledgement of the channel's own, and of another
-pub acks-own : (p : RxPolicy) (l : ℕ) (s : ChannelSlot) (a : PendingAck) → s.local.0 ≡ l → acks_in p l (ack_frames s a) ≡ carried p a
+pub acks-own : (p : RxPolicy) (l : ℕ) (s : ChannelSlot) (a : Option ℕ) → s.local.0 ≡ l → acks_in p l (ack_frames s a) ≡ carried p a
 unfolding ack_frames carried ack_length
-acks-own p l s (Len n) e = let z = cond-true (eqb s.local.0 l) (cond p.delayed n 0) 0 (eq-eqb _ _ e) in omega arith
-acks-own p l s Nothing e = sym (carried_none p)
+acks-own p l s (Some n) e = let z = cond-true (eqb s.local.0 l) (cond p.delayed n 0) 0 (eq-eqb _ _ e) in omega arith
+acks-own p l s None e = sym (carried_none p)
 
-pub acks-other : (p : RxPolicy) (l : ℕ) (s : ChannelSlot) (a : PendingAck) → (s.local.0 ≡ l → ⊥) → acks_in p l (ack_frames s a) ≡ 0
+pub acks-other : (p : RxPolicy) (l : ℕ) (s : ChannelSlot) (a : Option ℕ) → (s.local.0 ≡ l → ⊥) → acks_in p l (ack_frames s a) ≡ 0
 unfolding ack_frames
-acks-other p l s (Len n) e = let z = cond-false (eqb s.local.0 l) (cond p.delayed n 0) 0 (ne_eqb _ _ e) in omega arith
-acks-other p l s Nothing e = refl
+acks-other p l s (Some n) e = let z = cond-false (eqb s.local.0 l) (cond p.delayed n 0) 0 (ne_eqb _ _ e) in omega arith
+acks-other p l s None e = refl
 
 -- ---- what is dispatched writes no credit
 
@@ -126,10 +117,10 @@ silent-close n ss remote local =
     pick SilentStep (eqb local.0 0) (λ t. silent-closed (remote_place n ss remote) n ss (CancelQueuedOpen remote) refl)
     (λ t. silent-closed (place_of (Local local) n ss) n ss Unmatched refl)
 
-silent-granted : (f : ℕ) (s : ChannelSlot) (remote : RemoteId) (r : Readied) → SilentStep (granted f s remote r)
+silent-granted : (f : ℕ) (s : ChannelSlot) (remote : RemoteId) (r : Result ChannelSlot CreditFault) → SilentStep (granted f s remote r)
 unfolding granted
-silent-granted f s remote (Slot t) = refl
-silent-granted f s remote (Bad b) = refl
+silent-granted f s remote (Ok t) = refl
+silent-granted f s remote (Err b) = refl
 
 silent-stray : (remote : RemoteId) (local : LocalId) → acks_for (stray_of remote local) ≡ 0
 unfolding stray_of
@@ -200,10 +191,10 @@ no-credit p t len s =
     by-test t (λ u. let z = cond-true t (cond p.delayed len 0) 0 u in omega arith) (λ u. let z = cond-false t (cond p.delayed len 0) 0 u in omega arith)
 
 module _ (p : RxPolicy) (ss : List ChannelSlot) (h : Header) (queue : List QueuedOpen) (payload store : List ℕ) (d : Dispatched) where
-  same-pushed : (remote : RemoteId) (o : PushOutcome) (r : Pushed) → NoSlot o.changes → No ≡ fault_of d.step.result → Same p ss d (pushed_by h store d remote o r)
+  same-pushed : (remote : RemoteId) (o : PushOutcome) (r : Option Header) → NoSlot o.changes → None ≡ fault_of d.step.result → Same p ss d (pushed_by h store d remote o r)
   unfolding pushed_by
-  same-pushed remote o (Queued more) e f = record { slots = more-changes ss d.step.changes o.changes e; rx = refl; fault = f; credit = λ l. refl }
-  same-pushed remote o Full e f = record { slots = refl; rx = refl; fault = f; credit = λ l. refl }
+  same-pushed remote o (Some more) e f = record { slots = more-changes ss d.step.changes o.changes e; rx = refl; fault = f; credit = λ l. refl }
+  same-pushed remote o None e f = record { slots = refl; rx = refl; fault = f; credit = λ l. refl }
 
   same_by : (o : DispatchOutcome) → o ≡ d.step.result → (p.delayed ≡ true → acks_for o ≡ 0) → Same p ss d (acted_by h queue payload store d o)
   unfolding acted_by
@@ -258,9 +249,9 @@ module _ (h : Header) (ss : List ChannelSlot) (queue : List QueuedOpen) (rx stor
     unfolding table_of dispatch_of
     acted-at =
         let d = table_of h ss rx k payload in
-        let A : List ChannelSlot → List ℕ → Failed → Type 0 =
+        let A : List ChannelSlot → List ℕ → Option SlotFault → Type 0 =
         λ ts r f. At pol (slot_in ss i) (run_of rx pol.rx_cap i (slot_in ss i)) payload (mine_of ss i k) (ends_of h.negotiated.config.channels ss i k) (slot_in ts i) (run_of r pol.rx_cap i (slot_in ts i)) f in
-        subst (λ (f : Failed). A (slots_by ss acted.changes) acted.rx f) (sym same.fault)
+        subst (λ (f : Option SlotFault). A (slots_by ss acted.changes) acted.rx f) (sym same.fault)
         (subst (λ (r : List ℕ). A (slots_by ss acted.changes) r (fault_of d.step.result)) (sym same.rx)
         (subst (λ (ts : List ChannelSlot). A ts d.rx (fault_of d.step.result)) (sym same.slots)
         (at-route pol h.negotiated.config.channels ss rx ok i there payload k.command k.arg0 k.arg1)))
@@ -268,9 +259,9 @@ module _ (h : Header) (ss : List ChannelSlot) (queue : List QueuedOpen) (rx stor
 -- ---- a CLSE is no fault
 
 abbrev Faultless : Step DispatchOutcome → Type 0
-Faultless x = fault_of x.result ≡ No
+Faultless x = fault_of x.result ≡ None
 
-faultless-closed : (f n : ℕ) (ss : List ChannelSlot) (other : DispatchOutcome) → fault_of other ≡ No → Faultless (closed_at f n ss other)
+faultless-closed : (f n : ℕ) (ss : List ChannelSlot) (other : DispatchOutcome) → fault_of other ≡ None → Faultless (closed_at f n ss other)
 unfolding closed_at
 faultless-closed f n ss other e = pick Faultless (ltb f n) (λ t. refl) (λ t. e)
 
@@ -282,7 +273,7 @@ faultless-route p n ss c a l payload rx =
     (λ t. faultless-closed (place_of (Local (record { 0 = l })) n ss) n ss Unmatched refl))
     (λ e. absurd (true≢false (sym e))) (λ e. absurd (true≢false (sym e))) c
 
-pub close-fault : (h : Header) (ss : List ChannelSlot) (queue : List QueuedOpen) (rx store : List ℕ) (k : Packet) (payload : List ℕ) → is_close k.command ≡ true → (act_on h ss queue rx store k payload).fault ≡ No
+pub close-fault : (h : Header) (ss : List ChannelSlot) (queue : List QueuedOpen) (rx store : List ℕ) (k : Packet) (payload : List ℕ) → is_close k.command ≡ true → (act_on h ss queue rx store k payload).fault ≡ None
 unfolding table_of dispatch_of
 close-fault h ss queue rx store k payload e =
     (same h ss queue rx store k payload).fault ∙ faultless-route (policy_of h.negotiated) h.negotiated.config.channels ss k.command k.arg0 k.arg1 payload rx e
@@ -290,17 +281,16 @@ close-fault h ss queue rx store k payload e =
 -- ---- the receive store keeps its length
 
 module _ (p : RxPolicy) (n : ℕ) (ss : List ChannelSlot) (rx : List ℕ) (ok : TableOk p n ss rx) (payload : List ℕ) where
-  wrote-length : (f : ℕ) (remote : RemoteId) (t : ChannelSlot) (d : AckDecision) → f < n → SlotOk (slot_in ss f) p.rx_cap → Decides (slot_in ss f) p (length payload) d
+  wrote-length : (f : ℕ) (remote : RemoteId) (t : ChannelSlot) (d : Result (Option ℕ) SlotFault) → f < n → SlotOk (slot_in ss f) p.rx_cap → Decides (slot_in ss f) p (length payload) d
       → length (wrote_by p f (slot_in ss f) remote payload rx t d).rx ≡ length rx
   unfolding wrote_by
-  wrote-length f remote t (Now len) h sound (buffers e k) =
+  wrote-length f remote t (Ok (Some len)) h sound (buffers e k) =
       length-buffered rx p.rx_cap f (slot_in ss f).head (slot_in ss f).buffered payload (share_in f n (2 * p.rx_cap) (length rx) h ok.shares) (room_for (slot_in ss f) p (length payload) sound k)
-  wrote-length f remote t Hold h sound (buffers e k) =
+  wrote-length f remote t (Ok None) h sound (buffers e k) =
       length-buffered rx p.rx_cap f (slot_in ss f).head (slot_in ss f).buffered payload (share_in f n (2 * p.rx_cap) (length rx) h ok.shares) (room_for (slot_in ss f) p (length payload) sound k)
-  wrote-length f remote t (Now len) h sound (overflows e k) = absurd (true≢false (ap is_taken e))
-  wrote-length f remote t Hold h sound (overflows e k) = absurd (true≢false (ap is_taken e))
-  wrote-length f remote t Overflow h sound x = refl
-  wrote-length f remote t Early h sound x = refl
+  wrote-length f remote t (Ok (Some len)) h sound (overflows e k) = absurd (true≢false (ap is_taken e))
+  wrote-length f remote t (Ok None) h sound (overflows e k) = absurd (true≢false (ap is_taken e))
+  wrote-length f remote t (Err why) h sound x = refl
 
   write-length : (remote : RemoteId) (local : LocalId) → length (write_of p n ss remote local payload rx).rx ≡ length rx
   unfolding write_of wrote_at
@@ -329,24 +319,24 @@ module _ (h : Header) (ss : List ChannelSlot) (queue : List QueuedOpen) (rx stor
 
 module _ (p : RxPolicy) (s : ChannelSlot) (q payload : List ℕ) (sound : SlotOk s p.rx_cap) where
   -- its numbers within its share
-  pub at-sound : (mine ends : Bool) (t : ChannelSlot) (r : List ℕ) (fault : Failed) → At p s q payload mine ends t r fault → SlotOk t p.rx_cap
+  pub at-sound : (mine ends : Bool) (t : ChannelSlot) (r : List ℕ) (fault : Option SlotFault) → At p s q payload mine ends t r fault → SlotOk t p.rx_cap
   at-sound mine ends t r fault (apart e1 e2 e3 e4) = subst (λ (x : ChannelSlot). SlotOk x p.rx_cap) (sym e3) sound
   at-sound mine ends t r fault (wrote e1 h e3 e4 e5) = subst (λ (x : ChannelSlot). SlotOk x p.rx_cap) (sym e3) (wrote-sound s p (length payload) sound)
   at-sound mine ends t r fault (over e1 h e3 e4 e5) = subst (λ (x : ChannelSlot). SlotOk x p.rx_cap) (sym e3) sound
   at-sound mine ends t r fault (credited e1 e2 e3 e4) = subst (ReadiedSound p.rx_cap) e3 (ready-sound s payload p p.rx_cap sound)
   at-sound mine ends t r fault (shut e1 e2 e3 e4) = subst (λ (x : ChannelSlot). SlotOk x p.rx_cap) (sym e3) (closed-sound s p.rx_cap sound)
 
-ready-live-by : (s : ChannelSlot) (c : Credit) → is_closed s.state ≡ false → Leaves (λ (x : ChannelSlot). is_closed x.state ≡ false) (ready_by s c)
+ready-live-by : (s : ChannelSlot) (c : Result ℤ CreditFault) → is_closed s.state ≡ false → Leaves (λ (x : ChannelSlot). is_closed x.state ≡ false) (ready_by s c)
 unfolding ready_by
-ready-live-by s (Of z) h = h
-ready-live-by s (CreditBad b) h = tt
+ready-live-by s (Ok z) h = h
+ready-live-by s (Err b) h = tt
 
 ready-live : (s : ChannelSlot) (payload : List ℕ) (p : RxPolicy) → is_closed s.state ≡ false → Leaves (λ (x : ChannelSlot). is_closed x.state ≡ false) (ready_of s payload p)
 unfolding ready_of
 ready-live s payload p h = pick (Leaves (λ (x : ChannelSlot). is_closed x.state ≡ false)) p.delayed (λ d. ready-live-by s (credit_of payload) h) (λ d. h)
 
 -- its numbers as a channel stay
-pub at_named : (p : RxPolicy) (s : ChannelSlot) (q payload : List ℕ) (mine ends : Bool) (t : ChannelSlot) (r : List ℕ) (fault : Failed) → At p s q payload mine ends t r fault → Stays s t
+pub at_named : (p : RxPolicy) (s : ChannelSlot) (q payload : List ℕ) (mine ends : Bool) (t : ChannelSlot) (r : List ℕ) (fault : Option SlotFault) → At p s q payload mine ends t r fault → Stays s t
 at_named p s q payload mine ends t r fault (apart e1 e2 e3 e4) = subst (Stays s) (sym e3) (stays_same s)
 at_named p s q payload mine ends t r fault (wrote e1 h e3 e4 e5) = subst (Stays s) (sym e3) (wrote-stays s p (length payload))
 at_named p s q payload mine ends t r fault (over e1 h e3 e4 e5) = subst (Stays s) (sym e3) (stays_same s)
@@ -361,15 +351,15 @@ wrote-state s p k =
     pick P (is_opening s.state) (λ o. refl)
     (λ o. pick P (ltb p.rx_cap (held_of s + k)) (λ h. refl) (λ h. pick P (acks_now s p (held_of s + k)) (λ a. refl) (λ a. refl)))
 
-abbrev pub faulty : Failed → Bool
-faulty No = false
-faulty (By f) = true
+abbrev pub faulty : Option SlotFault → Bool
+faulty None = false
+faulty (Some f) = true
 
-module _ (p : RxPolicy) (s : ChannelSlot) (q payload : List ℕ) (mine ends : Bool) (t : ChannelSlot) (r : List ℕ) (fault : Failed) (x : At p s q payload mine ends t r fault) (own : mine ≡ true) where
-  pub at-fits : held_of s + length payload ≤ p.rx_cap → fault ≡ By RxOverflow → ⊥
+module _ (p : RxPolicy) (s : ChannelSlot) (q payload : List ℕ) (mine ends : Bool) (t : ChannelSlot) (r : List ℕ) (fault : Option SlotFault) (x : At p s q payload mine ends t r fault) (own : mine ≡ true) where
+  pub at-fits : held_of s + length payload ≤ p.rx_cap → fault ≡ Some RxOverflow → ⊥
   at-fits h e = fits_by x h e
     where
-      fits_by : At p s q payload mine ends t r fault → held_of s + length payload ≤ p.rx_cap → fault ≡ By RxOverflow → ⊥
+      fits_by : At p s q payload mine ends t r fault → held_of s + length payload ≤ p.rx_cap → fault ≡ Some RxOverflow → ⊥
       fits_by (apart e1 e2 e3 e4) h e = true≢false (sym own ∙ e1)
       fits_by (wrote e1 k e3 e4 e5) h e = true≢false (ap faulty (sym e ∙ e5))
       fits_by (over e1 k e3 e4 e5) h e = omega arith
@@ -387,7 +377,7 @@ module _ (p : RxPolicy) (s : ChannelSlot) (q payload : List ℕ) (mine ends : Bo
       live-by (shut e1 e2 e3 e4) h = absurd (true≢false (sym own ∙ e1))
 
 -- a slot that a WRTE is not for keeps what it has buffered, and stays open
-module _ (p : RxPolicy) (s : ChannelSlot) (q payload : List ℕ) (mine ends : Bool) (t : ChannelSlot) (r : List ℕ) (fault : Failed) where
+module _ (p : RxPolicy) (s : ChannelSlot) (q payload : List ℕ) (mine ends : Bool) (t : ChannelSlot) (r : List ℕ) (fault : Option SlotFault) where
   pub at-keeps : At p s q payload mine ends t r fault → mine ≡ false → t.buffered ≡ s.buffered
   unfolding closed_slot
   at-keeps (apart e1 e2 e3 e4) nm = ap (λ (x : ChannelSlot). x.buffered) e3
@@ -404,9 +394,9 @@ module _ (p : RxPolicy) (s : ChannelSlot) (q payload : List ℕ) (mine ends : Bo
   at-stays (shut e1 e2 e3 e4) nm h = absurd (true≢false (sym e2 ∙ nm))
 
 -- what an answer tells of a WRTE of the slot's own: not refused where it was taken, 11 where it did not fit
-pub record Tells (mine : Bool) (fault : Failed) (a : Answer) : Type 0 where
-  pub taken : mine ≡ true → fault ≡ No → is_refused (answer_number a) ≡ false
-  pub over : mine ≡ true → fault ≡ By RxOverflow → (is_refused (answer_number a) ≡ true) × (eqb (answer_number a) 11 ≡ true)
+pub record Tells (mine : Bool) (fault : Option SlotFault) (a : Answer) : Type 0 where
+  pub taken : mine ≡ true → fault ≡ None → is_refused (answer_number a) ≡ false
+  pub over : mine ≡ true → fault ≡ Some RxOverflow → (is_refused (answer_number a) ≡ true) × (eqb (answer_number a) 11 ≡ true)
 
 -- the same of equal slots, runs and books
 pub good-by : (p : RxPolicy) (credit : Terms) (s t : ChannelSlot) (q r : List ℕ) (b c : Book) → t ≡ s → r ≡ q → c ≡ b → Good p credit s q b → Good p credit t r c
@@ -440,7 +430,7 @@ module _ (p : RxPolicy) (credit : Terms) (most : ℕ) (lim : Limits p credit mos
       (refuse-good p credit s q b g before (length payload) most lim early small h)
 
   -- the book of a slot that a packet was dispatched to, or not
-  pub at-good : (mine ends : Bool) (t : ChannelSlot) (r : List ℕ) (fault : Failed) → At p s q payload mine ends t r fault → Tells mine fault a
+  pub at-good : (mine ends : Bool) (t : ChannelSlot) (r : List ℕ) (fault : Option SlotFault) → At p s q payload mine ends t r fault → Tells mine fault a
       → (is_wrte m && eqb m.arg1 b.local) ≡ mine → closes_b d i b m ≡ ends → Good p credit t r (frame_b d i before m payload (answer_number a) b)
   at-good mine ends t r fault (apart e1 e2 e3 e4) tells x y =
       good-by p credit s t q r b _ e3 e4 (frame-none d i before m payload a b (x ∙ e1) (y ∙ e2)) g

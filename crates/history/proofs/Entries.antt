@@ -19,16 +19,8 @@ use Rattle.protocol.specs.declared.message.Message.{Message}
 use Rattle.protocol.proofs.RoundTrip.{Says}
 use Rattle.protocol.specs.Command.{is_ready, is_close, is_write}
 use Rattle.slot.specs.declared.ChannelSlot.{ChannelSlot}
-use Rattle.slot.specs.declared.Failed.{Failed}
-use Rattle.slot.specs.declared.Failed.TheVariants.{No, By}
 use Rattle.slot.specs.declared.Settled.{Settled}
 use Rattle.slot.specs.declared.ChannelError.{ChannelError}
-use Rattle.slot.specs.declared.Budget.{Budget}
-use Rattle.slot.specs.declared.Budget.TheVariants.{Bytes, Nothing as NoBudget}
-use Rattle.slot.specs.declared.Readied.{Readied}
-use Rattle.slot.specs.declared.Readied.TheVariants.{Slot, Bad}
-use Rattle.slot.specs.declared.Taken.{Taken}
-use Rattle.slot.specs.declared.Taken.TheVariants.{Data, Nothing as NothingTaken, Closed as ClosedTaken}
 use Rattle.slot.specs.declared.ids.LocalId.{LocalId}
 use Rattle.slot.specs.Ids.{closed_by}
 use Rattle.slot.specs.Slot.{budget_of, spent_of, ready_of, closed_slot, delivered_of, emptied_slot, settled_of, took_of, taken_of, take_len, has_data, is_closed, error_of, held_of, SlotOk}
@@ -37,8 +29,6 @@ use Rattle.slot.proofs.Kept.{pick, settled-sound}
 use Rattle.slot.proofs.Laws.{cond-true, cond-false, take-held}
 use Rattle.state.specs.declared.Header.{Header}
 use Rattle.state.specs.Change.{changed_all, Step, Change, slot_to}
-use Rattle.incoming.specs.declared.Front.{Front}
-use Rattle.incoming.specs.declared.Front.TheVariants.{Open as FrontOpen, Nothing as NoFront}
 use Rattle.incoming.specs.Incoming.{popped, returned}
 use Rattle.connection.specs.Frames.{Frame, close_frame, write_frame, frames_bytes, Sent}
 use Rattle.table.specs.Table.{slot_in, wanted_by}
@@ -46,8 +36,6 @@ use Rattle.rx_store.specs.RxStore.{share_of, front_of}
 use Rattle.connection.specs.declared.Answer.{Answer}
 use Rattle.connection.specs.declared.Answer.TheVariants.{Done, Waiting, Nothing, Settled as SettledIs, Read, Written, Front as FrontIs, Refused}
 use Rattle.connection.specs.declared.Refusal.TheVariants.{ChannelClosed, OutShort, BadCredit as CreditRefused}
-use Rattle.connection.specs.declared.Received.{Received}
-use Rattle.connection.specs.declared.Received.TheVariants.{Packet as PacketIs}
 use Rattle.connection.specs.Act.{Acted, act_on}
 use Rattle.connection.specs.Answer.{refusal_number, answer_number}
 use Rattle.table.specs.declared.ChannelId.{ChannelId}
@@ -62,6 +50,10 @@ use Rattle.connection.proofs.Slots.{slots-by, slots-append, slots_length, slots_
 use Rattle.history.proofs.Places.{closed_run, ready-run, At, SameRun, TableOk}
 use Rattle.history.proofs.Steps.{fault-apart, unless-is, waiting-four, spent-run, late-error, late-unless, four-error, over-told, table-set, delivered-same, damaged-good, nil-of, settled-run, acted-good, saw, saw_of, stop-good, packet-good, not-four, tells-fault, Fine, ends-fine, bad-four}
 use Rattle.slot.specs.declared.ids.RemoteId.{RemoteId}
+use Rattle.slot.specs.declared.ChannelFault.{ChannelFault}
+use Rattle.std.specs.Prelude.{Option, Some, None, Result, Ok, Err}
+use Rattle.credit.specs.declared.CreditFault.{CreditFault}
+use Rattle.state.specs.declared.QueuedOpen.{QueuedOpen}
 
 module _ (l : Lent) (credit : Terms) (ok : TableOk (policy l) l.state.header.negotiated.config.channels l.state.slots l.rx)
     (lim : Limits (policy l) credit l.state.header.negotiated.config.max_payload) (i : ℕ) (there : (slot_in l.state.slots i).filled ≡ true)
@@ -83,7 +75,7 @@ module _ (l : Lent) (credit : Terms) (ok : TableOk (policy l) l.state.header.neg
   abbrev dispatched : List ℕ → List Sent → Outcome → Book
   dispatched received fs x = acked_b (acks_of b.local fs) (packet_b books i received never (saw_of x fs) b)
 
-  dispatch-by : (received : List ℕ) (fs : List Sent) (r : Received) → Got received l.state.header.negotiated.config.max_payload r
+  dispatch-by : (received : List ℕ) (fs : List Sent) (r : Result Packet (Answer × ℕ)) → Got received l.state.header.negotiated.config.max_payload r
       → acks_of b.local fs ≡ acks_in p b.local (dispatch_by l (dropped l.state.header) received r).frames
       → Fine p credit ss i (dispatch_by l (dropped l.state.header) received r) (dispatched received fs (dispatch_by l (dropped l.state.header) received r))
   unfolding dispatch_by ends answer_number
@@ -208,7 +200,7 @@ module _ (l : Lent) (credit : Terms) (ok : TableOk (policy l) l.state.header.neg
         → Fine p credit ss i x (acked_b (acks_of b.local fs) (cond (is_on i b ch && not (is_early (answer_number x.answer))) (settle_b p want b) b))
 
     settle-by : On ch → settles-fine (settle_step l ch want)
-    unfolding settle_step settled_as slot_for ends answer_number refusal_number
+    unfolding settle_step settled_as slot_for ends answer_number
     settle-by (this d t o) =
         subst settles-fine (sym (cond-true (is_there l ch) _ _ t))
         (λ e.
@@ -274,7 +266,7 @@ module _ (l : Lent) (credit : Terms) (ok : TableOk (policy l) l.state.header.neg
     take-me local o only =
         let s = slot_in ss i in
         let w = begun (dropped l.state.header) l in
-        let P : Taken → Type 0 = λ t. takes-fine (me local) (taken_by l (me local) s w t) in
+        let P : Result (Option (ChannelSlot × ℕ)) ChannelError → Type 0 = λ t. takes-fine (me local) (taken_by l (me local) s w t) in
         let n = take_len s room in
         let sound = ok.sound i there in
         let book : (bs : List ℕ) → cond (is_on i b (me local)) (handed_b bs b) b ≡ handed_b bs b = λ bs. cond-true (is_on i b (me local)) _ _ o in
@@ -286,13 +278,13 @@ module _ (l : Lent) (credit : Terms) (ok : TableOk (policy l) l.state.header.neg
         (λ c. ends-fine p credit ss i w (Refused (error_refusal (error_of s.failed))) 0 [] _ (good-by p credit _ _ _ _ _ _ refl refl (book []) (handed-none p credit _ _ b g)))
         (λ c. ends-fine p credit ss i w Nothing 0 [] _ (good-by p credit _ _ _ _ _ _ refl refl (book []) (handed-none p credit _ _ b g))))
 
-    take-else : (ch : ChannelId) (s : ChannelSlot) (t : Taken) → (i ≡ ch.slot → ⊥) → is_on i b ch ≡ false → takes-fine ch (taken_by l ch s (begun (dropped l.state.header) l) t)
+    take-else : (ch : ChannelId) (s : ChannelSlot) (t : Result (Option (ChannelSlot × ℕ)) ChannelError) → (i ≡ ch.slot → ⊥) → is_on i b ch ≡ false → takes-fine ch (taken_by l ch s (begun (dropped l.state.header) l) t)
     unfolding taken_by ends
-    take-else ch s (Data t n) d o =
+    take-else ch s (Ok (Some (t, n))) d o =
         ends-fine p credit ss i (then (begun (dropped l.state.header) l) (slot_to ch.slot t ∷ []) []) (Read n) 0 (front_of l.rx p.rx_cap ch.slot s.head n) _
         (good-other ch.slot t l.rx _ d (good-by p credit _ _ _ _ b _ refl refl (cond-false (is_on i b ch) _ _ o) g))
-    take-else ch s NothingTaken d o = none-fine Nothing _ (good-by p credit _ _ _ _ b _ refl refl (cond-false (is_on i b ch) _ _ o) g)
-    take-else ch s (ClosedTaken e) d o = none-fine (Refused (error_refusal e)) _ (good-by p credit _ _ _ _ b _ refl refl (cond-false (is_on i b ch) _ _ o) g)
+    take-else ch s (Ok None) d o = none-fine Nothing _ (good-by p credit _ _ _ _ b _ refl refl (cond-false (is_on i b ch) _ _ o) g)
+    take-else ch s (Err e) d o = none-fine (Refused (error_refusal e)) _ (good-by p credit _ _ _ _ b _ refl refl (cond-false (is_on i b ch) _ _ o) g)
 
     take_by : (ch : ChannelId) → On ch → (is_on i b ch ≡ true → credit.reads ≡ true → ⊥) → takes-fine ch (take_step l ch room)
     unfolding take_step slot_for ends
@@ -341,19 +333,19 @@ module _ (l : Lent) (credit : Terms) (ok : TableOk (policy l) l.state.header.neg
 
   -- ---- take_front
 
-  front_by : (h : Header) (xs : List Change) (f : Front) → slots_by ss xs ≡ ss → Fine p credit ss i (take_front_by l h xs f) b
+  front_by : (h : Header) (xs : List Change) (f : Option (QueuedOpen × Header)) → slots_by ss xs ≡ ss → Fine p credit ss i (take_front_by l h xs f) b
   unfolding take_front_by ends
-  front_by h xs (FrontOpen q less) e =
+  front_by h xs (Some (q, less)) e =
       ends-fine p credit ss i (then (begun less l) xs []) (FrontIs q.remote q.credit (q.share * h.negotiated.config.max_payload) q.length) 0 [] b
       (good-by p credit _ _ _ _ b b (ap (λ (x : List ChannelSlot). slot_in x i) e) (ap (λ (x : List ChannelSlot). run_of l.rx p.rx_cap i (slot_in x i)) e) refl g)
-  front_by h xs NoFront e = ends-fine p credit ss i (begun h l) Nothing 0 [] b g
+  front_by h xs None e = ends-fine p credit ss i (begun h l) Nothing 0 [] b g
 
   pub front-call : Fine p credit ss i (take_front_step l) b
   unfolding take_front_step popped
   front-call =
       let h = dropped l.state.header in
       front_by h (popped h l.state.queue).changes (popped h l.state.queue).result
-      (pick (λ (x : Step Front). slots_by ss x.changes ≡ ss) (eqb h.queued 0) (λ t. refl) (λ t. refl))
+      (pick (λ (x : Step (Option (QueuedOpen × Header))). slots_by ss x.changes ≡ ss) (eqb h.queued 0) (λ t. refl) (λ t. refl))
 
   -- ---- reject, let go
 
@@ -540,12 +532,12 @@ module _ (l : Lent) (credit : Terms) (ok : TableOk (policy l) l.state.header.neg
         end_test = reads_end received limit k sy b.local b.remote (ids_in s1) (sym local1) (g.rem ∙ sym (ap (λ x. x.0) alike1.remote))
 
         end-book : is_direct s1 room k ≡ false → closed_by (ids_in s1) k ≡ true → read_used_b p books i b.acked room received (saw (Refused ChannelClosed) (frame_len k) fs []) B0 ≡ closed_b B0
-        unfolding read_used_b answer_number refusal_number
+        unfolding read_used_b answer_number
         end-book t u =
             cond-false (is_wrte m && eqb m.arg1 b.local && leb (frame_len k - 24) room) _ _ (direct-test ∙ t) ∙ cond-true (own_end b.local b.remote m) _ _ (end_test ∙ u)
 
         read-end : is_direct s1 room k ≡ false → closed_by (ids_in s1) k ≡ true → reads-fine (ends (then w1 (slot_to i (closed_slot s1) ∷ []) []) (Refused ChannelClosed) (frame_len k) [])
-        unfolding ends answer_number refusal_number run_of closed_slot
+        unfolding ends answer_number run_of closed_slot
         read-end t u e =
             ends-fine p credit ss i (then w1 (slot_to i (closed_slot s1) ∷ []) []) (Refused ChannelClosed) (frame_len k) [] _
             (good-this i (closed_slot s1) l.rx _ refl
@@ -686,7 +678,7 @@ module _ (l : Lent) (credit : Terms) (ok : TableOk (policy l) l.state.header.neg
                 over = λ own e. absurd (at-fits p _ _ _ _ _ _ _ _ at2 own held1 e);
               }
 
-          abbrev rereads : Taken → Outcome
+          abbrev rereads : Result (Option (ChannelSlot × ℕ)) ChannelError → Outcome
           rereads y = reread (me local) p.rx_cap (frame_len k) act.fault w3 r3.slot y
 
           sound3 : SlotOk r3.slot p.rx_cap
@@ -696,11 +688,11 @@ module _ (l : Lent) (credit : Terms) (ok : TableOk (policy l) l.state.header.neg
           unfolding taken_of reread answer_number
           read_again =
               let n = take_len r3.slot room in
-              pick (λ (y : Taken). reads-fine (rereads y)) (has_data r3.slot)
+              pick (λ (y : Result (Option (ChannelSlot × ℕ)) ChannelError). reads-fine (rereads y)) (has_data r3.slot)
               (λ d. final-fine (took_of r3.slot n) (Read n) (front_of act.rx p.rx_cap i r3.slot.head n) refl refl
               (taken-slot act.rx length2 r3.slot sound3 n (take-held r3.slot room sound3.settled-buffered) _ (good3 (Read n) (tells-read n))
               (λ x d c. settled-takes p credit (slot_in ts i) _ _ room (good2 (Read n) (tells-read n)) d c)))
-              (λ d. pick (λ (y : Taken). reads-fine (rereads y)) (is_closed r3.slot.state)
+              (λ d. pick (λ (y : Result (Option (ChannelSlot × ℕ)) ChannelError). reads-fine (rereads y)) (is_closed r3.slot.state)
               (λ c. let x = error_of r3.slot.failed in
               let a = unless_fault act.fault (Refused (error_refusal x)) in
               final-fine r3.slot a [] (late-unless act.fault (Refused (error_refusal x)) (late-error x)) (not-four act.fault (Refused (error_refusal x)) (four-error x))
@@ -715,7 +707,7 @@ module _ (l : Lent) (credit : Terms) (ok : TableOk (policy l) l.state.header.neg
             let e : slot_in (changed_all l.state (slot_to i s1 ∷ act.changes)).slots i ≡ slot_in ts i = ap (λ (x : List ChannelSlot). slot_in x i) (slots-by l.state (slot_to i s1 ∷ act.changes)) in
             subst (λ (x : ChannelSlot). reads-fine (read_settled l (me local) room (frame_len k) act.fault (then_acted (then w1 (slot_to i s1 ∷ []) []) act) (settled_of x p room))) (sym e) (read_again t u)
 
-        read-packet : reads-fine (read_by l (me local) room w1 s1 received (PacketIs k))
+        read-packet : reads-fine (read_by l (me local) room w1 s1 received (Ok k))
         unfolding read_by
         read-packet =
             by-test (is_direct s1 room k)
@@ -724,7 +716,7 @@ module _ (l : Lent) (credit : Terms) (ok : TableOk (policy l) l.state.header.neg
             (λ u. subst reads-fine (sym (cond-false (is_direct s1 room k) _ _ t ∙ cond-true (closed_by (ids_in s1) k) _ _ u)) (read-end t u))
             (λ u. subst reads-fine (sym (cond-false (is_direct s1 room k) _ _ t ∙ cond-false (closed_by (ids_in s1) k) _ _ u)) (read-acted t u)))
 
-      read-received : (r : Received) → Got received l.state.header.negotiated.config.max_payload r → reads-fine (read_by l (me local) room w1 s1 received r)
+      read-received : (r : Result Packet (Answer × ℕ)) → Got received l.state.header.negotiated.config.max_payload r → reads-fine (read_by l (me local) room w1 s1 received r)
       unfolding read_by
       read-received r (stopped a used st) = read-stop a used st
       read-received r (packet k sy) = read-packet k sy
@@ -733,7 +725,7 @@ module _ (l : Lent) (credit : Terms) (ok : TableOk (policy l) l.state.header.neg
     read-this : reads-fine (read_first l (me local) room received r1)
     unfolding read_first read_taken taken_of
     read-this =
-        let P : Taken → Type 0 = λ y. reads-fine (read_taken l (me local) room w1 s1 received y) in
+        let P : Result (Option (ChannelSlot × ℕ)) ChannelError → Type 0 = λ y. reads-fine (read_taken l (me local) room w1 s1 received y) in
         by-test (has_data s1)
         (λ d. subst P (sym (cond-true (has_data s1) _ _ d)) (read-data (take_len s1 room) refl))
         (λ d. by-test (is_closed s1.state)
@@ -817,7 +809,7 @@ module _ (l : Lent) (credit : Terms) (ok : TableOk (policy l) l.state.header.neg
             cond-false (eqb (frame_len k) 0) _ _ (ne_eqb (frame_len k) 0 (λ x. omega arith)) ∙ cond-false (eqb (answer_number a) 4) _ _ four ∙ cond-true (ends_other books ch (header_at received)) _ _ e
 
         else-end : closed_by (ids_in sj) k ≡ true → else-fine (ends (then wj (slot_to j (closed_slot sj) ∷ []) []) (Refused ChannelClosed) (frame_len k) [])
-        unfolding answer_number refusal_number
+        unfolding answer_number
         else-end t =
             else-ends (then wj (slot_to j (closed_slot sj) ∷ []) []) (Refused ChannelClosed) (frame_len k) [] (other-slot (closed_slot sj)) refl no-acks
             (good-by p credit _ _ _ _ b _ refl refl (else-none (Refused ChannelClosed) [] refl (else-test ∙ t)) g)
@@ -960,7 +952,7 @@ module _ (l : Lent) (credit : Terms) (ok : TableOk (policy l) l.state.header.neg
         unfolding taken_of reread answer_number
         else-again nodata live u =
             let n = take_len rj3.slot room in
-            let P : Taken → Type 0 = λ y. else-fine (reread ch p.rx_cap (frame_len k) actj.fault wj3 rj3.slot y) in
+            let P : Result (Option (ChannelSlot × ℕ)) ChannelError → Type 0 = λ y. else-fine (reread ch p.rx_cap (frame_len k) actj.fault wj3 rj3.slot y) in
             pick P (has_data rj3.slot)
             (λ d. final-else (took_of rj3.slot n) (Read n) _
             (acted-i (Read n) _ refl u (record { taken = λ own e. refl; over = λ own e. absurd (true≢false (sym d ∙ still-none nodata live own)) })))
@@ -979,7 +971,7 @@ module _ (l : Lent) (credit : Terms) (ok : TableOk (policy l) l.state.header.neg
             let e : slot_in (changed_all l.state (slot_to j sj ∷ actj.changes)).slots j ≡ slot_in tsj j = ap (λ (x : List ChannelSlot). slot_in x j) (slots-by l.state (slot_to j sj ∷ actj.changes)) in
             subst (λ (x : ChannelSlot). else-fine (read_settled l ch room (frame_len k) actj.fault (then_acted (then wj (slot_to j sj ∷ []) []) actj) (settled_of x p room))) (sym e) (else-again nodata live u)
 
-        else-packet : has_data sj ≡ false → is_closed sj.state ≡ false → else-fine (read_by l ch room wj sj received (PacketIs k))
+        else-packet : has_data sj ≡ false → is_closed sj.state ≡ false → else-fine (read_by l ch room wj sj received (Ok k))
         unfolding read_by
         else-packet nodata live =
             by-test (is_direct sj room k)
@@ -988,7 +980,7 @@ module _ (l : Lent) (credit : Terms) (ok : TableOk (policy l) l.state.header.neg
             (λ u. subst else-fine (sym (cond-false (is_direct sj room k) _ _ t ∙ cond-true (closed_by (ids_in sj) k) _ _ u)) (else-end u))
             (λ u. subst else-fine (sym (cond-false (is_direct sj room k) _ _ t ∙ cond-false (closed_by (ids_in sj) k) _ _ u)) (else-acted nodata live u)))
 
-      else-received : has_data sj ≡ false → is_closed sj.state ≡ false → (r : Received) → Got received l.state.header.negotiated.config.max_payload r → else-fine (read_by l ch room wj sj received r)
+      else-received : has_data sj ≡ false → is_closed sj.state ≡ false → (r : Result Packet (Answer × ℕ)) → Got received l.state.header.negotiated.config.max_payload r → else-fine (read_by l ch room wj sj received r)
       unfolding read_by
       else-received nodata live r (stopped a used st) = else-stop a used st
       else-received nodata live r (packet k sy) = else-packet k sy nodata live
@@ -997,7 +989,7 @@ module _ (l : Lent) (credit : Terms) (ok : TableOk (policy l) l.state.header.neg
       read-else : else-fine (read_first l ch room received rj)
       unfolding read_first read_taken taken_of
       read-else =
-          let P : Taken → Type 0 = λ y. else-fine (read_taken l ch room wj sj received y) in
+          let P : Result (Option (ChannelSlot × ℕ)) ChannelError → Type 0 = λ y. else-fine (read_taken l ch room wj sj received y) in
           by-test (has_data sj)
           (λ d. subst P (sym (cond-true (has_data sj) _ _ d)) (else-plain (took_of sj (take_len sj room)) (Read (take_len sj room)) _))
           (λ d. by-test (is_closed sj.state)
@@ -1073,10 +1065,10 @@ module _ (l : Lent) (credit : Terms) (ok : TableOk (policy l) l.state.header.neg
 
       module _ (h2 : (n : ℕ) → Left (then w (slot_to ch.slot (spent_of s p n) ∷ []) (write_frame (ids_in s) (take n bytes) ∷ [])) (Written n) used)
           (h3 : Left (then w (slot_to ch.slot s ∷ []) []) Waiting used) where
-        by-budget : (x : Budget) → write-fine (send_by l ch out bytes used w s x)
+        by-budget : (x : Option ℕ) → write-fine (send_by l ch out bytes used w s x)
         unfolding send_by
-        by-budget (Bytes most) = sent-fine (send_len l bytes most) (h2 (send_len l bytes most))
-        by-budget NoBudget = write-ends (then w (slot_to ch.slot s ∷ []) []) Waiting used (still-quiet [] refl) h3
+        by-budget (Some most) = sent-fine (send_len l bytes most) (h2 (send_len l bytes most))
+        by-budget None = write-ends (then w (slot_to ch.slot s ∷ []) []) Waiting used (still-quiet [] refl) h3
 
         turn-fine : (is_closed s.state ≡ true → Left (then w (slot_to ch.slot s ∷ []) []) (Refused ChannelClosed) used) → write-fine (send_again l ch out bytes used w s)
         unfolding send_again
@@ -1151,7 +1143,7 @@ module _ (l : Lent) (credit : Terms) (ok : TableOk (policy l) l.state.header.neg
             ∙ ap (λ (x : List ℕ). frame_b books i b.acked m_w x (answer_number a) b) (reads-payload received lim_w k sy)
 
         this-end : closed_by (ids_in s0) k ≡ true → write-fine (ends (then w0 (slot_to ch.slot (closed_slot s0) ∷ []) []) (Refused ChannelClosed) (frame_len k) [])
-        unfolding answer_number refusal_number
+        unfolding answer_number
         this-end u =
             write-ends (then w0 (slot_to ch.slot (closed_slot s0) ∷ []) []) (Refused ChannelClosed) (frame_len k) refl
             (this-left (closed_slot s0) [] (Refused ChannelClosed) (frame_len k) (closed_run s0)
@@ -1173,14 +1165,14 @@ module _ (l : Lent) (credit : Terms) (ok : TableOk (policy l) l.state.header.neg
           readied-left : (t : ChannelSlot) (f : List Frame) (a : Answer) → eqb (answer_number a) 4 ≡ false → SameRun s0 t → Good p credit t q0 b → Left (then w0 (slot_to ch.slot t ∷ []) f) a (frame_len k)
           readied-left t f a four w x = this-left t f a (frame_len k) w (good-by p credit _ _ _ _ _ _ refl refl (ready-book a four) x)
 
-          readied-by : (r : Readied) → Leaves (SameRun s0) r → Leaves (λ (t : ChannelSlot). Good p credit t q0 b) r → write-fine (write_readied l ch out bytes (frame_len k) w0 s0 r)
-          unfolding write_readied answer_number refusal_number
-          readied-by (Slot t) w x =
+          readied-by : (r : Result ChannelSlot CreditFault) → Leaves (SameRun s0) r → Leaves (λ (t : ChannelSlot). Good p credit t q0 b) r → write-fine (write_readied l ch out bytes (frame_len k) w0 s0 r)
+          unfolding write_readied answer_number
+          readied-by (Ok t) w x =
               turn-fine (frame_len k) w0 t refl
               (λ n. readied-left (spent_of t p n) (write_frame (ids_in t) (take n bytes) ∷ []) (Written n) refl (record { head = (spent-run t p n).head ∙ w.head; more = (spent-run t p n).more ∙ w.more }) (spent-good p credit t q0 b x n))
               (readied-left t [] Waiting refl w x)
               (λ c. readied-left t [] (Refused ChannelClosed) refl w x)
-          readied-by (Bad c) w x = write-ends w0 (Refused (CreditRefused c)) (frame_len k) refl (good-by p credit _ _ _ _ _ _ refl refl (ready-book (Refused (CreditRefused c)) (bad-four c)) g)
+          readied-by (Err c) w x = write-ends w0 (Refused (CreditRefused c)) (frame_len k) refl (good-by p credit _ _ _ _ _ _ refl refl (ready-book (Refused (CreditRefused c)) (bad-four c)) g)
 
           this-readied : write-fine (write_readied l ch out bytes (frame_len k) w0 s0 (ready_of s0 body_w p))
           this-readied = readied-by (ready_of s0 body_w p) (ready-run s0 body_w p) (ready-good p credit s0 q0 b g body_w)
@@ -1223,33 +1215,33 @@ module _ (l : Lent) (credit : Terms) (ok : TableOk (policy l) l.state.header.neg
               good-by p credit t _ _ _ _ _ e
               (ap (run_of act_w.rx p.rx_cap i) e ∙ ap (λ (y : ℕ). part (share_of act_w.rx p.rx_cap i) y t.buffered) w.head ∙ ap (part (share_of act_w.rx p.rx_cap i) s_w.head) w.more) refl x
 
-          tells-no : (a : Answer) → act_w.fault ≡ No → is_refused (answer_number a) ≡ false → Tells (mine_of ss i k) act_w.fault a
+          tells-no : (a : Answer) → act_w.fault ≡ None → is_refused (answer_number a) ≡ false → Tells (mine_of ss i k) act_w.fault a
           tells-no a e r = record { taken = λ own f. r; over = λ own f. absurd (fault-apart (sym e ∙ f)) }
 
-          tells-closed : is_closed s_w.state ≡ true → act_w.fault ≡ No → Tells (mine_of ss i k) act_w.fault (Refused ChannelClosed)
+          tells-closed : is_closed s_w.state ≡ true → act_w.fault ≡ None → Tells (mine_of ss i k) act_w.fault (Refused ChannelClosed)
           tells-closed c e =
               record { taken = λ own f. absurd (true≢false (sym c ∙ at-live p _ _ _ _ _ _ _ _ at_w own open0)); over = λ own f. absurd (fault-apart (sym e ∙ f)) }
 
-          this-again : act_w.fault ≡ No → write-fine (send_again l ch out bytes (frame_len k) (then_acted w0 act_w) s_w)
-          unfolding answer_number refusal_number
+          this-again : act_w.fault ≡ None → write-fine (send_again l ch out bytes (frame_len k) (then_acted w0 act_w) s_w)
+          unfolding answer_number
           this-again e =
               turn-fine (frame_len k) (then_acted w0 act_w) s_w quiet_w
               (λ n. left_w (spent_of s_w p n) (write_frame (ids_in s_w) (take n bytes) ∷ []) (Written n) (spent-run s_w p n) (spent-good p credit s_w _ _ (good_w (Written n) refl (tells-no (Written n) e refl)) n))
               (left_w s_w [] Waiting (record { head = refl; more = refl }) (good_w Waiting refl (tells-no Waiting e refl)))
               (λ c. left_w s_w [] (Refused ChannelClosed) (record { head = refl; more = refl }) (good_w (Refused ChannelClosed) refl (tells-closed c e)))
 
-          acted-by : (f : Failed) → act_w.fault ≡ f → write-fine (write_acted l ch out bytes (frame_len k) w0 act_w f)
+          acted-by : (f : Option ChannelFault) → act_w.fault ≡ f → write-fine (write_acted l ch out bytes (frame_len k) w0 act_w f)
           unfolding write_acted answer_number
-          acted-by (By f) e =
+          acted-by (Some f) e =
               let a : Answer = Refused (fault_refusal f) in
               let z : unless_fault act_w.fault Waiting ≡ a = unless-is act_w.fault f e in
               write-ends (then_acted w0 act_w) a (frame_len k) quiet_w
               (subst (λ (x : Answer). Left (then_acted w0 act_w) x (frame_len k)) z (good_w (unless_fault act_w.fault Waiting) (not-four act_w.fault Waiting waiting-four) (tells-fault (mine_of ss i k) act_w.fault Waiting refl)))
-          acted-by No e =
+          acted-by None e =
               let sl : slot_in (changed_all l.state act_w.changes).slots ch.slot ≡ s_w = ap (λ (x : List ChannelSlot). slot_in x ch.slot) (slots-by l.state act_w.changes) ∙ ap (slot_in ts_w) d in
               subst (λ (x : ChannelSlot). write-fine (send_again l ch out bytes (frame_len k) (then_acted w0 act_w) x)) (sym sl) (this-again e)
 
-        this-packet : write-fine (write_by l ch out bytes w0 s0 received (PacketIs k))
+        this-packet : write-fine (write_by l ch out bytes w0 s0 received (Ok k))
         unfolding write_by write_act
         this-packet =
             pick write-fine (is_ready k.command && eqb k.arg1 s0.local.0)
@@ -1258,15 +1250,15 @@ module _ (l : Lent) (credit : Terms) (ok : TableOk (policy l) l.state.header.neg
             (λ u. subst write-fine (sym (cond-true (closed_by (ids_in s0) k) _ _ u)) (this-end u))
             (λ u. subst write-fine (sym (cond-false (closed_by (ids_in s0) k) _ _ u)) (acted-by u (act_on (dropped l.state.header) ss l.state.queue l.rx l.store k body_w).fault refl)))
 
-      this-received : is_closed s0.state ≡ false → (r : Received) → Got received l.state.header.negotiated.config.max_payload r → write-fine (write_by l ch out bytes w0 s0 received r)
+      this-received : is_closed s0.state ≡ false → (r : Result Packet (Answer × ℕ)) → Got received l.state.header.negotiated.config.max_payload r → write-fine (write_by l ch out bytes w0 s0 received r)
       unfolding write_by
       this-received op r (stopped a used st) = this-stop a used st
       this-received op r (packet k sy) = this-packet op k sy
 
-      this-first : is_closed s0.state ≡ false → (x : Budget) → write-fine (write_first l ch out bytes received w0 s0 x)
+      this-first : is_closed s0.state ≡ false → (x : Option ℕ) → write-fine (write_first l ch out bytes received w0 s0 x)
       unfolding write_first
-      this-first op (Bytes most) = sent-fine 0 w0 s0 refl (send_len l bytes most) (first-sent (send_len l bytes most))
-      this-first op NoBudget = subst write-fine (sym (cond-true s0.has_remote _ _ g.known)) (this-received op (received_of l received) (got l received))
+      this-first op (Some most) = sent-fine 0 w0 s0 refl (send_len l bytes most) (first-sent (send_len l bytes most))
+      this-first op None = subst write-fine (sym (cond-true s0.has_remote _ _ g.known)) (this-received op (received_of l received) (got l received))
 
       -- a write on this channel
       write-this : write-fine (write_on l ch out bytes received w0 s0)
@@ -1319,7 +1311,7 @@ module _ (l : Lent) (credit : Terms) (ok : TableOk (policy l) l.state.header.neg
 
         -- it ended the other channel's write
         end-else : closed_by (ids_in s-else) k ≡ true → write-fine (ends (then w-else (slot_to j-else (closed_slot s-else) ∷ []) []) (Refused ChannelClosed) (frame_len k) [])
-        unfolding packet_b answer_number refusal_number
+        unfolding packet_b answer_number
         end-else u =
             write-ends (then w-else (slot_to j-else (closed_slot s-else) ∷ []) []) (Refused ChannelClosed) (frame_len k) refl
             (else-left (closed_slot s-else) [] (Refused ChannelClosed) (frame_len k)
@@ -1339,14 +1331,14 @@ module _ (l : Lent) (credit : Terms) (ok : TableOk (policy l) l.state.header.neg
               (ap (λ (x : Bool). x && eqb m-else.arg1 b.local) (reads-write received lim-else k sy ∙ rw2.0))
               (ap (λ (x : Bool). x && cond (eqb m-else.arg1 0) (not (eqb m-else.arg0 0) && (eqb (named_in m-else.arg0 books) i)) (eqb m-else.arg1 b.local)) (reads-close received lim-else k sy ∙ rw2.1))) g))
 
-          readied-else : (r : Readied) → write-fine (write_readied l ch out bytes (frame_len k) w-else s-else r)
-          unfolding write_readied answer_number refusal_number
-          readied-else (Slot t) =
+          readied-else : (r : Result ChannelSlot CreditFault) → write-fine (write_readied l ch out bytes (frame_len k) w-else s-else r)
+          unfolding write_readied answer_number
+          readied-else (Ok t) =
               turn-fine (frame_len k) w-else t refl
               (λ n. else-left (spent_of t p n) (write_frame (ids_in t) (take n bytes) ∷ []) (Written n) (frame_len k) (ready-else (Written n) refl))
               (else-left t [] Waiting (frame_len k) (ready-else Waiting refl))
               (λ c. else-left t [] (Refused ChannelClosed) (frame_len k) (ready-else (Refused ChannelClosed) refl))
-          readied-else (Bad c) = write-ends w-else (Refused (CreditRefused c)) (frame_len k) refl (ready-else (Refused (CreditRefused c)) (bad-four c))
+          readied-else (Err c) = write-ends w-else (Refused (CreditRefused c)) (frame_len k) refl (ready-else (Refused (CreditRefused c)) (bad-four c))
 
         -- any other packet
         module _ (u : closed_by (ids_in s-else) k ≡ false) where
@@ -1373,10 +1365,10 @@ module _ (l : Lent) (credit : Terms) (ok : TableOk (policy l) l.state.header.neg
               let e : slot_in (slots_by ss (act-else.changes ++ slot_to j-else t ∷ [])) i ≡ slot_in ts-else i = ap (λ (y : List ChannelSlot). slot_in y i) (slots-append ss act-else.changes (slot_to j-else t ∷ [])) ∙ slot-set-other ts-else j-else i t away in
               good-by p credit _ _ _ _ _ _ e (ap (run_of act-else.rx p.rx_cap i) e) refl x
 
-          no-else : (a : Answer) → act-else.fault ≡ No → is_refused (answer_number a) ≡ false → Tells (mine_of ss i k) act-else.fault a
+          no-else : (a : Answer) → act-else.fault ≡ None → is_refused (answer_number a) ≡ false → Tells (mine_of ss i k) act-else.fault a
           no-else a e r = record { taken = λ own f. r; over = λ own f. absurd (fault-apart (sym e ∙ f)) }
 
-          closed-else : is_closed (slot_in ts-else j-else).state ≡ true → act-else.fault ≡ No → Tells (mine_of ss i k) act-else.fault (Refused ChannelClosed)
+          closed-else : is_closed (slot_in ts-else j-else).state ≡ true → act-else.fault ≡ None → Tells (mine_of ss i k) act-else.fault (Refused ChannelClosed)
           closed-else c e =
               record {
                 taken = λ own f.
@@ -1385,26 +1377,26 @@ module _ (l : Lent) (credit : Terms) (ok : TableOk (policy l) l.state.header.neg
                 over = λ own f. absurd (fault-apart (sym e ∙ f));
               }
 
-          again-else : act-else.fault ≡ No → write-fine (send_again l ch out bytes (frame_len k) (then_acted w-else act-else) (slot_in ts-else j-else))
-          unfolding answer_number refusal_number
+          again-else : act-else.fault ≡ None → write-fine (send_again l ch out bytes (frame_len k) (then_acted w-else act-else) (slot_in ts-else j-else))
+          unfolding answer_number
           again-else e =
               turn-fine (frame_len k) (then_acted w-else act-else) (slot_in ts-else j-else) quiet-else
               (λ n. left-else (spent_of (slot_in ts-else j-else) p n) (write_frame (ids_in (slot_in ts-else j-else)) (take n bytes) ∷ []) (Written n) (good-else (Written n) refl (no-else (Written n) e refl)))
               (left-else (slot_in ts-else j-else) [] Waiting (good-else Waiting refl (no-else Waiting e refl)))
               (λ c. left-else (slot_in ts-else j-else) [] (Refused ChannelClosed) (good-else (Refused ChannelClosed) refl (closed-else c e)))
 
-          acted-else : (f : Failed) → act-else.fault ≡ f → write-fine (write_acted l ch out bytes (frame_len k) w-else act-else f)
+          acted-else : (f : Option ChannelFault) → act-else.fault ≡ f → write-fine (write_acted l ch out bytes (frame_len k) w-else act-else f)
           unfolding write_acted answer_number
-          acted-else (By f) e =
+          acted-else (Some f) e =
               let a : Answer = Refused (fault_refusal f) in
               let z : unless_fault act-else.fault Waiting ≡ a = unless-is act-else.fault f e in
               write-ends (then_acted w-else act-else) a (frame_len k) quiet-else
               (subst (λ (x : Answer). Left (then_acted w-else act-else) x (frame_len k)) z (good-else (unless_fault act-else.fault Waiting) (not-four act-else.fault Waiting waiting-four) (tells-fault (mine_of ss i k) act-else.fault Waiting refl)))
-          acted-else No e =
+          acted-else None e =
               let sl : slot_in (changed_all l.state act-else.changes).slots j-else ≡ slot_in ts-else j-else = ap (λ (x : List ChannelSlot). slot_in x j-else) (slots-by l.state act-else.changes) in
               subst (λ (x : ChannelSlot). write-fine (send_again l ch out bytes (frame_len k) (then_acted w-else act-else) x)) (sym sl) (again-else e)
 
-        packet-else : write-fine (write_by l ch out bytes w-else s-else received (PacketIs k))
+        packet-else : write-fine (write_by l ch out bytes w-else s-else received (Ok k))
         unfolding write_by write_act
         packet-else =
             pick write-fine (is_ready k.command && eqb k.arg1 s-else.local.0)
@@ -1413,17 +1405,17 @@ module _ (l : Lent) (credit : Terms) (ok : TableOk (policy l) l.state.header.neg
             (λ u. subst write-fine (sym (cond-true (closed_by (ids_in s-else) k) _ _ u)) (end-else u))
             (λ u. subst write-fine (sym (cond-false (closed_by (ids_in s-else) k) _ _ u)) (acted-else u (act_on (dropped l.state.header) ss l.state.queue l.rx l.store k body-else).fault refl)))
 
-      received-else : is_closed s-else.state ≡ false → (r : Received) → Got received l.state.header.negotiated.config.max_payload r → write-fine (write_by l ch out bytes w-else s-else received r)
+      received-else : is_closed s-else.state ≡ false → (r : Result Packet (Answer × ℕ)) → Got received l.state.header.negotiated.config.max_payload r → write-fine (write_by l ch out bytes w-else s-else received r)
       unfolding write_by
       received-else op r (stopped a used st) = stop-else a used st
       received-else op r (packet k sy) = packet-else op k sy
 
-      first_else : is_closed s-else.state ≡ false → (x : Budget) → write-fine (write_first l ch out bytes received w-else s-else x)
+      first_else : is_closed s-else.state ≡ false → (x : Option ℕ) → write-fine (write_first l ch out bytes received w-else s-else x)
       unfolding write_first
-      first_else op (Bytes most) =
+      first_else op (Some most) =
           sent-fine 0 w-else s-else refl (send_len l bytes most)
           (else-left (spent_of s-else p (send_len l bytes most)) (write_frame (ids_in s-else) (take (send_len l bytes most) bytes) ∷ []) (Written (send_len l bytes most)) 0 (none-else (Written (send_len l bytes most))))
-      first_else op NoBudget = subst write-fine (sym (cond-true s-else.has_remote _ _ (ok.known j-else fill))) (received-else op (received_of l received) (got l received))
+      first_else op None = subst write-fine (sym (cond-true s-else.has_remote _ _ (ok.known j-else fill))) (received-else op (received_of l received) (got l received))
 
       write-else : write-fine (write_on l ch out bytes received w-else s-else)
       unfolding write_on

@@ -24,8 +24,6 @@ use Rattle.state.specs.declared.Header.{Header}
 use Rattle.state.specs.Change.{Change, changed_all}
 use Rattle.state.specs.State.{is_ours, state_len, Connection, state_of}
 use Rattle.state_whole.specs.Whole.{is_whole}
-use Rattle.table.specs.declared.Allocated.{Allocated}
-use Rattle.table.specs.declared.Allocated.TheVariants.{Channel, NoFree}
 use Rattle.table.specs.declared.ChannelId.{ChannelId}
 use Rattle.table.specs.declared.Want.TheVariants.{Empty}
 use Rattle.table.specs.Table.{place_of, next_local_id, allocated, slot_in}
@@ -51,6 +49,8 @@ use Rattle.history.proofs.Told.{or-true}
 use Rattle.history.proofs.Written.{seen-is}
 use Rattle.history.proofs.Accepts.{Accepts, takes, declines, allocated-below, allocated-local, accepts, accepts-out}
 use Rattle.connection.specs.declared.Answer.{Answer}
+use Rattle.table.specs.declared.NoFreeChannels.{NoFreeChannels}
+use Rattle.std.specs.Prelude.{Option, Some, None, Result, Ok, Err}
 
 open_told : is_open Open ≡ true
 unfolding is_open is_the word_of letters_of num_of
@@ -166,13 +166,13 @@ given-fills g g' c d j t h inside es el en on off v =
 
 -- ---- small parts
 
-abbrev local_in : Allocated → ℕ
-local_in (Channel ch) = ch.local.0
-local_in NoFree = 0
+abbrev local_in : Result ChannelId NoFreeChannels → ℕ
+local_in (Ok ch) = ch.local.0
+local_in (Err _) = 0
 
-abbrev is_some : Allocated → Bool
-is_some (Channel ch) = true
-is_some NoFree = false
+abbrev is_some : Result ChannelId NoFreeChannels → Bool
+is_some (Ok ch) = true
+is_some (Err _) = false
 
 -- ---- the slots after a call
 
@@ -262,7 +262,7 @@ module _ (w : World) (r : List ℕ) (rx store : ℕ) where
     -- and one that is refused by 3 for its destination
     skip-one : (out destination received : List ℕ) → (outcome w (open_call out destination received)).answer ≡ Refused PayloadTooLarge → payload_limit < length (bytes_in destination)
         → given_by (open_call out destination received) (seen_of (event (open_call out destination received))) ≡ 1
-    unfolding given_by answer_number refusal_number bytes_in
+    unfolding given_by answer_number bytes_in
     skip-one out destination received e lt =
         let x = open_call out destination received in
         let n : (seen_of (event x)).number ≡ 3 = number-seen x ∙ ap answer_number e in
@@ -272,12 +272,12 @@ module _ (w : World) (r : List ℕ) (rx store : ℕ) where
         ∙ ap (λ (b : Bool). cond (opens_in (seen_of (event x)).sent || b) 1 0) t ∙ ap (λ (b : Bool). cond b 1 0) (or-true (opens_in (seen_of (event x)).sent))
 
     -- the number of an open that begins
-    begun-local : (ch : ChannelId) → allocated c.header c.slots ≡ Channel ch → ch.local.0 ≡ c.header.next_local
+    begun-local : (ch : ChannelId) → allocated c.header c.slots ≡ Ok ch → ch.local.0 ≡ c.header.next_local
     unfolding allocated
     begun-local ch e =
         by-test (ltb (place_of Empty m.config.channels c.slots) m.config.channels)
-        (λ t. ap local_in (sym e ∙ cond-true (ltb (place_of Empty m.config.channels c.slots) m.config.channels) _ NoFree t))
-        (λ t. absurd (true≢false (ap is_some (sym e ∙ cond-false (ltb (place_of Empty m.config.channels c.slots) m.config.channels) _ NoFree t))))
+        (λ t. ap local_in (sym e ∙ cond-true (ltb (place_of Empty m.config.channels c.slots) m.config.channels) _ (Err (record {})) t))
+        (λ t. absurd (true≢false (ap is_some (sym e ∙ cond-false (ltb (place_of Empty m.config.channels c.slots) m.config.channels) _ (Err (record {})) t))))
 
     next-given : (x : Outcome) (d : ℕ) → d ≡ 1 → g + d < 2 ^ 32 → S x → (to x).header.next_local ≡ next_local_id c.header.next_local
         → (is_ours (to x).header.pending.what ≡ true → (to x).header.pending.local.0 ≡ c.header.next_local) → Given (g + d) (to x)

@@ -15,13 +15,7 @@ use Rattle.config.proofs.Laws.{and-true}
 use Rattle.saturate.specs.Saturate.{sat_sum}
 use Rattle.slot.specs.declared.ids.LocalId.{LocalId}
 use Rattle.slot.specs.declared.ids.RemoteId.{RemoteId}
-use Rattle.credit.specs.declared.Credit.{Credit}
-use Rattle.credit.specs.declared.Credit.TheVariants.{Of, Bad as CreditBad}
-use Rattle.slot.specs.declared.Readied.{Readied}
-use Rattle.slot.specs.declared.Readied.TheVariants.{Slot, Bad}
 use Rattle.slot.specs.declared.ChannelSlot.{ChannelSlot}
-use Rattle.slot.specs.declared.PendingAck.{PendingAck}
-use Rattle.slot.specs.declared.PendingAck.TheVariants.{Len, Nothing}
 use Rattle.slot.specs.declared.Settled.{Settled}
 use Rattle.slot.specs.Slot.{with_total, total_with, take_len, opening_slot, opened_by, opened_of, ready_by, ready_of, spent_of, is_opening, acks_now, wrote_of, with_numbers, with_sending, acked, is_closed, held_of, buffered_with, some_len, delivered_of, ack_len_of, settled_by, settled_some, settled_of, took_of, closed_slot}
 use Rattle.credit.specs.Credit.{credit_of}
@@ -30,6 +24,8 @@ use Rattle.slot.proofs.Kept.{pick}
 use Rattle.slot.proofs.Laws.{cond-true, cond-false}
 use Rattle.connection.specs.Answer.{ack_length}
 use Rattle.history.specs.Book.{Book, within_rule, new_book, sent_b, accepted_b, handed_b, acked_b, closed_b, over_b, book_slot, new_aside, settle_b}
+use Rattle.credit.specs.declared.CreditFault.{CreditFault}
+use Rattle.std.specs.Prelude.{Option, Some, None, Result, Ok, Err}
 
 -- the numbers of a channel, whatever its mode
 pub record Nums (cap buffered settled accepted handed acked sent : ℕ) : Type 0 where
@@ -82,18 +78,18 @@ pub record Limits (p : RxPolicy) (credit : Terms) (most : ℕ) : Type 0 where
   pub small : p.rx_cap ≤ 16777216
 
 -- the credit that an acknowledgement's OKAY carries: none where acknowledgements are not delayed
-unfoldable pub carried : RxPolicy → PendingAck → ℕ
+unfoldable pub carried : RxPolicy → Option ℕ → ℕ
 carried p a = cond p.delayed (ack_length a) 0
 
-pub carried_none : (p : RxPolicy) → carried p Nothing ≡ 0
+pub carried_none : (p : RxPolicy) → carried p None ≡ 0
 unfolding carried ack_length
 carried_none p = by-test p.delayed (λ d. cond-true p.delayed 0 0 d) (λ d. cond-false p.delayed 0 0 d)
 
-pub carried-delayed : (p : RxPolicy) (a : PendingAck) → p.delayed ≡ true → carried p a ≡ ack_length a
+pub carried-delayed : (p : RxPolicy) (a : Option ℕ) → p.delayed ≡ true → carried p a ≡ ack_length a
 unfolding carried
 carried-delayed p a d = cond-true p.delayed _ 0 d
 
-pub carried-plain : (p : RxPolicy) (a : PendingAck) → p.delayed ≡ false → carried p a ≡ 0
+pub carried-plain : (p : RxPolicy) (a : Option ℕ) → p.delayed ≡ false → carried p a ≡ 0
 unfolding carried
 carried-plain p a d = cond-false p.delayed _ 0 d
 
@@ -128,18 +124,18 @@ ack-delayed s p n rest d =
     (λ z. ap ack_length (cond-false (eqb s.unacked 0) _ _ z ∙ cond-true p.delayed _ _ d)
     ∙ by-test (eqb (min n s.unacked) 0)
     (λ y. ap ack_length (cond-true (eqb (min n s.unacked) 0) _ _ y) ∙ sym (eqb-true (min n s.unacked) 0 y))
-    (λ y. ap ack_length (cond-false (eqb (min n s.unacked) 0) Nothing _ y)))
+    (λ y. ap ack_length (cond-false (eqb (min n s.unacked) 0) None _ y)))
 
 -- some bytes are set aside already; or n may be, and a is acknowledged
 pub data Settles (s : ChannelSlot) (p : RxPolicy) (n : ℕ) (r : Settled) : Type 0 where
-  already : eqb s.settled 0 ≡ false → r ≡ acked s Nothing → Settles s p n r
-  not-due : s.settled ≡ 0 → (p.delayed ≡ true → 0 ≡ min n s.unacked) → r ≡ acked s Nothing → Settles s p n r
-  due : (k : ℕ) → s.settled ≡ 0 → (p.delayed ≡ true → k ≡ min n s.unacked) → r ≡ acked (with_total (with_numbers s (s.unacked - k) n s.head s.buffered) (total_with p s.acked_total k)) (Len k) → Settles s p n r
+  already : eqb s.settled 0 ≡ false → r ≡ acked s None → Settles s p n r
+  not-due : s.settled ≡ 0 → (p.delayed ≡ true → 0 ≡ min n s.unacked) → r ≡ acked s None → Settles s p n r
+  due : (k : ℕ) → s.settled ≡ 0 → (p.delayed ≡ true → k ≡ min n s.unacked) → r ≡ acked (with_total (with_numbers s (s.unacked - k) n s.head s.buffered) (total_with p s.acked_total k)) (Some k) → Settles s p n r
 
-settles-by : (s : ChannelSlot) (p : RxPolicy) (n : ℕ) (a : PendingAck) → s.settled ≡ 0 → (p.delayed ≡ true → ack_length a ≡ min n s.unacked) → Settles s p n (settled_by s p n a)
+settles-by : (s : ChannelSlot) (p : RxPolicy) (n : ℕ) (a : Option ℕ) → s.settled ≡ 0 → (p.delayed ≡ true → ack_length a ≡ min n s.unacked) → Settles s p n (settled_by s p n a)
 unfolding settled_by ack_length
-settles-by s p n (Len k) z h = due k z h refl
-settles-by s p n Nothing z h = not-due z h refl
+settles-by s p n (Some k) z h = due k z h refl
+settles-by s p n None z h = not-due z h refl
 
 pub settles : (s : ChannelSlot) (p : RxPolicy) (want : ℕ) → s.has_remote ≡ true → Settles s p (min want s.buffered) (settled_of s p want)
 unfolding settled_of settled_some
@@ -188,7 +184,7 @@ module _ (p : RxPolicy) (credit : Terms) (s : ChannelSlot) (q : List ℕ) (b : B
   aside_same e d c = let z = book-aside d c in omega arith
 
   -- the slot stays, and the book sets nothing aside
-  settle-none : (p.delayed ≡ true → b.closed ≡ false → new_aside p want b ≡ 0) → Good p credit s q (acked_b (carried p Nothing) (settle_b p want b))
+  settle-none : (p.delayed ≡ true → b.closed ≡ false → new_aside p want b ≡ 0) → Good p credit s q (acked_b (carried p None) (settle_b p want b))
   settle-none h =
       let k = carried_none p in
       record {
@@ -209,7 +205,7 @@ module _ (p : RxPolicy) (credit : Terms) (s : ChannelSlot) (q : List ℕ) (b : B
       }
 
   settle-some : (k : ℕ) → s.settled ≡ 0 → (p.delayed ≡ true → k ≡ min (min want s.buffered) s.unacked)
-      → Good p credit (with_total (with_numbers s (s.unacked - k) (min want s.buffered) s.head s.buffered) (total_with p s.acked_total k)) q (acked_b (carried p (Len k)) (settle_b p want b))
+      → Good p credit (with_total (with_numbers s (s.unacked - k) (min want s.buffered) s.head s.buffered) (total_with p s.acked_total k)) q (acked_b (carried p (Some k)) (settle_b p want b))
   unfolding ack_length
   settle-some k z f =
       let m = g.nums in
@@ -232,18 +228,18 @@ module _ (p : RxPolicy) (credit : Terms) (s : ChannelSlot) (q : List ℕ) (b : B
               within = omega arith;
               counted = m.counted;
               acks = by-test p.delayed
-                  (λ d. let e = f d in let y = carried-delayed p (Len k) d in omega arith)
-                  (λ d. let y = carried-plain p (Len k) d in omega arith);
+                  (λ d. let e = f d in let y = carried-delayed p (Some k) d in omega arith)
+                  (λ d. let y = carried-plain p (Some k) d in omega arith);
             };
         owed = λ d c.
             let o = g.owed d c in
             let e = f d in
-            let y = carried-delayed p (Len k) d in
+            let y = carried-delayed p (Some k) d in
             let x = book-aside d c in
             let w : cond (eqb s.settled 0) (min want s.buffered) s.settled ≡ min want s.buffered = cond-true (eqb s.settled 0) _ _ (eq-eqb s.settled 0 z) in
             record { same = omega arith; held = omega arith; low = omega arith; high = omega arith };
-        tally = tally-more p _ _ k _ (λ d. carried-delayed p (Len k) d) g.tally;
-        even = λ t d c. let o = g.owed d c in let e = f d in let y : carried p (Len k) ≡ k = carried-delayed p (Len k) d in let v = g.even t d c in omega arith;
+        tally = tally-more p _ _ k _ (λ d. carried-delayed p (Some k) d) g.tally;
+        even = λ t d c. let o = g.owed d c in let e = f d in let y : carried p (Some k) ≡ k = carried-delayed p (Some k) d in let v = g.even t d c in omega arith;
       }
 
   settle-by : (r : Settled) → Settles s p (min want s.buffered) r → after-settling r
@@ -261,7 +257,7 @@ module _ (p : RxPolicy) (credit : Terms) (s : ChannelSlot) (q : List ℕ) (b : B
   pub settle-good : Good p credit (settled_of s p want).slot q (acked_b (carried p (settled_of s p want).ack) (settle_b p want b))
   settle-good = settle-by (settled_of s p want) (settles s p want g.known)
 
-len-zero : (k : ℕ) → k ≡ 0 → ack_length (Len k) ≡ 0
+len-zero : (k : ℕ) → k ≡ 0 → ack_length (Some k) ≡ 0
 unfolding ack_length
 len-zero k h = h
 
@@ -294,7 +290,7 @@ carried-by s p n r z (already y e) = ap (λ (x : Settled). carried p x.ack) e �
 carried-by s p n r z (not-due y f e) = ap (λ (x : Settled). carried p x.ack) e ∙ carried_none p
 carried-by s p n r z (due k y f e) =
     ap (λ (x : Settled). carried p x.ack) e
-    ∙ by-test p.delayed (λ d. let h = f d in carried-delayed p (Len k) d ∙ len-zero k (omega arith)) (λ d. carried-plain p (Len k) d)
+    ∙ by-test p.delayed (λ d. let h = f d in carried-delayed p (Some k) d ∙ len-zero k (omega arith)) (λ d. carried-plain p (Some k) d)
 
 pub settle-empty : (s : ChannelSlot) (p : RxPolicy) (want : ℕ) → s.has_remote ≡ true → s.buffered ≡ 0 → carried p (settled_of s p want).ack ≡ 0
 settle-empty s p want k z = carried-by s p (min want s.buffered) (settled_of s p want) (omega arith) (settles s p want k)
@@ -560,16 +556,16 @@ module _ (p : RxPolicy) (credit : Terms) (s : ChannelSlot) (q : List ℕ) (b : B
     some-length : (n : ℕ) → ack_length (some_len n) ≡ n
     unfolding some_len ack_length
     some-length n =
-        by-test (eqb n 0) (λ z. ap ack_length (cond-true (eqb n 0) Nothing _ z) ∙ sym (eqb-true n 0 z)) (λ z. ap ack_length (cond-false (eqb n 0) Nothing _ z))
+        by-test (eqb n 0) (λ z. ap ack_length (cond-true (eqb n 0) None _ z) ∙ sym (eqb-true n 0 z)) (λ z. ap ack_length (cond-false (eqb n 0) None _ z))
 
     -- what its OKAY carries is its length, in delayed mode
-    direct-delayed : (a : PendingAck) → p.delayed ≡ true → ack_length a ≡ length body → after-direct (acked (with_total s (total_with p s.acked_total (length body))) a)
+    direct-delayed : (a : Option ℕ) → p.delayed ≡ true → ack_length a ≡ length body → after-direct (acked (with_total s (total_with p s.acked_total (length body))) a)
     direct-delayed a d e =
         let c = carried-delayed p a d in
         direct_good s.unacked (carried p a) (total_with p s.acked_total (length body)) (λ x. (refl, c ∙ e)) (omega arith)
         (tally-more p s.acked_total b.acked (length body) (carried p a) (λ x. c ∙ e) g.tally)
 
-    direct-plain : (u : ℕ) (a : PendingAck) → p.delayed ≡ false → after-direct (acked (with_numbers s u s.settled s.head s.buffered) a)
+    direct-plain : (u : ℕ) (a : Option ℕ) → p.delayed ≡ false → after-direct (acked (with_numbers s u s.settled s.head s.buffered) a)
     direct-plain u a d =
         let c = carried-plain p a d in
         direct_good u (carried p a) s.acked_total (λ x. absurd (true≢false (sym x ∙ d))) (omega arith) (tally-none p _ _ _ c g.tally)
@@ -579,8 +575,8 @@ module _ (p : RxPolicy) (credit : Terms) (s : ChannelSlot) (q : List ℕ) (b : B
     deliver-good =
         pick after-direct p.delayed
         (λ d. subst after-direct (sym (cond-true s.has_remote _ _ g.known)) (direct-delayed (some_len (length body)) d (some-length (length body))))
-        (λ d. pick after-direct (leb p.watermark s.buffered) (λ t. direct-plain s.unacked Nothing d)
-        (λ t. pick after-direct s.has_remote (λ k. direct-plain 0 (Len s.unacked) d) (λ k. direct-plain s.unacked Nothing d)))
+        (λ d. pick after-direct (leb p.watermark s.buffered) (λ t. direct-plain s.unacked None d)
+        (λ t. pick after-direct s.has_remote (λ k. direct-plain 0 (Some s.unacked) d) (λ k. direct-plain s.unacked None d)))
 
 -- ---- a new channel
 
@@ -605,18 +601,18 @@ new-numbers p credit asked s l r h f k e1 e2 e3 e4 e5 e6 e7 =
     }
 
 -- what an OKAY leaves of a slot, if it leaves one
-abbrev pub Leaves : (ChannelSlot → Type 0) → Readied → Type 0
-Leaves P (Slot t) = P t
-Leaves P (Bad b) = Unit {0}
+abbrev pub Leaves : (ChannelSlot → Type 0) → Result ChannelSlot CreditFault → Type 0
+Leaves P (Ok t) = P t
+Leaves P (Err b) = Unit {0}
 
 module _ (p : RxPolicy) (credit : Terms) (asked : ℕ) (l : LocalId) (r : RemoteId) (h : p.delayed ≡ true → asked ≡ credit.credit) where
   abbrev fresh-good : ChannelSlot → Type 0
   fresh-good t = Good p credit t [] (new_book l.0 r.0 asked)
 
-  new_by : (c : Credit) → Leaves fresh-good (opened_by (opening_slot l) r c)
+  new_by : (c : Result ℤ CreditFault) → Leaves fresh-good (opened_by (opening_slot l) r c)
   unfolding opened_by opening_slot is_closed
-  new_by (Of z) = new-numbers p credit asked _ l.0 r.0 h refl refl refl refl refl refl refl refl refl
-  new_by (CreditBad b) = tt
+  new_by (Ok z) = new-numbers p credit asked _ l.0 r.0 h refl refl refl refl refl refl refl refl refl
+  new_by (Err b) = tt
 
   -- the OKAY that answers our OPEN
   pub new-good : (payload : List ℕ) → Leaves fresh-good (opened_of (opening_slot l) r payload p)
@@ -627,10 +623,10 @@ module _ (p : RxPolicy) (credit : Terms) (asked : ℕ) (l : LocalId) (r : Remote
 
 -- a later OKAY
 module _ (p : RxPolicy) (credit : Terms) (s : ChannelSlot) (q : List ℕ) (b : Book) (g : Good p credit s q b) where
-  ready-by : (c : Credit) → Leaves (λ (t : ChannelSlot). Good p credit t q b) (ready_by s c)
+  ready-by : (c : Result ℤ CreditFault) → Leaves (λ (t : ChannelSlot). Good p credit t q b) (ready_by s c)
   unfolding ready_by
-  ready-by (Of z) = sending-good p credit s q b g s.wrte_acked _
-  ready-by (CreditBad b) = tt
+  ready-by (Ok z) = sending-good p credit s q b g s.wrte_acked _
+  ready-by (Err b) = tt
 
   pub ready-good : (payload : List ℕ) → Leaves (λ (t : ChannelSlot). Good p credit t q b) (ready_of s payload p)
   unfolding ready_of

@@ -9,24 +9,12 @@ use lib.ListN.{length, set, take}
 use borrow.Author.Tests.{ltb-true}
 use Rattle.config.specs.Config.{stores_fit}
 use Rattle.config.specs.Negotiated.{offered_credit}
-use Rattle.incoming.specs.declared.Front.{Front}
-use Rattle.incoming.specs.declared.Front.TheVariants.{Open as FrontOpen, Nothing as NoFront}
-use Rattle.incoming.specs.declared.Pushed.{Pushed}
-use Rattle.incoming.specs.declared.Pushed.TheVariants.{Queued, Full}
 use Rattle.incoming.specs.Incoming.{PushOutcome, pushed, withdrawal, popped, returned}
 use Rattle.protocol.specs.declared.packet.Packet.{Packet}
 use Rattle.protocol.specs.Packet.{payload_limit}
 use Rattle.protocol.specs.Command.{is_ready, is_close, is_write}
 use Rattle.slot.specs.declared.ids.RemoteId.{RemoteId}
-use Rattle.slot.specs.declared.Budget.{Budget}
-use Rattle.slot.specs.declared.Budget.TheVariants.{Bytes, Nothing as NoBudget}
 use Rattle.slot.specs.declared.ChannelSlot.{ChannelSlot}
-use Rattle.slot.specs.declared.Failed.{Failed}
-use Rattle.slot.specs.declared.Failed.TheVariants.{No, By}
-use Rattle.slot.specs.declared.Readied.{Readied}
-use Rattle.slot.specs.declared.Readied.TheVariants.{Slot, Bad}
-use Rattle.slot.specs.declared.Taken.{Taken}
-use Rattle.slot.specs.declared.Taken.TheVariants.{Data, Nothing as NothingTaken, Closed as ClosedTaken}
 use Rattle.slot.specs.Ids.{closed_by}
 use Rattle.slot.specs.Slot.{is_closed, taken_of, budget_of, spent_of, ready_of}
 use Rattle.slot.proofs.Kept.{pick}
@@ -35,8 +23,6 @@ use Rattle.state.specs.declared.QueuedOpen.{QueuedOpen}
 use Rattle.state.specs.Change.{Step, Change, slot_to, changed_all}
 use Rattle.state.specs.State.{is_ours, is_offer}
 use Rattle.state_whole.specs.Whole.{is_whole}
-use Rattle.table.specs.declared.Allocated.{Allocated}
-use Rattle.table.specs.declared.Allocated.TheVariants.{Channel, NoFree}
 use Rattle.table.specs.declared.ChannelId.{ChannelId}
 use Rattle.table_dispatch.specs.declared.DispatchOutcome.{DispatchOutcome}
 use Rattle.table_dispatch.specs.declared.DispatchOutcome.TheVariants.{AckWrite, CreditGranted, SlotClosed, DataBuffered, IncomingOpen, CancelQueuedOpen, StrayReady, ChannelFault, Unmatched}
@@ -44,8 +30,6 @@ use Rattle.table.specs.Table.{allocated, numbered}
 use Rattle.table_dispatch.specs.Dispatch.{Dispatched}
 use Rattle.connection.specs.declared.Answer.{Answer}
 use Rattle.connection.specs.declared.Answer.TheVariants.{Numbers as NumbersAre, Done, Waiting, Nothing, Opened, Settled as SettledIs, Read, Written, Front as FrontIs, Refused}
-use Rattle.connection.specs.declared.Received.{Received}
-use Rattle.connection.specs.declared.Received.TheVariants.{Packet as PacketIs, Stop}
 use Rattle.connection.specs.declared.Refusal.{Refusal}
 use Rattle.connection.specs.declared.Refusal.TheVariants.{StoreShort, OutShort, NoFreeChannels, PayloadTooLarge, BrokenState}
 use Rattle.connection.specs.Act.{Acted, pushed_by, acted_by, table_of, act_on}
@@ -56,12 +40,17 @@ use Rattle.history.proofs.Heard.{open_in}
 use Rattle.history.proofs.Steps.{ends-header}
 use Rattle.incoming.proofs.QueueLaws.{ours-alone}
 use Rattle.history.specs.Queue.{NotFront}
+use Rattle.slot.specs.declared.ChannelFault.{ChannelFault as SlotFault}
+use Rattle.std.specs.Prelude.{Option, Some, None, Result, Ok, Err}
+use Rattle.credit.specs.declared.CreditFault.{CreditFault}
+use Rattle.slot.specs.declared.ChannelError.{ChannelError}
+use Rattle.table.specs.declared.NoFreeChannels.{NoFreeChannels as NoFree}
 
 -- ---- `act_on` leaves the pending open
 
-abbrev PushWaits : Header → Pushed → Type 0
-PushWaits h (Queued more) = (more.pending ≡ h.pending) × (more.next_local ≡ h.next_local)
-PushWaits h Full = Unit {0}
+abbrev PushWaits : Header → Option Header → Type 0
+PushWaits h (Some more) = (more.pending ≡ h.pending) × (more.next_local ≡ h.next_local)
+PushWaits h None = Unit {0}
 
 -- and the next number, and writes no OPEN
 record Calm (h : Header) (a : Acted) : Type 0 where
@@ -75,10 +64,10 @@ push-waits h queue remote credit payload store =
     pick (λ (o : PushOutcome). PushWaits h o.result) (leb h.negotiated.config.channels h.queued) (λ t. tt) (λ t. (refl, refl))
 
 module _ (h : Header) (queue : List QueuedOpen) (payload store : List ℕ) (d : Dispatched) where
-  calm-pushed : (remote : RemoteId) (o : PushOutcome) (r : Pushed) → PushWaits h r → Calm h (pushed_by h store d remote o r)
+  calm-pushed : (remote : RemoteId) (o : PushOutcome) (r : Option Header) → PushWaits h r → Calm h (pushed_by h store d remote o r)
   unfolding pushed_by
-  calm-pushed remote o (Queued more) e = record { pending-is = e.0; next = e.1; quiet-opens = λ n. refl }
-  calm-pushed remote o Full e = record { pending-is = refl; next = refl; quiet-opens = λ n. refl }
+  calm-pushed remote o (Some more) e = record { pending-is = e.0; next = e.1; quiet-opens = λ n. refl }
+  calm-pushed remote o None e = record { pending-is = refl; next = refl; quiet-opens = λ n. refl }
 
   calm-acted : (o : DispatchOutcome) → Calm h (acted_by h queue payload store d o)
   unfolding acted_by withdrawal
@@ -97,9 +86,9 @@ calm : (h : Header) (ss : List ChannelSlot) (queue : List QueuedOpen) (rx store 
 unfolding act_on
 calm h ss queue rx store k payload = calm-acted h queue payload store (table_of h ss rx k payload) (table_of h ss rx k payload).step.result
 
-abbrev FrontWaits : Header → Front → Type 0
-FrontWaits h (FrontOpen q less) = (is_ours less.pending.what ≡ false) × (less.next_local ≡ h.next_local)
-FrontWaits h NoFront = Unit {0}
+abbrev FrontWaits : Header → Option (QueuedOpen × Header) → Type 0
+FrontWaits h (Some (q, less)) = (is_ours less.pending.what ≡ false) × (less.next_local ≡ h.next_local)
+FrontWaits h None = Unit {0}
 
 -- ---- the calls
 
@@ -174,10 +163,10 @@ module _ (l : Lent) where
   act-off : (ss : List ChannelSlot) (k : Packet) (payload : List ℕ) → Clear (act_on h0 ss l.state.queue l.rx l.store k payload).header
   act-off ss k payload = let c = calm h0 ss l.state.queue l.rx l.store k payload in ((ap (λ x. is_ours x.what) c.pending-is, c.next), ap (λ x. is_offer x.what) c.pending-is)
 
-  dispatch-by : (received : List ℕ) (r : Received) → Quits (dispatch_by l h0 received r)
+  dispatch-by : (received : List ℕ) (r : Result Packet (Answer × ℕ)) → Quits (dispatch_by l h0 received r)
   unfolding dispatch_by
-  dispatch-by received (Stop n used) = off (begun h0 l) n used [] ((refl, refl), refl)
-  dispatch-by received (PacketIs k) = off (then_acted (begun h0 l) (act_on h0 l.state.slots l.state.queue l.rx l.store k (body_of received k))) _ (frame_len k) [] (act-off l.state.slots k (body_of received k))
+  dispatch-by received (Err (n, used)) = off (begun h0 l) n used [] ((refl, refl), refl)
+  dispatch-by received (Ok k) = off (then_acted (begun h0 l) (act_on h0 l.state.slots l.state.queue l.rx l.store k (body_of received k))) _ (frame_len k) [] (act-off l.state.slots k (body_of received k))
 
   pub dispatch-heads : (received : List ℕ) → Quits (dispatch_step l received)
   unfolding dispatch_step
@@ -187,11 +176,11 @@ module _ (l : Lent) where
   unfolding settle_step settled_as
   settle-heads ch want = pick Quits (is_there l ch) (λ t. off _ _ 0 [] ((refl, refl), refl)) (λ t. off (begun h0 l) _ 0 [] ((refl, refl), refl))
 
-  taken-heads : (ch : ChannelId) (s : ChannelSlot) (y : Taken) → Quits (taken_by l ch s (begun h0 l) y)
+  taken-heads : (ch : ChannelId) (s : ChannelSlot) (y : Result (Option (ChannelSlot × ℕ)) ChannelError) → Quits (taken_by l ch s (begun h0 l) y)
   unfolding taken_by
-  taken-heads ch s (Data t n) = off (then (begun h0 l) (slot_to ch.slot t ∷ []) []) _ 0 _ ((refl, refl), refl)
-  taken-heads ch s NothingTaken = off (begun h0 l) _ 0 [] ((refl, refl), refl)
-  taken-heads ch s (ClosedTaken e) = off (begun h0 l) _ 0 [] ((refl, refl), refl)
+  taken-heads ch s (Ok (Some (t, n))) = off (then (begun h0 l) (slot_to ch.slot t ∷ []) []) _ 0 _ ((refl, refl), refl)
+  taken-heads ch s (Ok None) = off (begun h0 l) _ 0 [] ((refl, refl), refl)
+  taken-heads ch s (Err e) = off (begun h0 l) _ 0 [] ((refl, refl), refl)
 
   pub take-heads : (ch : ChannelId) (room : ℕ) → Quits (take_step l ch room)
   unfolding take_step
@@ -201,16 +190,16 @@ module _ (l : Lent) where
   unfolding close_step
   close-heads ch = pick Quits (is_there l ch && (slot_for l ch).has_remote) (λ t. off _ _ 0 [] ((refl, refl), refl)) (λ t. off (begun h0 l) _ 0 [] ((refl, refl), refl))
 
-  front_by : (xs : List Change) (f : Front) → FrontWaits h0 f → Heads (take_front_by l h0 xs f)
+  front_by : (xs : List Change) (f : Option (QueuedOpen × Header)) → FrontWaits h0 f → Heads (take_front_by l h0 xs f)
   unfolding take_front_by
-  front_by xs (FrontOpen q less) e = front-off (then (begun less l) xs []) _ 0 [] (e.0, e.1)
-  front_by xs NoFront e = front-off (begun h0 l) _ 0 [] (refl, refl)
+  front_by xs (Some (q, less)) e = front-off (then (begun less l) xs []) _ 0 [] (e.0, e.1)
+  front_by xs None e = front-off (begun h0 l) _ 0 [] (refl, refl)
 
   pub front-heads : Heads (take_front_step l)
   unfolding take_front_step popped
   front-heads =
       front_by (popped h0 l.state.queue).changes (popped h0 l.state.queue).result
-      (pick (λ (x : Step Front). FrontWaits h0 x.result) (eqb h0.queued 0) (λ t. tt) (λ t. (refl, refl)))
+      (pick (λ (x : Step (Option (QueuedOpen × Header))). FrontWaits h0 x.result) (eqb h0.queued 0) (λ t. tt) (λ t. (refl, refl)))
 
   -- ---- reject, let go, accept
 
@@ -229,12 +218,12 @@ module _ (l : Lent) where
   -- an accept keeps the number, or gives it out with a slot
   pub data Grants (x : Outcome) : Type 0 where
     declines : Quits x → Grants x
-    grants : (ch : ChannelId) → allocated l.state.header l.state.slots ≡ Channel ch → (changed_all l.state x.changes).header ≡ numbered h0 → x.answer ≡ Opened ch → Grants x
+    grants : (ch : ChannelId) → allocated l.state.header l.state.slots ≡ Ok ch → (changed_all l.state x.changes).header ≡ numbered h0 → x.answer ≡ Opened ch → Grants x
 
-  grants-on : (remote : RemoteId) (credit : ℕ) (x : Allocated) → allocated l.state.header l.state.slots ≡ x → Grants (accept_on l h0 remote credit x)
+  grants-on : (remote : RemoteId) (credit : ℕ) (x : Result ChannelId NoFree) → allocated l.state.header l.state.slots ≡ x → Grants (accept_on l h0 remote credit x)
   unfolding accept_on ends
-  grants-on remote credit NoFree e = declines (reject-heads-on remote (Refused NoFreeChannels))
-  grants-on remote credit (Channel ch) e = grants ch e refl refl
+  grants-on remote credit (Err _) e = declines (reject-heads-on remote (Refused NoFreeChannels))
+  grants-on remote credit (Ok ch) e = grants ch e refl refl
 
   pub accept-grants : Grants (accept_step l)
   unfolding accept_step
@@ -244,31 +233,31 @@ module _ (l : Lent) where
 
   -- ---- read
 
-  reread-heads : (ch : ChannelId) (cap used : ℕ) (fault : Failed) (w : Work) (s : ChannelSlot) (y : Taken) → Clear w.header → Quits (reread ch cap used fault w s y)
+  reread-heads : (ch : ChannelId) (cap used : ℕ) (fault : Option SlotFault) (w : Work) (s : ChannelSlot) (y : Result (Option (ChannelSlot × ℕ)) ChannelError) → Clear w.header → Quits (reread ch cap used fault w s y)
   unfolding reread
-  reread-heads ch cap used fault w s (Data t n) e = off (then w (slot_to ch.slot t ∷ []) []) _ used _ e
-  reread-heads ch cap used fault w s NothingTaken e = off (then w (slot_to ch.slot s ∷ []) []) _ used [] e
-  reread-heads ch cap used fault w s (ClosedTaken x) e = off (then w (slot_to ch.slot s ∷ []) []) _ used [] e
+  reread-heads ch cap used fault w s (Ok (Some (t, n))) e = off (then w (slot_to ch.slot t ∷ []) []) _ used _ e
+  reread-heads ch cap used fault w s (Ok None) e = off (then w (slot_to ch.slot s ∷ []) []) _ used [] e
+  reread-heads ch cap used fault w s (Err x) e = off (then w (slot_to ch.slot s ∷ []) []) _ used [] e
 
   acted-heads : (ch : ChannelId) (room used : ℕ) (w : Work) (b : Acted) → Clear b.header → Quits (read_acted l ch room used w b)
   unfolding read_acted read_settled
   acted-heads ch room used w b e = reread-heads ch _ used b.fault _ _ _ e
 
-  read-packet-heads : (ch : ChannelId) (room : ℕ) (w : Work) (s : ChannelSlot) (received : List ℕ) (r : Received) → w.header ≡ h0 → Quits (read_by l ch room w s received r)
+  read-packet-heads : (ch : ChannelId) (room : ℕ) (w : Work) (s : ChannelSlot) (received : List ℕ) (r : Result Packet (Answer × ℕ)) → w.header ≡ h0 → Quits (read_by l ch room w s received r)
   unfolding read_by read_direct
-  read-packet-heads ch room w s received (Stop n used) e = off (then w (slot_to ch.slot s ∷ []) []) n used [] (off-by _ e)
-  read-packet-heads ch room w s received (PacketIs k) e =
+  read-packet-heads ch room w s received (Err (n, used)) e = off (then w (slot_to ch.slot s ∷ []) []) n used [] (off-by _ e)
+  read-packet-heads ch room w s received (Ok k) e =
       pick Quits (is_direct s room k) (λ t. off _ _ (frame_len k) _ (off-by _ e))
       (λ t. pick Quits (closed_by (ids_in s) k) (λ u. off _ _ (frame_len k) [] (off-by _ e))
       (λ u. acted-heads ch room (frame_len k) _ _
       (subst (λ (x : Header). Clear (act_on x (set l.state.slots ch.slot s) l.state.queue l.rx l.store k (body_of received k)).header) (sym e) (act-off (set l.state.slots ch.slot s) k (body_of received k)))))
 
-  read-taken-heads : (ch : ChannelId) (room : ℕ) (w : Work) (s : ChannelSlot) (received : List ℕ) (y : Taken) → w.header ≡ h0 → Quits (read_taken l ch room w s received y)
+  read-taken-heads : (ch : ChannelId) (room : ℕ) (w : Work) (s : ChannelSlot) (received : List ℕ) (y : Result (Option (ChannelSlot × ℕ)) ChannelError) → w.header ≡ h0 → Quits (read_taken l ch room w s received y)
   unfolding read_taken
-  read-taken-heads ch room w s received (Data t n) e = off _ _ 0 _ (off-by _ e)
-  read-taken-heads ch room w s received NothingTaken e =
+  read-taken-heads ch room w s received (Ok (Some (t, n))) e = off _ _ 0 _ (off-by _ e)
+  read-taken-heads ch room w s received (Ok None) e =
       pick Quits s.has_remote (λ t. read-packet-heads ch room w s received (received_of l received) e) (λ t. off _ _ 0 [] (off-by _ e))
-  read-taken-heads ch room w s received (ClosedTaken x) e = off _ _ 0 [] (off-by _ e)
+  read-taken-heads ch room w s received (Err x) e = off _ _ 0 [] (off-by _ e)
 
   pub read-heads : (ch : ChannelId) (room : ℕ) (received : List ℕ) → Quits (read_step l ch room received)
   unfolding read_step read_first
@@ -284,37 +273,37 @@ module _ (l : Lent) where
         pick Quits (ltb out (length (frames_bytes w.header.negotiated w.frames) + 24 + n)) (λ t. untouched-heads OutShort)
         (λ t. off (then w (slot_to ch.slot (spent_of s (policy l) n) ∷ []) (write_frame (ids_in s) (take n bytes) ∷ [])) (Written n) used [] e)
 
-    send-heads : (w : Work) (s : ChannelSlot) (x : Budget) → Clear w.header → Quits (send_by l ch out bytes used w s x)
+    send-heads : (w : Work) (s : ChannelSlot) (x : Option ℕ) → Clear w.header → Quits (send_by l ch out bytes used w s x)
     unfolding send_by
-    send-heads w s (Bytes most) e = some-heads w s _ e
-    send-heads w s NoBudget e = off (then w (slot_to ch.slot s ∷ []) []) _ used [] e
+    send-heads w s (Some most) e = some-heads w s _ e
+    send-heads w s None e = off (then w (slot_to ch.slot s ∷ []) []) _ used [] e
 
     again-heads : (w : Work) (s : ChannelSlot) → Clear w.header → Quits (send_again l ch out bytes used w s)
     unfolding send_again
     again-heads w s e = pick Quits (is_closed s.state) (λ t. off (then w (slot_to ch.slot s ∷ []) []) _ used [] e) (λ t. send-heads w s (budget_of s (policy l)) e)
 
-    readied-heads : (s : ChannelSlot) (r : Readied) → Quits (write_readied l ch out bytes used (begun h0 l) s r)
+    readied-heads : (s : ChannelSlot) (r : Result ChannelSlot CreditFault) → Quits (write_readied l ch out bytes used (begun h0 l) s r)
     unfolding write_readied
-    readied-heads s (Slot t) = again-heads (begun h0 l) t ((refl, refl), refl)
-    readied-heads s (Bad b) = off (begun h0 l) _ used [] ((refl, refl), refl)
+    readied-heads s (Ok t) = again-heads (begun h0 l) t ((refl, refl), refl)
+    readied-heads s (Err b) = off (begun h0 l) _ used [] ((refl, refl), refl)
 
-    write-acted-heads : (b : Acted) (f : Failed) → Clear b.header → Quits (write_acted l ch out bytes used (begun h0 l) b f)
+    write-acted-heads : (b : Acted) (f : Option SlotFault) → Clear b.header → Quits (write_acted l ch out bytes used (begun h0 l) b f)
     unfolding write_acted
-    write-acted-heads b (By f) e = off (then_acted (begun h0 l) b) _ used [] e
-    write-acted-heads b No e = again-heads (then_acted (begun h0 l) b) _ e
+    write-acted-heads b (Some f) e = off (then_acted (begun h0 l) b) _ used [] e
+    write-acted-heads b None e = again-heads (then_acted (begun h0 l) b) _ e
 
-  write-received-heads : (ch : ChannelId) (out : ℕ) (bytes : List ℕ) (s : ChannelSlot) (received : List ℕ) (r : Received) → Quits (write_by l ch out bytes (begun h0 l) s received r)
+  write-received-heads : (ch : ChannelId) (out : ℕ) (bytes : List ℕ) (s : ChannelSlot) (received : List ℕ) (r : Result Packet (Answer × ℕ)) → Quits (write_by l ch out bytes (begun h0 l) s received r)
   unfolding write_by write_act
-  write-received-heads ch out bytes s received (Stop n used) = off (begun h0 l) n used [] ((refl, refl), refl)
-  write-received-heads ch out bytes s received (PacketIs k) =
+  write-received-heads ch out bytes s received (Err (n, used)) = off (begun h0 l) n used [] ((refl, refl), refl)
+  write-received-heads ch out bytes s received (Ok k) =
       pick Quits (is_ready k.command && eqb k.arg1 s.local.0) (λ t. readied-heads ch out bytes (frame_len k) s (ready_of s (body_of received k) (policy l)))
       (λ t. pick Quits (closed_by (ids_in s) k) (λ u. off _ _ (frame_len k) [] ((refl, refl), refl))
       (λ u. write-acted-heads ch out bytes (frame_len k) (act_on h0 l.state.slots l.state.queue l.rx l.store k (body_of received k)) _ (act-off l.state.slots k (body_of received k))))
 
-  write-first-heads : (ch : ChannelId) (out : ℕ) (bytes : List ℕ) (s : ChannelSlot) (received : List ℕ) (x : Budget) → Quits (write_first l ch out bytes received (begun h0 l) s x)
+  write-first-heads : (ch : ChannelId) (out : ℕ) (bytes : List ℕ) (s : ChannelSlot) (received : List ℕ) (x : Option ℕ) → Quits (write_first l ch out bytes received (begun h0 l) s x)
   unfolding write_first
-  write-first-heads ch out bytes s received (Bytes most) = some-heads ch out bytes 0 (begun h0 l) s _ ((refl, refl), refl)
-  write-first-heads ch out bytes s received NoBudget =
+  write-first-heads ch out bytes s received (Some most) = some-heads ch out bytes 0 (begun h0 l) s _ ((refl, refl), refl)
+  write-first-heads ch out bytes s received None =
       pick Quits s.has_remote (λ t. write-received-heads ch out bytes s received (received_of l received)) (λ t. off (begun h0 l) _ 0 [] ((refl, refl), refl))
 
   pub write-heads : (ch : ChannelId) (out : ℕ) (bytes received : List ℕ) → Quits (write_step l ch out bytes received)
@@ -331,23 +320,23 @@ module _ (l : Lent) where
   -- refused by 3 for its destination
   pub data Numbers (destination : List ℕ) (x : Outcome) : Type 0 where
     keeps : Quits x → Numbers destination x
-    asks : (ch : ChannelId) → is_ours l.state.header.pending.what ≡ false → allocated l.state.header l.state.slots ≡ Channel ch → (changed_all l.state x.changes).header ≡ pending_for (numbered h0) ch
+    asks : (ch : ChannelId) → is_ours l.state.header.pending.what ≡ false → allocated l.state.header l.state.slots ≡ Ok ch → (changed_all l.state x.changes).header ≡ pending_for (numbered h0) ch
         → x.frames ≡ open_frame ch.local (offered_credit l.state.header.negotiated) destination ∷ [] → Numbers destination x
     skips : is_ours l.state.header.pending.what ≡ false → (changed_all l.state x.changes).header ≡ numbered h0 → x.answer ≡ Refused PayloadTooLarge → payload_limit < length destination
         → Numbers destination x
 
-  on-heads : (out : ℕ) (destination : List ℕ) (x : Allocated) → is_ours l.state.header.pending.what ≡ false → allocated l.state.header l.state.slots ≡ x → Numbers destination (open_on l out destination x)
+  on-heads : (out : ℕ) (destination : List ℕ) (x : Result ChannelId NoFree) → is_ours l.state.header.pending.what ≡ false → allocated l.state.header l.state.slots ≡ x → Numbers destination (open_on l out destination x)
   unfolding open_on ends
-  on-heads out destination NoFree f e = keeps (off (begun h0 l) (Refused NoFreeChannels) 0 [] ((refl, refl), refl))
-  on-heads out destination (Channel ch) f e =
+  on-heads out destination (Err _) f e = keeps (off (begun h0 l) (Refused NoFreeChannels) 0 [] ((refl, refl), refl))
+  on-heads out destination (Ok ch) f e =
       pick (Numbers destination) (ltb payload_limit (length destination))
       (λ t. skips f refl refl (ltb-true payload_limit (length destination) t))
       (λ t. pick (Numbers destination) (ltb out (24 + length destination)) (λ u. keeps (untouched-heads OutShort)) (λ u. asks ch f e refl refl))
 
-  open-readied-heads : (ch : ChannelId) (remote used : ℕ) (r : Readied) → Quits (open_readied l ch remote used r)
+  open-readied-heads : (ch : ChannelId) (remote used : ℕ) (r : Result ChannelSlot CreditFault) → Quits (open_readied l ch remote used r)
   unfolding open_readied
-  open-readied-heads ch remote used (Slot t) = off _ _ used [] ((refl, refl), refl)
-  open-readied-heads ch remote used (Bad b) = off _ _ used [] ((refl, refl), refl)
+  open-readied-heads ch remote used (Ok t) = off _ _ used [] ((refl, refl), refl)
+  open-readied-heads ch remote used (Err b) = off _ _ used [] ((refl, refl), refl)
 
   still-on : (n : Answer) (h : Header) → is_ours (still_pending n h).pending.what ≡ true → (still_pending n h).pending ≡ h.pending
   unfolding still_pending
@@ -398,10 +387,10 @@ module _ (l : Lent) where
       still (storing (then_acted (begun h l) b) (still_pending a b.header)) _ used []
       (still-next a b.header ∙ c.next) (λ t. still-on a b.header t ∙ c.pending-is) c.quiet-opens (still-no a b.header (ap (λ x. is_offer x.what) c.pending-is ∙ calm-offer))
 
-  open-received-heads : is_offer l.state.header.pending.what ≡ false → (ch : ChannelId) (received : List ℕ) (r : Received) → Quits (open_by l ch received r)
+  open-received-heads : is_offer l.state.header.pending.what ≡ false → (ch : ChannelId) (received : List ℕ) (r : Result Packet (Answer × ℕ)) → Quits (open_by l ch received r)
   unfolding open_by
-  open-received-heads calm-offer ch received (Stop n used) = still (begun (still_pending n l.state.header) l) n used [] (still-next n l.state.header) (still-on n l.state.header) (λ m. refl) (still-no n l.state.header calm-offer)
-  open-received-heads calm-offer ch received (PacketIs k) =
+  open-received-heads calm-offer ch received (Err (n, used)) = still (begun (still_pending n l.state.header) l) n used [] (still-next n l.state.header) (still-on n l.state.header) (λ m. refl) (still-no n l.state.header calm-offer)
+  open-received-heads calm-offer ch received (Ok k) =
       let mine = eqb k.arg1 ch.local.0 in
       pick Quits (is_ready k.command && mine) (λ t. open-readied-heads ch k.arg0 (frame_len k) _)
       (λ t. pick Quits (is_write k.command && mine) (λ u. off _ _ (frame_len k) [] ((refl, refl), refl))

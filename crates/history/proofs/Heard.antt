@@ -189,7 +189,7 @@ seen-eight e z =
 -- what is seen of a call is what its outcome says; one that answers 8 does nothing
 pub heard-call : (n : Negotiated) (c : Call) (l : Lent) (o : Outcome) → Writes n (length (out_of c)) (length (buf_of c)) o → counted c o.answer ≡ length o.handed
     → (answer_number o.answer ≡ 8 → o ≡ untouched l StoreShort) → seen_of (record { call = c; held = held_by n c o }) ≡ heard_of n o
-unfolding said_by answer_number refusal_number answer_values refusal_word
+unfolding said_by answer_number answer_values refusal_word
 heard-call n c l o h k e =
     by-test (eqb (answer_number o.answer) 8)
     (λ t. let z = eqb-true (answer_number o.answer) 8 t in

@@ -12,12 +12,8 @@ use borrow.Author.Tests.{eqb-true, eqb-false}
 use Rattle.le.proofs.Parts.{by-test}
 use Rattle.config.specs.declared.negotiated.RxPolicy.{RxPolicy}
 use Rattle.config.proofs.Laws.{and-true}
-use Rattle.incoming.specs.declared.Front.{Front}
-use Rattle.incoming.specs.declared.Front.TheVariants.{Open as FrontOpen, Nothing as NoFront}
 use Rattle.incoming.specs.Incoming.{popped}
 use Rattle.slot.specs.declared.ChannelSlot.{ChannelSlot}
-use Rattle.slot.specs.declared.Taken.{Taken}
-use Rattle.slot.specs.declared.Taken.TheVariants.{Data, Nothing as NothingTaken, Closed as ClosedTaken}
 use Rattle.slot.specs.Slot.{empty_slot, emptied_slot, taken_of, accepted_slot}
 use Rattle.slot.proofs.Kept.{pick}
 use Rattle.slot.proofs.Laws.{cond-true, cond-false}
@@ -50,7 +46,9 @@ use Rattle.history.proofs.Steps.{saw, saw_of, Fine}
 use Rattle.history.proofs.Accepts.{Accepts, takes, declines, taken_ids, allocated-below, accepts, accepted-good, heard-remote, heard-credit}
 use Rattle.config.specs.Negotiated.{offered_credit}
 use Rattle.connection.proofs.Sending.{sent_of}
-use Rattle.table.specs.declared.Allocated.TheVariants.{Channel}
+use Rattle.slot.specs.declared.ChannelError.{ChannelError}
+use Rattle.std.specs.Prelude.{Option, Some, None, Result, Ok, Err}
+use Rattle.state.specs.declared.QueuedOpen.{QueuedOpen}
 
 run_none : (rx : List ℕ) (cap i : ℕ) (s : ChannelSlot) → s.buffered ≡ 0 → run_of rx cap i s ≡ []
 unfolding run_of part
@@ -240,11 +238,11 @@ module _ (credit : Terms) (l : Lent) (ok : TableOk (policy l) l.state.header.neg
       (λ g f. settle-call l credit ok lim i f b g books mk ch want fs (hs.acks b.local))
 
   -- a take writes nothing
-  taken-silent : (n : ℕ) (ch : ChannelId) (s : ChannelSlot) (y : Taken) → acks_in p n (taken_by l ch s (begun (dropped l.state.header) l) y).frames ≡ 0
+  taken-silent : (n : ℕ) (ch : ChannelId) (s : ChannelSlot) (y : Result (Option (ChannelSlot × ℕ)) ChannelError) → acks_in p n (taken_by l ch s (begun (dropped l.state.header) l) y).frames ≡ 0
   unfolding taken_by ends
-  taken-silent n ch s (Data t m) = refl
-  taken-silent n ch s NothingTaken = refl
-  taken-silent n ch s (ClosedTaken e) = refl
+  taken-silent n ch s (Ok (Some (t, m))) = refl
+  taken-silent n ch s (Ok None) = refl
+  taken-silent n ch s (Err e) = refl
 
   take-silent : (n : ℕ) (ch : ChannelId) (room : ℕ) → acks_in p n (take_step l ch room).frames ≡ 0
   unfolding take_step ends
@@ -270,10 +268,10 @@ module _ (credit : Terms) (l : Lent) (ok : TableOk (policy l) l.state.header.neg
       plain-kept p credit i ws l.rx books asked b k (write_call out ch bytes received) (write_step l ch (length out) (bytes_in bytes) (bytes_in received)) fs (write-tame l ok ch (length out) (bytes_in bytes) (bytes_in received)) (λ c. refl)
       (λ g f. write-call l credit ok lim i f b g books mk ch (length out) (bytes_in bytes) (bytes_in received) fs (hs.acks b.local))
 
-  front-silent : (n : ℕ) (h : Header) (xs : List Change) (f : Front) → acks_in p n (take_front_by l h xs f).frames ≡ 0
+  front-silent : (n : ℕ) (h : Header) (xs : List Change) (f : Option (QueuedOpen × Header)) → acks_in p n (take_front_by l h xs f).frames ≡ 0
   unfolding take_front_by ends
-  front-silent n h xs (FrontOpen q less) = refl
-  front-silent n h xs NoFront = refl
+  front-silent n h xs (Some (q, less)) = refl
+  front-silent n h xs None = refl
 
   pub front-follows : Follows front_taken (take_front_step l)
   unfolding opened_b entry_on take_front_step
@@ -307,7 +305,7 @@ module _ (credit : Terms) (l : Lent) (ok : TableOk (policy l) l.state.header.neg
   -- ---- accept
 
   -- a place that was allocated is one of the table's
-  allotted-place : (ch : ChannelId) → allocated l.state.header ws ≡ Channel ch → ch.slot < length ws
+  allotted-place : (ch : ChannelId) → allocated l.state.header ws ≡ Ok ch → ch.slot < length ws
   allotted-place ch e =
       let a = allocated-below l.state.header ws ch e in
       let m = ok.most in

@@ -26,7 +26,6 @@ use Rattle.table_dispatch.specs.Dispatch.{stored, closed_at, close_of, Dispatche
 use Rattle.table_dispatch.proofs.DispatchLaws.{remote-live}
 use Rattle.table_dispatch.proofs.KeepLaws.{place_found, remote-filled}
 use Rattle.connection.specs.declared.Answer.TheVariants.{Done}
-use Rattle.connection.specs.declared.Received.TheVariants.{Packet as PacketIs}
 use Rattle.connection.specs.Act.{acted_by, table_of, act_on}
 use Rattle.connection.specs.Answer.{answer_number}
 use Rattle.connection.specs.Calls.{Lent, Outcome, begun, then, then_acted, ends, checked, checked_out, dropped, unless_fault, received_by, received_of, body_of, frame_len, dispatch_by, dispatch_step, dispatch_outcome}
@@ -35,6 +34,7 @@ use Rattle.history.specs.Run.{bytes_in, dispatch_call, lent, outcome, after}
 use Rattle.history.specs.LiveClose.{live_count, closing, ClseGoesLive}
 use Rattle.history.proofs.Never13.{whole-holds, state-after}
 use Rattle.history.proofs.Places.{first-le}
+use Rattle.std.specs.Prelude.{Option, Some, None, Result, Ok, Err}
 
 -- ---- lists
 
@@ -79,7 +79,7 @@ module _ (r : RemoteId) (n : ℕ) (ss : List ChannelSlot) (some : r.0 ≡ 0 → 
 
 -- ---- the call
 
-module _ (l : Lent) (received : List ℕ) (p : Packet) (i : ℕ) (t : ChannelSlot) (got : received_of l received ≡ PacketIs p)
+module _ (l : Lent) (received : List ℕ) (p : Packet) (i : ℕ) (t : ChannelSlot) (got : received_of l received ≡ (Ok p))
     (found : table_of (dropped l.state.header) l.state.slots l.rx p (body_of received p) ≡ with (stored (SlotClosed i) i t) l.rx) where
   step-closes : dispatch_step l received ≡ ends (then (begun (dropped l.state.header) l) (slot_to i t ∷ []) []) Done (frame_len p) []
   unfolding dispatch_step dispatch_by act_on acted_by unless_fault
@@ -106,7 +106,7 @@ clse-goes-live w out received r len i y whole fits room decoded some there =
     let k : place_of (Live r) n ss < n = omega arith in
     let P = place_of (Live r) n ss in
     let t = closed_slot (slot_in ss P) in
-    let got : received_of l (bytes_in received) ≡ PacketIs p = ap received_by decoded in
+    let got : received_of l (bytes_in received) ≡ (Ok p) = ap received_by decoded in
     let s = step-closes l (bytes_in received) p P t got (ap (λ (z : _). with z w.rx) (close-lowest r n ss some k)) in
     let o : outcome w x ≡ ends (then (begun (dropped l.state.header) l) (slot_to P t ∷ []) []) Done (frame_len p) [] =
     cond-true (is_whole w.state) _ _ whole ∙ cond-true (stores_fit l.state.header.negotiated.config (length w.rx) (length w.store)) _ _ fits

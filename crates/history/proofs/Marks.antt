@@ -11,28 +11,14 @@ use borrow.Author.Tests.{ltb-true}
 use Rattle.config.specs.declared.negotiated.RxPolicy.{RxPolicy}
 use Rattle.config.specs.Negotiated.{policy_of}
 use Rattle.config.proofs.Laws.{and-true}
-use Rattle.incoming.specs.declared.Front.{Front}
-use Rattle.incoming.specs.declared.Front.TheVariants.{Open as FrontOpen, Nothing as NoFront}
-use Rattle.incoming.specs.declared.Pushed.{Pushed}
-use Rattle.incoming.specs.declared.Pushed.TheVariants.{Queued, Full}
 use Rattle.incoming.specs.Incoming.{PushOutcome, pushed, withdrawal, popped, returned}
 use Rattle.protocol.specs.declared.command.Command.{Command}
 use Rattle.protocol.specs.declared.packet.Packet.{Packet}
 use Rattle.protocol.specs.Command.{is_ready}
 use Rattle.slot.specs.declared.ids.LocalId.{LocalId}
 use Rattle.slot.specs.declared.ids.RemoteId.{RemoteId}
-use Rattle.slot.specs.declared.AckDecision.{AckDecision}
-use Rattle.slot.specs.declared.AckDecision.TheVariants.{Now, Hold, Overflow, Early}
-use Rattle.slot.specs.declared.Budget.{Budget}
-use Rattle.slot.specs.declared.Budget.TheVariants.{Bytes, Nothing as NoBudget}
 use Rattle.slot.specs.declared.ChannelSlot.{ChannelSlot}
-use Rattle.slot.specs.declared.Failed.{Failed}
-use Rattle.slot.specs.declared.Failed.TheVariants.{No, By}
-use Rattle.slot.specs.declared.Readied.{Readied}
-use Rattle.slot.specs.declared.Readied.TheVariants.{Slot, Bad}
 use Rattle.slot.specs.declared.Settled.{Settled}
-use Rattle.slot.specs.declared.Taken.{Taken}
-use Rattle.slot.specs.declared.Taken.TheVariants.{Data, Nothing as NothingTaken, Closed as ClosedTaken}
 use Rattle.slot.specs.Ids.{closed_by}
 use Rattle.slot.specs.Slot.{empty_slot, is_opening, is_failed, is_closed, has_data, settled_of, taken_of, took_of, take_len, delivered_of, closed_slot, spent_of, budget_of, ready_of, wrote_of}
 use Rattle.slot.proofs.Stays.{ReadiedStays, Stays, closed-stays, delivered-stays, ready-stays, settled-stays, spent-stays, took-stays, wrote-stays}
@@ -50,8 +36,6 @@ use Rattle.table_dispatch.specs.Dispatch.{remote_place, closed_at, close_of, rea
 use Rattle.table_dispatch.proofs.RouteLaws.{by-route}
 use Rattle.connection.specs.declared.Answer.{Answer}
 use Rattle.connection.specs.declared.Answer.TheVariants.{Written, Done}
-use Rattle.connection.specs.declared.Received.{Received}
-use Rattle.connection.specs.declared.Received.TheVariants.{Packet as PacketIs, Stop}
 use Rattle.connection.specs.Act.{Acted, pushed_by, acted_by, table_of, act_on}
 use Rattle.connection.specs.Calls.{Lent, Outcome, Work, begun, then, then_acted, ends, dropped, policy, body_of, frame_len, is_there, slot_for, ack_frames, received_of, dispatch_by, dispatch_step, settled_as, settle_step, taken_by, take_step, reread, read_settled, read_acted, is_direct, read_direct, read_by, read_taken, read_first, read_step, send_some, send_by, send_again, write_readied, write_acted, write_act, write_by, write_first, write_on, write_step, take_front_by, take_front_step, ids_in, offer_in, is_offered, reject_on, reject_step, let_go_step}
 use Rattle.connection.specs.Frames.{Frame, write_frame, frames_bytes, close_frame}
@@ -59,6 +43,11 @@ use Rattle.history.proofs.Acts.{NoSlot, pushed-slots, withdrawn-slots}
 use Rattle.connection.proofs.Slots.{slots_by, slots-by}
 use Rattle.history.proofs.Places.{TableOk, found-filled}
 use Rattle.history.proofs.Steps.{table-set}
+use Rattle.slot.specs.declared.ChannelFault.{ChannelFault as SlotFault}
+use Rattle.std.specs.Prelude.{Option, Some, None, Result, Ok, Err}
+use Rattle.credit.specs.declared.CreditFault.{CreditFault}
+use Rattle.slot.specs.declared.ChannelFault.TheVariants.{RxOverflow, UnexpectedCommand}
+use Rattle.slot.specs.declared.ChannelError.{ChannelError}
 
 -- whether a slot is filled, its local number, and of a place with no channel the total
 pub record Mark : Type 0 where
@@ -137,10 +126,10 @@ module _ (p : RxPolicy) (n : ℕ) (ss : List ChannelSlot) (rx : List ℕ) (ok : 
   tame-close remote local =
       pick tame-step (eqb local.0 0) (λ t. tame-closed (remote_place n ss remote) (CancelQueuedOpen remote)) (λ t. tame-closed (place_of (Local local) n ss) Unmatched)
 
-  tame-granted : (f : ℕ) (remote : RemoteId) (r : Readied) → ReadiedStays (slot_in ss f) r → tame-step (granted f (slot_in ss f) remote r)
+  tame-granted : (f : ℕ) (remote : RemoteId) (r : Result ChannelSlot CreditFault) → ReadiedStays (slot_in ss f) r → tame-step (granted f (slot_in ss f) remote r)
   unfolding granted
-  tame-granted f remote (Slot t) x = (stays-mark (slot_in ss f) t x, tt)
-  tame-granted f remote (Bad b) x = tt
+  tame-granted f remote (Ok t) x = (stays-mark (slot_in ss f) t x, tt)
+  tame-granted f remote (Err b) x = tt
 
   tame-ready : (remote : RemoteId) (local : LocalId) → tame-step (grant_of p n ss remote local payload)
   unfolding grant_of ready_at readied_of
@@ -149,16 +138,15 @@ module _ (p : RxPolicy) (n : ℕ) (ss : List ChannelSlot) (rx : List ℕ) (ok : 
       pick tame-step (ltb f n)
       (λ t. let fill = found-filled p n ss rx ok local (ltb-true f n t) in
       pick tame-step (is_failed (slot_in ss f).failed) (λ u. tt)
-      (λ u. subst (λ (r : Readied). tame-step (granted f (slot_in ss f) remote r)) (sym (cond-false (is_opening (slot_in ss f).state) _ _ (ok.opened f fill)))
+      (λ u. subst (λ (r : Result ChannelSlot CreditFault). tame-step (granted f (slot_in ss f) remote r)) (sym (cond-false (is_opening (slot_in ss f).state) _ _ (ok.opened f fill)))
       (tame-granted f remote (ready_of (slot_in ss f) payload p) (ready-stays (slot_in ss f) payload p))))
       (λ t. tt)
 
-  tame-wrote : (f : ℕ) (remote : RemoteId) (d : AckDecision) → Tame ss (wrote_by p f (slot_in ss f) remote payload rx (wrote_of (slot_in ss f) p (length payload)).slot d).step.changes
+  tame-wrote : (f : ℕ) (remote : RemoteId) (d : Result (Option ℕ) SlotFault) → Tame ss (wrote_by p f (slot_in ss f) remote payload rx (wrote_of (slot_in ss f) p (length payload)).slot d).step.changes
   unfolding wrote_by
-  tame-wrote f remote (Now len) = (stays-mark (slot_in ss f) (wrote_of (slot_in ss f) p (length payload)).slot (wrote-stays (slot_in ss f) p (length payload)), tt)
-  tame-wrote f remote Hold = (stays-mark (slot_in ss f) (wrote_of (slot_in ss f) p (length payload)).slot (wrote-stays (slot_in ss f) p (length payload)), tt)
-  tame-wrote f remote Overflow = tt
-  tame-wrote f remote Early = tt
+  tame-wrote f remote (Ok (Some len)) = (stays-mark (slot_in ss f) (wrote_of (slot_in ss f) p (length payload)).slot (wrote-stays (slot_in ss f) p (length payload)), tt)
+  tame-wrote f remote (Ok None) = (stays-mark (slot_in ss f) (wrote_of (slot_in ss f) p (length payload)).slot (wrote-stays (slot_in ss f) p (length payload)), tt)
+  tame-wrote f remote (Err why) = tt
 
   tame-write : (remote : RemoteId) (local : LocalId) → Tame ss (write_of p n ss remote local payload rx).step.changes
   unfolding write_of wrote_at
@@ -173,10 +161,10 @@ module _ (p : RxPolicy) (n : ℕ) (ss : List ChannelSlot) (rx : List ℕ) (ok : 
       (tame-write (record { 0 = a }) (record { 0 = l })) (tame-ready (record { 0 = a }) (record { 0 = l })) c
 
 module _ (ss : List ChannelSlot) (h : Header) (queue : List QueuedOpen) (payload store : List ℕ) (d : Dispatched) (t : Tame ss d.step.changes) where
-  tame-pushed : (remote : RemoteId) (o : PushOutcome) (r : Pushed) → NoSlot o.changes → Tame ss (pushed_by h store d remote o r).changes
+  tame-pushed : (remote : RemoteId) (o : PushOutcome) (r : Option Header) → NoSlot o.changes → Tame ss (pushed_by h store d remote o r).changes
   unfolding pushed_by
-  tame-pushed remote o (Queued more) e = tame-append ss d.step.changes o.changes t (tame-none _ o.changes e)
-  tame-pushed remote o Full e = t
+  tame-pushed remote o (Some more) e = tame-append ss d.step.changes o.changes t (tame-none _ o.changes e)
+  tame-pushed remote o None e = t
 
   tame-acted : (o : DispatchOutcome) → Tame ss (acted_by h queue payload store d o).changes
   unfolding acted_by
@@ -199,10 +187,10 @@ tame-act h ss queue rx store k payload ok =
     (tame-route (policy_of h.negotiated) h.negotiated.config.channels ss rx ok payload k.command k.arg0 k.arg1) (table_of h ss rx k payload).step.result
 
 -- what is taken keeps the mark
-abbrev tame-taken : ChannelSlot → Taken → Type 0
-tame-taken s (Data t n) = mark_of t ≡ mark_of s
-tame-taken s NothingTaken = Unit {0}
-tame-taken s (ClosedTaken e) = Unit {0}
+abbrev tame-taken : ChannelSlot → Result (Option (ChannelSlot × ℕ)) ChannelError → Type 0
+tame-taken s (Ok (Some (t, n))) = mark_of t ≡ mark_of s
+tame-taken s (Ok None) = Unit {0}
+tame-taken s (Err e) = Unit {0}
 
 taken-tame : (s : ChannelSlot) (room : ℕ) → tame-taken s (taken_of s room)
 unfolding taken_of
@@ -233,10 +221,10 @@ module _ (l : Lent) (ok : TableOk (policy l) l.state.header.negotiated.config.ch
       let s = slot_in ss ch.slot in
       (and-true s.filled (eqb s.local.0 ch.local.0) (and-true (ltb ch.slot l.state.header.negotiated.config.channels) (s.filled && eqb s.local.0 ch.local.0) t).1).0
 
-  dispatch-tame-by : (h : Header) (received : List ℕ) (r : Received) → h.negotiated ≡ l.state.header.negotiated → TableOk (policy_of h.negotiated) h.negotiated.config.channels ss l.rx → tame (dispatch_by l h received r)
+  dispatch-tame-by : (h : Header) (received : List ℕ) (r : Result Packet (Answer × ℕ)) → h.negotiated ≡ l.state.header.negotiated → TableOk (policy_of h.negotiated) h.negotiated.config.channels ss l.rx → tame (dispatch_by l h received r)
   unfolding dispatch_by
-  dispatch-tame-by h received (Stop a used) e o = tame-plain h a used []
-  dispatch-tame-by h received (PacketIs k) e o =
+  dispatch-tame-by h received (Err (a, used)) e o = tame-plain h a used []
+  dispatch-tame-by h received (Ok k) e o =
       let act = act_on h ss l.state.queue l.rx l.store k (body_of received k) in
       tame-ends ss (then_acted (begun h l) act) _ (frame_len k) [] (tame-act h ss l.state.queue l.rx l.store k (body_of received k) o)
 
@@ -257,22 +245,22 @@ module _ (l : Lent) (ok : TableOk (policy l) l.state.header.negotiated.config.ch
   unfolding take_step taken_by taken_of slot_for
   take-tame ch room =
       let s = slot_in ss ch.slot in
-      let P : Taken → Type 0 = λ y. tame (taken_by l ch s (begun h0 l) y) in
+      let P : Result (Option (ChannelSlot × ℕ)) ChannelError → Type 0 = λ y. tame (taken_by l ch s (begun h0 l) y) in
       pick tame (is_there l ch)
       (λ t. pick P (has_data s) (λ d. tame-ends ss (then (begun h0 l) (slot_to ch.slot (took_of s (take_len s room)) ∷ []) []) _ 0 _ (stays-mark s _ (took-stays s (take_len s room)), tt))
       (λ d. pick P (is_closed s.state) (λ c. tame-plain h0 _ 0 []) (λ c. tame-plain h0 _ 0 [])))
       (λ t. tame-plain h0 _ 0 [])
 
-  front-tame-by : (h : Header) (xs : List Change) (f : Front) → Tame ss xs → tame (take_front_by l h xs f)
+  front-tame-by : (h : Header) (xs : List Change) (f : Option (QueuedOpen × Header)) → Tame ss xs → tame (take_front_by l h xs f)
   unfolding take_front_by
-  front-tame-by h xs (FrontOpen q less) t = tame-ends ss (then (begun less l) xs []) _ 0 [] t
-  front-tame-by h xs NoFront t = tame-plain h _ 0 []
+  front-tame-by h xs (Some (q, less)) t = tame-ends ss (then (begun less l) xs []) _ 0 [] t
+  front-tame-by h xs None t = tame-plain h _ 0 []
 
   pub front-tame : tame (take_front_step l)
   unfolding take_front_step popped
   front-tame =
       front-tame-by h0 (popped h0 l.state.queue).changes (popped h0 l.state.queue).result
-      (pick (λ (x : Step Front). Tame ss x.changes) (eqb h0.queued 0) (λ t. tt) (λ t. tt))
+      (pick (λ (x : Step (Option (QueuedOpen × Header))). Tame ss x.changes) (eqb h0.queued 0) (λ t. tt) (λ t. tt))
 
   -- ---- reject, let go
 
@@ -342,11 +330,11 @@ module _ (l : Lent) (ok : TableOk (policy l) l.state.header.negotiated.config.ch
           tame-ends ss (then w3 (slot_to j t ∷ []) []) a used bs
           (tame-then ss w3 j t [] (tame-append ss w2.changes [] tame2 tt) (e ∙ mark3))
 
-      reread-tame : (y : Taken) (used : ℕ) (fault : Failed) → tame-taken r3.slot y → tame (reread ch p.rx_cap used fault w3 r3.slot y)
+      reread-tame : (y : Result (Option (ChannelSlot × ℕ)) ChannelError) (used : ℕ) (fault : Option SlotFault) → tame-taken r3.slot y → tame (reread ch p.rx_cap used fault w3 r3.slot y)
       unfolding reread
-      reread-tame (Data t n) used fault e = tame3 t _ used _ e
-      reread-tame NothingTaken used fault e = tame3 r3.slot _ used [] refl
-      reread-tame (ClosedTaken x) used fault e = tame3 r3.slot _ used [] refl
+      reread-tame (Ok (Some (t, n))) used fault e = tame3 t _ used _ e
+      reread-tame (Ok None) used fault e = tame3 r3.slot _ used [] refl
+      reread-tame (Err x) used fault e = tame3 r3.slot _ used [] refl
 
       acted-tame : (used : ℕ) → tame (read_acted l ch room used (then w1 (slot_to j s1 ∷ []) []) act)
       unfolding read_acted read_settled
@@ -355,7 +343,7 @@ module _ (l : Lent) (ok : TableOk (policy l) l.state.header.negotiated.config.ch
           subst (λ (x : ChannelSlot). tame (read_settled l ch room used act.fault (then_acted (then w1 (slot_to j s1 ∷ []) []) act) (settled_of x p room))) (sym e)
           (reread-tame (taken_of r3.slot room) used act.fault (taken-tame r3.slot room))
 
-      packet-tame : tame (read_by l ch room w1 s1 received (PacketIs k))
+      packet-tame : tame (read_by l ch room w1 s1 received (Ok k))
       unfolding read_by read_direct
       packet-tame =
           pick tame (is_direct s1 room k)
@@ -364,16 +352,16 @@ module _ (l : Lent) (ok : TableOk (policy l) l.state.header.negotiated.config.ch
           (λ u. read-end-tame (closed_slot s1) [] _ (frame_len k) [] (stays-mark s1 (closed_slot s1) (closed-stays s1) ∙ mark1))
           (λ u. acted-tame (frame_len k)))
 
-    received-tame : (r : Received) → tame (read_by l ch room w1 s1 received r)
+    received-tame : (r : Result Packet (Answer × ℕ)) → tame (read_by l ch room w1 s1 received r)
     unfolding read_by
-    received-tame (Stop a used) = read-end-tame s1 [] a used [] mark1
-    received-tame (PacketIs k) = packet-tame k
+    received-tame (Err (a, used)) = read-end-tame s1 [] a used [] mark1
+    received-tame (Ok k) = packet-tame k
 
-    taken-by-tame : (y : Taken) → tame-taken s1 y → tame (read_taken l ch room w1 s1 received y)
+    taken-by-tame : (y : Result (Option (ChannelSlot × ℕ)) ChannelError) → tame-taken s1 y → tame (read_taken l ch room w1 s1 received y)
     unfolding read_taken
-    taken-by-tame (Data t n) e = read-end-tame t [] _ 0 _ (e ∙ mark1)
-    taken-by-tame NothingTaken e = pick tame s1.has_remote (λ t. received-tame (received_of l received)) (λ t. read-end-tame s1 [] _ 0 [] mark1)
-    taken-by-tame (ClosedTaken x) e = read-end-tame s1 [] _ 0 [] mark1
+    taken-by-tame (Ok (Some (t, n))) e = read-end-tame t [] _ 0 _ (e ∙ mark1)
+    taken-by-tame (Ok None) e = pick tame s1.has_remote (λ t. received-tame (received_of l received)) (λ t. read-end-tame s1 [] _ 0 [] mark1)
+    taken-by-tame (Err x) e = read-end-tame s1 [] _ 0 [] mark1
 
   pub read-tame : (ch : ChannelId) (room : ℕ) (received : List ℕ) → tame (read_step l ch room received)
   unfolding read_step read_first slot_for
@@ -395,10 +383,10 @@ module _ (l : Lent) (ok : TableOk (policy l) l.state.header.negotiated.config.ch
         (λ u. tame-ends ss (then w (slot_to jw (spent_of s p n) ∷ []) (write_frame (ids_in s) (take n bytes) ∷ [])) (Written n) used []
         (tame-then ss w jw (spent_of s p n) (write_frame (ids_in s) (take n bytes) ∷ []) t (stays-mark s _ (spent-stays s p n) ∙ e)))
 
-    by-tame : (used : ℕ) (w : Work) (s : ChannelSlot) (x : Budget) → Tame ss w.changes → mark_of s ≡ mark_of (slot_in (slots_by ss w.changes) jw) → tame (send_by l ch out bytes used w s x)
+    by-tame : (used : ℕ) (w : Work) (s : ChannelSlot) (x : Option ℕ) → Tame ss w.changes → mark_of s ≡ mark_of (slot_in (slots_by ss w.changes) jw) → tame (send_by l ch out bytes used w s x)
     unfolding send_by
-    by-tame used w s (Bytes most) t e = some-tame used w s _ t e
-    by-tame used w s NoBudget t e = tame-ends ss (then w (slot_to jw s ∷ []) []) _ used [] (tame-then ss w jw s [] t e)
+    by-tame used w s (Some most) t e = some-tame used w s _ t e
+    by-tame used w s None t e = tame-ends ss (then w (slot_to jw s ∷ []) []) _ used [] (tame-then ss w jw s [] t e)
 
     again-tame : (used : ℕ) (w : Work) (s : ChannelSlot) → Tame ss w.changes → mark_of s ≡ mark_of (slot_in (slots_by ss w.changes) jw) → tame (send_again l ch out bytes used w s)
     unfolding send_again
@@ -411,31 +399,31 @@ module _ (l : Lent) (ok : TableOk (policy l) l.state.header.negotiated.config.ch
     abbrev s0 : ChannelSlot
     s0 = slot_in ss jw
 
-    readied-tame : (used : ℕ) (r : Readied) → ReadiedStays s0 r → tame (write_readied l ch out bytes used w0 s0 r)
+    readied-tame : (used : ℕ) (r : Result ChannelSlot CreditFault) → ReadiedStays s0 r → tame (write_readied l ch out bytes used w0 s0 r)
     unfolding write_readied
-    readied-tame used (Slot t) x = again-tame used w0 t tt (stays-mark s0 t x)
-    readied-tame used (Bad b) x = tame-plain h0 _ used []
+    readied-tame used (Ok t) x = again-tame used w0 t tt (stays-mark s0 t x)
+    readied-tame used (Err b) x = tame-plain h0 _ used []
 
-    fault-tame : (used : ℕ) (k : Packet) (f : Failed) → tame (write_acted l ch out bytes used w0 (act_on h0 ss l.state.queue l.rx l.store k (body_of received k)) f)
+    fault-tame : (used : ℕ) (k : Packet) (f : Option SlotFault) → tame (write_acted l ch out bytes used w0 (act_on h0 ss l.state.queue l.rx l.store k (body_of received k)) f)
     unfolding write_acted
-    fault-tame used k (By f) = tame-ends ss (then_acted w0 (act_on h0 ss l.state.queue l.rx l.store k (body_of received k))) _ used [] (tame-act h0 ss l.state.queue l.rx l.store k (body_of received k) ok)
-    fault-tame used k No =
+    fault-tame used k (Some f) = tame-ends ss (then_acted w0 (act_on h0 ss l.state.queue l.rx l.store k (body_of received k))) _ used [] (tame-act h0 ss l.state.queue l.rx l.store k (body_of received k) ok)
+    fault-tame used k None =
         let a = act_on h0 ss l.state.queue l.rx l.store k (body_of received k) in
         again-tame used (then_acted w0 a) _ (tame-act h0 ss l.state.queue l.rx l.store k (body_of received k) ok) (ap (λ (x : List ChannelSlot). mark_of (slot_in x jw)) (slots-by l.state a.changes))
 
-    write-received-tame : (r : Received) → tame (write_by l ch out bytes w0 s0 received r)
+    write-received-tame : (r : Result Packet (Answer × ℕ)) → tame (write_by l ch out bytes w0 s0 received r)
     unfolding write_by write_act
-    write-received-tame (Stop a used) = tame-plain h0 a used []
-    write-received-tame (PacketIs k) =
+    write-received-tame (Err (a, used)) = tame-plain h0 a used []
+    write-received-tame (Ok k) =
         pick tame (is_ready k.command && eqb k.arg1 s0.local.0) (λ t. readied-tame (frame_len k) (ready_of s0 (body_of received k) p) (ready-stays s0 (body_of received k) p))
         (λ t. pick tame (closed_by (ids_in s0) k)
         (λ u. tame-ends ss (then w0 (slot_to jw (closed_slot s0) ∷ []) []) _ (frame_len k) [] (stays-mark s0 (closed_slot s0) (closed-stays s0), tt))
         (λ u. fault-tame (frame_len k) k (act_on h0 ss l.state.queue l.rx l.store k (body_of received k)).fault))
 
-    first-tame : (x : Budget) → tame (write_first l ch out bytes received w0 s0 x)
+    first-tame : (x : Option ℕ) → tame (write_first l ch out bytes received w0 s0 x)
     unfolding write_first
-    first-tame (Bytes most) = some-tame 0 w0 s0 _ tt refl
-    first-tame NoBudget = pick tame s0.has_remote (λ t. write-received-tame (received_of l received)) (λ t. tame-plain h0 _ 0 [])
+    first-tame (Some most) = some-tame 0 w0 s0 _ tt refl
+    first-tame None = pick tame s0.has_remote (λ t. write-received-tame (received_of l received)) (λ t. tame-plain h0 _ 0 [])
 
   pub write-tame : (ch : ChannelId) (out : ℕ) (bytes received : List ℕ) → tame (write_step l ch out bytes received)
   unfolding write_step write_on slot_for

@@ -11,11 +11,10 @@ use Rattle.config.specs.declared.negotiated.Negotiated.{Negotiated}
 use Rattle.config.specs.Config.{within_limits, stores_fit}
 use Rattle.config.specs.Negotiated.{negotiated_of}
 use Rattle.config.proofs.Laws.{and-true, within}
-use Rattle.state.specs.State.{none_queued}
+use Rattle.state.specs.State.{none_queued, state_len, Connection, layout, state_of, is_state}
 use Rattle.slot.specs.Slot.{empty_slot}
 use Rattle.slot.proofs.Laws.{cond-true, cond-false}
 use Rattle.state.specs.Change.{changed_all, put_all}
-use Rattle.state.specs.State.{state_len, Connection, layout, state_of, is_state}
 use Rattle.state_whole.specs.Whole.{queue_fine, is_whole}
 use Rattle.le.proofs.RowLaws.{Every, never}
 use Rattle.state.proofs.StateLaws.{OpenFits, state-split, state-forth, state-fits, layout-is-state}
@@ -277,7 +276,7 @@ module _ (w : World) (is : is_whole w.state ≡ true)
   all-8 (x ∷ cs) = ap (λ (y : World). after_all y cs) (after-8 x) ∙ all-8 cs
 
   answer-8 : (x : Call) → answer_number (outcome w x).answer ≡ 8
-  unfolding answer_number refusal_number
+  unfolding answer_number
   answer-8 x = ap (λ (o : Outcome). answer_number o.answer) (call-8 x)
 
 pub always-8 : Always8

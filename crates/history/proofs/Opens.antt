@@ -17,25 +17,17 @@ use Rattle.protocol.specs.Packet.{payload_limit}
 use Rattle.protocol.proofs.RoundTrip.{Says}
 use Rattle.protocol.specs.Command.{is_ready, is_close, is_write}
 use Rattle.slot.specs.declared.ChannelSlot.{ChannelSlot}
-use Rattle.slot.specs.declared.Failed.{Failed}
-use Rattle.slot.specs.declared.Failed.TheVariants.{No, By}
-use Rattle.slot.specs.declared.Readied.{Readied}
 use Rattle.credit.proofs.CreditLaws.{by_number}
-use Rattle.slot.specs.declared.Readied.TheVariants.{Slot, Bad}
 use Rattle.slot.specs.Slot.{opening_slot, opened_of}
 use Rattle.slot.proofs.Kept.{pick}
 use Rattle.slot.proofs.Laws.{cond-true, cond-false}
 use Rattle.state.specs.declared.Header.{Header}
 use Rattle.state.specs.Change.{slot_to, changed_all}
 use Rattle.state.specs.State.{is_ours}
-use Rattle.table.specs.declared.Allocated.{Allocated}
-use Rattle.table.specs.declared.Allocated.TheVariants.{Channel, NoFree}
 use Rattle.table.specs.declared.ChannelId.{ChannelId}
 use Rattle.table.specs.Table.{allocated, numbered, slot_in}
 use Rattle.connection.specs.declared.Answer.{Answer}
 use Rattle.connection.specs.declared.Answer.TheVariants.{Waiting, Opened, Refused}
-use Rattle.connection.specs.declared.Received.{Received}
-use Rattle.connection.specs.declared.Received.TheVariants.{Packet as PacketIs}
 use Rattle.connection.specs.declared.Refusal.{Refusal}
 use Rattle.connection.specs.declared.Refusal.TheVariants.{InvalidCommand, InvalidMagic, PayloadTooLarge, InvalidChecksum, BadCredit, UnexpectedCommand, BadConfig, StoreShort, OutShort, ChannelClosed, ChannelRxOverflow, NoFreeChannels, BrokenState}
 use Rattle.connection.specs.Act.{Acted, act_on}
@@ -51,6 +43,10 @@ use Rattle.history.proofs.Packets.{Got, stopped, packet, got, Marked, reads-writ
 use Rattle.connection.proofs.Slots.{slots_by, slot-set-other}
 use Rattle.history.proofs.Places.{TableOk}
 use Rattle.history.proofs.Steps.{saw, saw_of, stop-good, packet-good, acted-good, not-four, tells-fault, waiting-four, Fine, ends-fine, bad-four}
+use Rattle.slot.specs.declared.ChannelFault.{ChannelFault}
+use Rattle.std.specs.Prelude.{Option, Some, None, Result, Ok, Err}
+use Rattle.credit.specs.declared.CreditFault.{CreditFault}
+use Rattle.table.specs.declared.NoFreeChannels.{NoFreeChannels as NoFree}
 
 pub and-false : (x : Bool) → (x && false) ≡ false
 and-false true = refl
@@ -90,10 +86,10 @@ module _ (l : Lent) (credit : Terms) (ok : TableOk (policy l) l.state.header.neg
   unfolding packet_b
   unused a = g
 
-  on_fine : (out : ℕ) (destination : List ℕ) (a : Allocated) → open-fine (open_on l out destination a)
+  on_fine : (out : ℕ) (destination : List ℕ) (a : Result ChannelId NoFree) → open-fine (open_on l out destination a)
   unfolding open_on
-  on_fine out destination NoFree = open-ends (begun (dropped h) l) (Refused NoFreeChannels) 0 refl refl refl (unused (Refused NoFreeChannels))
-  on_fine out destination (Channel ch) =
+  on_fine out destination (Err _) = open-ends (begun (dropped h) l) (Refused NoFreeChannels) 0 refl refl refl (unused (Refused NoFreeChannels))
+  on_fine out destination (Ok ch) =
       pick open-fine (ltb payload_limit (length destination)) (λ t. open-ends (begun (numbered (dropped h)) l) (Refused PayloadTooLarge) 0 refl refl refl (unused (Refused PayloadTooLarge)))
       (λ t. pick open-fine (ltb out (24 + length destination))
       (λ u e. acked-none p credit _ _ _ (unused (Refused OutShort)) (acks_of b.local fs) e)
@@ -121,15 +117,15 @@ module _ (l : Lent) (credit : Terms) (ok : TableOk (policy l) l.state.header.neg
           (frame-none books i b.acked m body a b (ap (λ (x : Bool). x && eqb m.arg1 b.local) (reads-write received lim9 k sy ∙ r.0))
           (ap (λ (x : Bool). x && cond (eqb m.arg1 0) (not (eqb m.arg0 0) && (eqb (named_in m.arg0 books) i)) (eqb m.arg1 b.local)) ec)) g)
 
-      readied-fine : is_ready k.command ≡ true → (r : Readied) → open-fine (open_readied l ch k.arg0 (frame_len k) r)
-      unfolding open_readied answer_number refusal_number
-      readied-fine rd (Slot t) = open-ends (then (begun (dropped h) l) (slot_to ch.slot t ∷ []) []) (Opened ch) (frame_len k) (slot-set-other ss ch.slot i t away) refl refl (okay-taken (Opened ch) refl rd)
-      readied-fine rd (Bad b) =
+      readied-fine : is_ready k.command ≡ true → (r : Result ChannelSlot CreditFault) → open-fine (open_readied l ch k.arg0 (frame_len k) r)
+      unfolding open_readied answer_number
+      readied-fine rd (Ok t) = open-ends (then (begun (dropped h) l) (slot_to ch.slot t ∷ []) []) (Opened ch) (frame_len k) (slot-set-other ss ch.slot i t away) refl refl (okay-taken (Opened ch) refl rd)
+      readied-fine rd (Err b) =
           open-ends (then (begun (dropped h) l) [] (close_frame (record { local = ch.local; remote = record { 0 = k.arg0 } }) ∷ [])) (Refused (BadCredit b)) (frame_len k) refl refl refl (okay-taken (Refused (BadCredit b)) (bad-four b) rd)
 
       -- a WRTE too early, whose number a channel may share
       early-fine : is_write k.command ≡ true → open-fine (ends (then (begun (dropped h) l) [] (close_frame (record { local = ch.local; remote = record { 0 = k.arg0 } }) ∷ [])) (Refused UnexpectedCommand) (frame_len k) [])
-      unfolding answer_number refusal_number frame_b
+      unfolding answer_number frame_b
       early-fine wr =
           let a : Answer = Refused UnexpectedCommand in
           let nc = write-no-close k.command wr in
@@ -144,7 +140,7 @@ module _ (l : Lent) (credit : Terms) (ok : TableOk (policy l) l.state.header.neg
 
       -- a CLSE ends it, and closes no book
       ended-fine : is_close k.command ≡ true → open-fine (ends (begun (dropped h) l) (Refused ChannelClosed) (frame_len k) [])
-      unfolding answer_number refusal_number packet_b
+      unfolding answer_number packet_b
       ended-fine cl =
           let ec : (is_clse m && true) ≡ true = ap (λ (x : Bool). x && true) (reads-close received lim9 k sy ∙ cl) in
           open-ends (begun (dropped h) l) (Refused ChannelClosed) (frame_len k) refl refl refl
@@ -159,7 +155,7 @@ module _ (l : Lent) (credit : Terms) (ok : TableOk (policy l) l.state.header.neg
       not-ended =
           by-test (is_close k.command)
           (λ t. let e = close-fault h ss l.state.queue l.rx l.store k body t in
-          ap (λ (x : Failed). is_clse m && is_refused (answer_number (unless_fault x Waiting))) e ∙ and-false (is_clse m))
+          ap (λ (x : Option ChannelFault). is_clse m && is_refused (answer_number (unless_fault x Waiting))) e ∙ and-false (is_clse m))
           (λ t. ap (λ (x : Bool). x && is_refused (answer_number (unless_fault act.fault Waiting))) (reads-close received lim9 k sy ∙ t))
 
       acted-fine : open-fine (open_acted l (frame_len k) act)
@@ -173,7 +169,7 @@ module _ (l : Lent) (credit : Terms) (ok : TableOk (policy l) l.state.header.neg
           (acted-good h ss l.state.queue l.rx l.store ok credit lim i there b g books mk received k sy b.acked (omega arith) a (tells-fault (mine_of ss i k) act.fault Waiting refl)))
           (acks_of b.local fs) (e ∙ acted-acks h ss l.state.queue l.rx l.store k body b.local))
 
-      packet-fine : open-fine (open_by l ch received (PacketIs k))
+      packet-fine : open-fine (open_by l ch received (Ok k))
       unfolding open_by
       packet-fine =
           let mine = eqb k.arg1 ch.local.0 in
@@ -181,7 +177,7 @@ module _ (l : Lent) (credit : Terms) (ok : TableOk (policy l) l.state.header.neg
           (λ t. pick open-fine (is_write k.command && mine) (λ u. early-fine (and-true (is_write k.command) mine u).0)
           (λ u. pick open-fine (is_close k.command && mine) (λ v. ended-fine (and-true (is_close k.command) mine v).0) (λ v. acted-fine)))
 
-    by-fine : (r : Received) → Got received h.negotiated.config.max_payload r → open-fine (open_by l ch received r)
+    by-fine : (r : Result Packet (Answer × ℕ)) → Got received h.negotiated.config.max_payload r → open-fine (open_by l ch received r)
     unfolding open_by
     by-fine r (stopped a used st) = open-ends (begun (still_pending a h) l) a used refl refl refl (stop-good p credit _ lim _ _ b g books i received (ends_open (answer_number a)) a used fs [] st)
     by-fine r (packet k sy) = packet-fine k sy
@@ -198,7 +194,6 @@ module _ (l : Lent) (credit : Terms) (ok : TableOk (policy l) l.state.header.neg
 
 -- a refusal's number is one
 pub refused-is : (r : Refusal) → is_refused (refusal_number r) ≡ true
-unfolding refusal_number
 refused-is (InvalidCommand word) = refl
 refused-is InvalidMagic = refl
 refused-is PayloadTooLarge = refl
@@ -223,7 +218,7 @@ pub data Opens (l : Lent) (received : List ℕ) : Outcome → Type 0 where
       → x.answer ≡ Opened (record { slot = l.state.header.pending.slot; local = l.state.header.pending.local })
       → slots_by l.state.slots x.changes ≡ set l.state.slots l.state.header.pending.slot t → x.rx ≡ l.rx → x.frames ≡ [] → is_ours l.state.header.pending.what ≡ true
       → is_ours (changed_all l.state x.changes).header.pending.what ≡ false
-      → opened_of (opening_slot l.state.header.pending.local) (record { 0 = k.arg0 }) (body_of received k) (policy l) ≡ Slot t → Opens l received x
+      → opened_of (opening_slot l.state.header.pending.local) (record { 0 = k.arg0 }) (body_of received k) (policy l) ≡ Ok t → Opens l received x
   leaves : (x : Outcome) → eqb (answer_number x.answer) 0 ≡ false → Tame l.state.slots x.changes → Opens l received x
 
 module _ (l : Lent) (ok : TableOk (policy l) l.state.header.negotiated.config.channels l.state.slots l.rx) (received : List ℕ) where
@@ -237,10 +232,10 @@ module _ (l : Lent) (ok : TableOk (policy l) l.state.header.negotiated.config.ch
   unfolding ends
   plain w a used e t = leaves (ends w a used []) e (tame-ends ws w a used [] t)
 
-  opens-on : (out : ℕ) (destination : List ℕ) (a : Allocated) → Opens l received (open_on l out destination a)
-  unfolding open_on answer_number refusal_number
-  opens-on out destination NoFree = plain (begun (dropped hh) l) (Refused NoFreeChannels) 0 refl tt
-  opens-on out destination (Channel ch) =
+  opens-on : (out : ℕ) (destination : List ℕ) (a : Result ChannelId NoFree) → Opens l received (open_on l out destination a)
+  unfolding open_on answer_number
+  opens-on out destination (Err _) = plain (begun (dropped hh) l) (Refused NoFreeChannels) 0 refl tt
+  opens-on out destination (Ok ch) =
       pick (Opens l received) (ltb payload_limit (length destination)) (λ t. plain (begun (numbered (dropped hh)) l) (Refused PayloadTooLarge) 0 refl tt)
       (λ t. pick (Opens l received) (ltb out (24 + length destination)) (λ u. leaves (untouched l OutShort) refl tt)
       (λ u. plain (then (begun (pending_for (numbered (dropped hh)) ch) l) [] (open_frame ch.local (offered_credit hh.negotiated) destination ∷ [])) Waiting 0 refl tt))
@@ -248,16 +243,16 @@ module _ (l : Lent) (ok : TableOk (policy l) l.state.header.negotiated.config.ch
   abbrev wch : ChannelId
   wch = record { slot = hh.pending.slot; local = hh.pending.local }
 
-  opens-readied : is_ours hh.pending.what ≡ true → (k : Packet) → Says received hh.negotiated.config.max_payload k → (r : Readied)
+  opens-readied : is_ours hh.pending.what ≡ true → (k : Packet) → Says received hh.negotiated.config.max_payload k → (r : Result ChannelSlot CreditFault)
       → opened_of (opening_slot hh.pending.local) (record { 0 = k.arg0 }) (body_of received k) (policy l) ≡ r → Opens l received (open_readied l wch k.arg0 (frame_len k) r)
-  unfolding open_readied ends answer_number refusal_number
-  opens-readied on k sy (Slot t) e = fills _ t k sy refl refl refl refl on refl e
-  opens-readied on k sy (Bad b) e = plain (then (begun (dropped hh) l) [] (close_frame (record { local = hh.pending.local; remote = record { 0 = k.arg0 } }) ∷ [])) (Refused (BadCredit b)) (frame_len k) (by_number (λ n. eqb n 0 ≡ false) refl refl refl b) tt
+  unfolding open_readied ends answer_number
+  opens-readied on k sy (Ok t) e = fills _ t k sy refl refl refl refl on refl e
+  opens-readied on k sy (Err b) e = plain (then (begun (dropped hh) l) [] (close_frame (record { local = hh.pending.local; remote = record { 0 = k.arg0 } }) ∷ [])) (Refused (BadCredit b)) (frame_len k) (by_number (λ n. eqb n 0 ≡ false) refl refl refl b) tt
 
-  not_opened : (f : Failed) → eqb (answer_number (unless_fault f Waiting)) 0 ≡ false
+  not_opened : (f : Option ChannelFault) → eqb (answer_number (unless_fault f Waiting)) 0 ≡ false
   unfolding unless_fault answer_number
-  not_opened No = refl
-  not_opened (By f) = refused-some (fault_refusal f)
+  not_opened None = refl
+  not_opened (Some f) = refused-some (fault_refusal f)
 
   opens-acted : (k : Packet) → Opens l received (open_acted l (frame_len k) (act_on hh ws l.state.queue l.rx l.store k (body_of received k)))
   unfolding open_acted
@@ -266,8 +261,8 @@ module _ (l : Lent) (ok : TableOk (policy l) l.state.header.negotiated.config.ch
       let a = unless_fault b.fault Waiting in
       plain (storing (then_acted (begun hh l) b) (still_pending a b.header)) a (frame_len k) (not_opened b.fault) (tame-act hh ws l.state.queue l.rx l.store k (body_of received k) ok)
 
-  opens_by : is_ours hh.pending.what ≡ true → (r : Received) → Got received hh.negotiated.config.max_payload r → Opens l received (open_by l wch received r)
-  unfolding open_by answer_number refusal_number
+  opens_by : is_ours hh.pending.what ≡ true → (r : Result Packet (Answer × ℕ)) → Got received hh.negotiated.config.max_payload r → Opens l received (open_by l wch received r)
+  unfolding open_by answer_number
   opens_by on r (stopped a used st) = plain (begun (still_pending a hh) l) a used st.undone tt
   opens_by on r (packet k sy) =
       let mine = eqb k.arg1 hh.pending.local.0 in

@@ -10,8 +10,6 @@ use borrow.Author.Tests.{ltb-true}
 use Rattle.le.specs.Le.{num_of}
 use Rattle.config.specs.declared.negotiated.RxPolicy.{RxPolicy}
 use Rattle.config.specs.Negotiated.{policy_of, offered_credit}
-use Rattle.incoming.specs.declared.Front.{Front}
-use Rattle.incoming.specs.declared.Front.TheVariants.{Open as FrontOpen, Nothing as NoFront}
 use Rattle.incoming.specs.Incoming.{popped}
 use Rattle.protocol.specs.declared.command.Command.{Command}
 use Rattle.protocol.specs.declared.command.Command.TheVariants.{Write}
@@ -19,17 +17,10 @@ use Rattle.protocol.specs.declared.packet.Packet.{Packet}
 use Rattle.protocol.specs.Packet.{payload_limit}
 use Rattle.protocol.proofs.RoundTrip.{Says}
 use Rattle.protocol.specs.Command.{is_ready, is_close, is_write, is_the, word_of, letters_of}
-use Rattle.slot.specs.declared.Budget.{Budget}
-use Rattle.slot.specs.declared.Budget.TheVariants.{Bytes, Nothing as NoBudget}
 use Rattle.credit.proofs.CreditLaws.{by_number}
 use Rattle.credit.specs.declared.CreditFault.{CreditFault}
 use Rattle.slot.specs.declared.ChannelFault.TheVariants.{RxOverflow, BadCredit, UnexpectedCommand as WriteEarly}
 use Rattle.slot.specs.declared.ChannelSlot.{ChannelSlot}
-use Rattle.slot.specs.declared.Failed.{Failed}
-use Rattle.slot.specs.declared.Failed.TheVariants.{No, By}
-use Rattle.slot.specs.declared.Readied.{Readied}
-use Rattle.slot.specs.declared.Readied.TheVariants.{Slot, Bad}
-use Rattle.slot.specs.declared.Taken.{Taken}
 use Rattle.slot.specs.declared.ids.LocalId.{LocalId}
 use Rattle.slot.specs.declared.ids.RemoteId.{RemoteId}
 use Rattle.slot.specs.Ids.{closed_by}
@@ -39,8 +30,6 @@ use Rattle.slot.proofs.Stays.{settled-stays}
 use Rattle.state.specs.declared.Header.{Header}
 use Rattle.state.specs.Change.{Step, Change, slot_to, changed_all}
 use Rattle.state.specs.State.{is_ours}
-use Rattle.table.specs.declared.Allocated.{Allocated}
-use Rattle.table.specs.declared.Allocated.TheVariants.{Channel, NoFree}
 use Rattle.table.specs.declared.ChannelId.{ChannelId}
 use Rattle.table_dispatch.specs.declared.DispatchOutcome.{DispatchOutcome}
 use Rattle.table_dispatch.specs.declared.DispatchOutcome.TheVariants.{CancelQueuedOpen, Unmatched}
@@ -50,8 +39,6 @@ use Rattle.table_dispatch.specs.Dispatch.{remote_place, closed_at, close_of, rea
 use Rattle.table_dispatch.proofs.RouteLaws.{by-route}
 use Rattle.connection.specs.declared.Answer.{Answer}
 use Rattle.connection.specs.declared.Answer.TheVariants.{Done, Waiting, Opened, Read, Written, Refused}
-use Rattle.connection.specs.declared.Received.{Received}
-use Rattle.connection.specs.declared.Received.TheVariants.{Packet as PacketIs}
 use Rattle.connection.specs.declared.Refusal.TheVariants.{ChannelClosed, NoFreeChannels, PayloadTooLarge, BadCredit as CreditRefused, UnexpectedCommand}
 use Rattle.connection.specs.Act.{Acted, table_of, act_on}
 use Rattle.connection.specs.Answer.{refusal_number, answer_number}
@@ -63,13 +50,18 @@ use Rattle.history.proofs.Marks.{there-filled}
 use Rattle.history.proofs.Packets.{Got, stopped, packet, got, set_same}
 use Rattle.history.proofs.Places.{TableOk, fault_of, found-filled, found_local}
 use Rattle.history.proofs.Steps.{table-set}
+use Rattle.slot.specs.declared.ChannelFault.{ChannelFault}
+use Rattle.std.specs.Prelude.{Option, Some, None, Result, Ok, Err}
+use Rattle.slot.specs.declared.ChannelError.{ChannelError}
+use Rattle.state.specs.declared.QueuedOpen.{QueuedOpen}
+use Rattle.table.specs.declared.NoFreeChannels.{NoFreeChannels as NoFree}
 
 -- a fault that is answered by 11
-abbrev pub over_in : Failed → Bool
-over_in No = false
-over_in (By RxOverflow) = true
-over_in (By (BadCredit b)) = false
-over_in (By WriteEarly) = false
+abbrev pub over_in : Option ChannelFault → Bool
+over_in None = false
+over_in (Some RxOverflow) = true
+over_in (Some (BadCredit b)) = false
+over_in (Some WriteEarly) = false
 
 -- a packet that does not fit: a WRTE with the number of a channel in the table
 pub record Over (ss : List ChannelSlot) (c : Command) (local : ℕ) : Type 0 where
@@ -91,10 +83,10 @@ module _ (p : RxPolicy) (n : ℕ) (ss : List ChannelSlot) (rx : List ℕ) (ok : 
   calm-close remote local =
       pick Calm (eqb local.0 0) (λ t. calm-closed (remote_place n ss remote) (CancelQueuedOpen remote) refl) (λ t. calm-closed (place_of (Local local) n ss) Unmatched refl)
 
-  calm-granted : (f : ℕ) (s : ChannelSlot) (remote : RemoteId) (r : Readied) → Calm (granted f s remote r)
+  calm-granted : (f : ℕ) (s : ChannelSlot) (remote : RemoteId) (r : Result ChannelSlot CreditFault) → Calm (granted f s remote r)
   unfolding granted
-  calm-granted f s remote (Slot t) = refl
-  calm-granted f s remote (Bad b) = refl
+  calm-granted f s remote (Ok t) = refl
+  calm-granted f s remote (Err b) = refl
 
   calm-stray : (remote : RemoteId) (local : LocalId) → over_in (fault_of (stray_of remote local)) ≡ false
   unfolding stray_of
@@ -137,21 +129,21 @@ abbrev Other : Answer → Type 0
 Other a = answer_number a ≡ 11 → ⊥
 
 bad-other : (b : CreditFault) → Other (Refused (CreditRefused b))
-unfolding answer_number refusal_number
+unfolding answer_number
 bad-other b = by_number (λ n. n ≡ 11 → ⊥) (λ e. omega arith) (λ e. omega arith) (λ e. omega arith) b
 
-unless-over : (f : Failed) (a : Answer) → Other a → answer_number (unless_fault f a) ≡ 11 → over_in f ≡ true
-unfolding unless_fault fault_refusal answer_number refusal_number
-unless-over No a h e = absurd (h e)
-unless-over (By RxOverflow) a h e = refl
-unless-over (By (BadCredit b)) a h e = absurd (bad-other b e)
-unless-over (By WriteEarly) a h e = absurd (omega arith)
+unless-over : (f : Option ChannelFault) (a : Answer) → Other a → answer_number (unless_fault f a) ≡ 11 → over_in f ≡ true
+unfolding unless_fault answer_number
+unless-over None a h e = absurd (h e)
+unless-over (Some RxOverflow) a h e = refl
+unless-over (Some (BadCredit b)) a h e = absurd (bad-other b e)
+unless-over (Some WriteEarly) a h e = absurd (omega arith)
 
 -- a channel that did not fail is closed by 10
-error-other : (f : Failed) → is_failed f ≡ false → Other (Refused (error_refusal (error_of f)))
-unfolding is_failed error_of error_refusal answer_number refusal_number
-error-other No e h = omega arith
-error-other (By f) e h = true≢false e
+error-other : (f : Option ChannelFault) → is_failed f ≡ false → Other (Refused (error_refusal (error_of f)))
+unfolding is_failed error_of answer_number
+error-other None e h = omega arith
+error-other (Some f) e h = true≢false e
 
 -- ---- the calls
 
@@ -173,34 +165,34 @@ module _ (l : Lent) (ok : TableOk (policy l) l.state.header.negotiated.config.ch
   never_ends w a used bs f = f
 
   pub settle-never : (ch : ChannelId) (want : ℕ) → Never (settle_step l ch want)
-  unfolding settle_step settled_as ends answer_number refusal_number
+  unfolding settle_step settled_as ends answer_number
   settle-never ch want = pick Never (is_there l ch) (λ t e. omega arith) (λ t e. omega arith)
 
   pub take-never : (ch : ChannelId) (room : ℕ) → Never (take_step l ch room)
-  unfolding take_step taken_of taken_by slot_for ends answer_number refusal_number
+  unfolding take_step taken_of taken_by slot_for ends answer_number
   take-never ch room =
       let s = slot_in ss ch.slot in
-      let P : Taken → Type 0 = λ y. Never (taken_by l ch s (begun h0 l) y) in
+      let P : Result (Option (ChannelSlot × ℕ)) ChannelError → Type 0 = λ y. Never (taken_by l ch s (begun h0 l) y) in
       pick Never (is_there l ch)
       (λ t. pick P (has_data s) (λ d e. omega arith)
       (λ d. pick P (is_closed s.state) (λ c. error-other s.failed (ok.unfailed ch.slot (there-filled l ok ch t))) (λ c e. omega arith)))
       (λ t e. omega arith)
 
   pub close_never : (ch : ChannelId) → Never (close_step l ch)
-  unfolding close_step ends answer_number refusal_number
+  unfolding close_step ends answer_number
   close_never ch = pick Never (is_there l ch && (slot_for l ch).has_remote) (λ t e. omega arith) (λ t e. omega arith)
 
-  front_by : (h : Header) (xs : List Change) (f : Front) → Never (take_front_by l h xs f)
+  front_by : (h : Header) (xs : List Change) (f : Option (QueuedOpen × Header)) → Never (take_front_by l h xs f)
   unfolding take_front_by ends answer_number
-  front_by h xs (FrontOpen q less) e = omega arith
-  front_by h xs NoFront e = omega arith
+  front_by h xs (Some (q, less)) e = omega arith
+  front_by h xs None e = omega arith
 
   pub front-never : Never (take_front_step l)
   unfolding take_front_step
   front-never = front_by h0 (popped h0 l.state.queue).changes (popped h0 l.state.queue).result
 
   pub numbers-never : (ch : ChannelId) → Never (looked l (numbers_for l ch))
-  unfolding numbers_for numbers_in answer_number refusal_number
+  unfolding numbers_for numbers_in answer_number
   numbers-never ch =
       let N : ℕ → Type 0 = λ n. n ≡ 11 → ⊥ in
       pick (λ (a : Answer). N (answer_number a)) (is_there l ch)
@@ -214,10 +206,10 @@ module _ (l : Lent) (ok : TableOk (policy l) l.state.header.negotiated.config.ch
   unfolding let_go_step ends answer_number
   let-go-never = pick Never (is_offered l) (λ t e. omega arith) (λ t e. omega arith)
 
-  accept-on : (remote : RemoteId) (credit : ℕ) (x : Allocated) → Never (accept_on l h0 remote credit x)
-  unfolding accept_on reject_on ends answer_number refusal_number
-  accept-on remote credit NoFree e = omega arith
-  accept-on remote credit (Channel ch) e = omega arith
+  accept-on : (remote : RemoteId) (credit : ℕ) (x : Result ChannelId NoFree) → Never (accept_on l h0 remote credit x)
+  unfolding accept_on reject_on ends answer_number
+  accept-on remote credit (Err _) e = omega arith
+  accept-on remote credit (Ok ch) e = omega arith
 
   pub accept-never : Never (accept_step l)
   unfolding accept_step ends answer_number
@@ -244,11 +236,11 @@ module _ (l : Lent) (ok : TableOk (policy l) l.state.header.negotiated.config.ch
     other w a used bs f e = absurd (f e)
 
     -- a packet that was dispatched
-    acted : (w : Work) (f : Failed) (a : Answer) (k : Packet) (bs : List ℕ) → Says received limit k → Other a → (over_in f ≡ true → Over ss k.command k.arg1) → E (ends w (unless_fault f a) (frame_len k) bs)
+    acted : (w : Work) (f : Option ChannelFault) (a : Answer) (k : Packet) (bs : List ℕ) → Says received limit k → Other a → (over_in f ≡ true → Over ss k.command k.arg1) → E (ends w (unless_fault f a) (frame_len k) bs)
     unfolding ends
     acted w f a k bs s o v e = record { packet-of = k; says = s; over = v (unless-over f a o e); used = refl }
 
-    dispatch-by : (r : Received) → Got received limit r → E (dispatch_by l h0 received r)
+    dispatch-by : (r : Result Packet (Answer × ℕ)) → Got received limit r → E (dispatch_by l h0 received r)
     unfolding dispatch_by answer_number
     dispatch-by r (stopped a used s) = other (begun h0 l) a used [] s.under
     dispatch-by r (packet k s) = acted _ _ Done k [] s (λ e. omega arith) (over-act h0 ss l k (body_of received k) ok)
@@ -302,7 +294,7 @@ module _ (l : Lent) (ok : TableOk (policy l) l.state.header.negotiated.config.ch
         reread-notes : (w : Work) (t : ChannelSlot) → is_failed t.failed ≡ false → E (reread ch p.rx_cap (frame_len k) act.fault w t (taken_of t room))
         unfolding reread taken_of answer_number
         reread-notes w t f =
-            let P : Taken → Type 0 = λ y. E (reread ch p.rx_cap (frame_len k) act.fault w t y) in
+            let P : Result (Option (ChannelSlot × ℕ)) ChannelError → Type 0 = λ y. E (reread ch p.rx_cap (frame_len k) act.fault w t y) in
             pick P (has_data t) (λ d. other (then w (slot_to ch.slot (took_of t (take_len t room)) ∷ []) []) (Read (take_len t room)) (frame_len k) _ (λ e. omega arith))
             (λ d. pick P (is_closed t.state)
             (λ c. acted (then w (slot_to ch.slot t ∷ []) []) act.fault (Refused (error_refusal (error_of t.failed))) k [] s (error-other t.failed f) over1)
@@ -316,29 +308,29 @@ module _ (l : Lent) (ok : TableOk (policy l) l.state.header.negotiated.config.ch
             ap (λ (x : List Change). slot_in (changed_all l.state (x ++ act.changes)).slots ch.slot) e ∙ ap (λ (x : List ChannelSlot). slot_in x ch.slot) (slots-by l.state (slot_to ch.slot s1 ∷ act.changes)) in
             reread-notes _ (settled_of t p room).slot (ap is_failed ((settled-stays t p room).failed ∙ ap (λ (x : ChannelSlot). x.failed) z) ∙ fine2)
 
-        packet-notes : (w : Work) → w.header ≡ h0 → w.changes ≡ [] → E (read_by l ch room w s1 received (PacketIs k))
-        unfolding read_by read_direct answer_number refusal_number
+        packet-notes : (w : Work) → w.header ≡ h0 → w.changes ≡ [] → E (read_by l ch room w s1 received (Ok k))
+        unfolding read_by read_direct answer_number
         packet-notes w eh e =
             pick E (is_direct s1 room k) (λ t. other _ (Read (length (body_of received k))) (frame_len k) (body_of received k) (λ e. omega arith))
             (λ t. pick E (closed_by (ids_in s1) k) (λ u. other _ (Refused ChannelClosed) (frame_len k) [] (λ e. omega arith))
             (λ u. subst (λ (h : Header). E (read_acted l ch room (frame_len k) (then w (slot_to ch.slot s1 ∷ []) []) (act_on h ss1 l.state.queue l.rx l.store k (body_of received k)))) (sym eh)
             (acted-notes (then w (slot_to ch.slot s1 ∷ []) []) (ap (λ (x : List Change). x ++ slot_to ch.slot s1 ∷ []) e))))
 
-      received-notes : (w : Work) → w.header ≡ h0 → w.changes ≡ [] → (r : Received) → Got received limit r → E (read_by l ch room w s1 received r)
+      received-notes : (w : Work) → w.header ≡ h0 → w.changes ≡ [] → (r : Result Packet (Answer × ℕ)) → Got received limit r → E (read_by l ch room w s1 received r)
       unfolding read_by
       received-notes w eh e r (stopped a used s) = other (then w (slot_to ch.slot s1 ∷ []) []) a used [] s.under
       received-notes w eh e r (packet k s) = packet-notes k s w eh e
 
       taken-notes : (w : Work) → w.header ≡ h0 → w.changes ≡ [] → E (read_taken l ch room w s1 received (taken_of s1 room))
-      unfolding read_taken taken_of answer_number refusal_number
+      unfolding read_taken taken_of answer_number
       taken-notes w eh e =
-          let P : Taken → Type 0 = λ y. E (read_taken l ch room w s1 received y) in
+          let P : Result (Option (ChannelSlot × ℕ)) ChannelError → Type 0 = λ y. E (read_taken l ch room w s1 received y) in
           pick P (has_data s1) (λ d. other (then w (slot_to ch.slot (took_of s1 (take_len s1 room)) ∷ []) []) (Read (take_len s1 room)) 0 _ (λ e. omega arith))
           (λ d. pick P (is_closed s1.state) (λ c. other (then w (slot_to ch.slot s1 ∷ []) []) _ 0 [] (error-other s1.failed fine1))
           (λ c. pick E s1.has_remote (λ t. received-notes w eh e (received_of l received) (got l received)) (λ t. other (then w (slot_to ch.slot s1 ∷ []) []) (Refused ChannelClosed) 0 [] (λ e. omega arith))))
 
     pub read-notes : (ch : ChannelId) (room : ℕ) → E (read_step l ch room received)
-    unfolding read_step read_first slot_for answer_number refusal_number
+    unfolding read_step read_first slot_for answer_number
     read-notes ch room =
         pick E (is_there l ch) (λ t. taken-notes ch room (there-filled l ok ch t) _ refl refl) (λ t. other (begun h0 l) (Refused ChannelClosed) 0 [] (λ e. omega arith))
 
@@ -346,47 +338,47 @@ module _ (l : Lent) (ok : TableOk (policy l) l.state.header.negotiated.config.ch
 
     module _ (ch : ChannelId) (out : ℕ) (bytes : List ℕ) where
       some-notes : (used : ℕ) (w : Work) (s : ChannelSlot) (n : ℕ) → E (send_some l ch out bytes used w s n)
-      unfolding send_some answer_number refusal_number
+      unfolding send_some answer_number
       some-notes used w s n =
           pick E (ltb out (length (frames_bytes w.header.negotiated w.frames) + 24 + n)) (λ t e. absurd (omega arith))
           (λ t. other (then w (slot_to ch.slot (spent_of s p n) ∷ []) (write_frame (ids_in s) (take n bytes) ∷ [])) (Written n) used [] (λ e. omega arith))
 
-      send-notes : (used : ℕ) (w : Work) (s : ChannelSlot) (x : Budget) → E (send_by l ch out bytes used w s x)
+      send-notes : (used : ℕ) (w : Work) (s : ChannelSlot) (x : Option ℕ) → E (send_by l ch out bytes used w s x)
       unfolding send_by answer_number
-      send-notes used w s (Bytes most) = some-notes used w s _
-      send-notes used w s NoBudget = other (then w (slot_to ch.slot s ∷ []) []) Waiting used [] (λ e. omega arith)
+      send-notes used w s (Some most) = some-notes used w s _
+      send-notes used w s None = other (then w (slot_to ch.slot s ∷ []) []) Waiting used [] (λ e. omega arith)
 
       again-notes : (used : ℕ) (w : Work) (s : ChannelSlot) → E (send_again l ch out bytes used w s)
-      unfolding send_again answer_number refusal_number
+      unfolding send_again answer_number
       again-notes used w s =
           pick E (is_closed s.state) (λ t. other (then w (slot_to ch.slot s ∷ []) []) (Refused ChannelClosed) used [] (λ e. omega arith)) (λ t. send-notes used w s (budget_of s p))
 
-      readied-notes : (used : ℕ) (w : Work) (s : ChannelSlot) (r : Readied) → E (write_readied l ch out bytes used w s r)
-      unfolding write_readied answer_number refusal_number
-      readied-notes used w s (Slot t) = again-notes used w t
-      readied-notes used w s (Bad b) = other w (Refused (CreditRefused b)) used [] (bad-other b)
+      readied-notes : (used : ℕ) (w : Work) (s : ChannelSlot) (r : Result ChannelSlot CreditFault) → E (write_readied l ch out bytes used w s r)
+      unfolding write_readied answer_number
+      readied-notes used w s (Ok t) = again-notes used w t
+      readied-notes used w s (Err b) = other w (Refused (CreditRefused b)) used [] (bad-other b)
 
-      fault-notes : (k : Packet) → Says received limit k → (w : Work) (a : Acted) (f : Failed) → (over_in f ≡ true → Over ss k.command k.arg1) → E (write_acted l ch out bytes (frame_len k) w a f)
+      fault-notes : (k : Packet) → Says received limit k → (w : Work) (a : Acted) (f : Option ChannelFault) → (over_in f ≡ true → Over ss k.command k.arg1) → E (write_acted l ch out bytes (frame_len k) w a f)
       unfolding write_acted unless_fault answer_number
-      fault-notes k s w a (By f) v = acted (then_acted w a) (By f) Waiting k [] s (λ e. omega arith) v
-      fault-notes k s w a No v = again-notes (frame_len k) (then_acted w a) _
+      fault-notes k s w a (Some f) v = acted (then_acted w a) (Some f) Waiting k [] s (λ e. omega arith) v
+      fault-notes k s w a None v = again-notes (frame_len k) (then_acted w a) _
 
-      write-received-notes : (s : ChannelSlot) (r : Received) → Got received limit r → E (write_by l ch out bytes (begun h0 l) s received r)
-      unfolding write_by write_act answer_number refusal_number
+      write-received-notes : (s : ChannelSlot) (r : Result Packet (Answer × ℕ)) → Got received limit r → E (write_by l ch out bytes (begun h0 l) s received r)
+      unfolding write_by write_act answer_number
       write-received-notes s r (stopped a used st) = other (begun h0 l) a used [] st.under
       write-received-notes s r (packet k sy) =
           pick E (is_ready k.command && eqb k.arg1 s.local.0) (λ t. readied-notes (frame_len k) (begun h0 l) s (ready_of s (body_of received k) p))
           (λ t. pick E (closed_by (ids_in s) k) (λ u. other _ (Refused ChannelClosed) (frame_len k) [] (λ e. omega arith))
           (λ u. fault-notes k sy (begun h0 l) (act_on h0 ss l.state.queue l.rx l.store k (body_of received k)) _ (over-act h0 ss l k (body_of received k) ok)))
 
-      first-notes : (s : ChannelSlot) (x : Budget) → E (write_first l ch out bytes received (begun h0 l) s x)
-      unfolding write_first answer_number refusal_number
-      first-notes s (Bytes most) = some-notes 0 (begun h0 l) s _
-      first-notes s NoBudget =
+      first-notes : (s : ChannelSlot) (x : Option ℕ) → E (write_first l ch out bytes received (begun h0 l) s x)
+      unfolding write_first answer_number
+      first-notes s (Some most) = some-notes 0 (begun h0 l) s _
+      first-notes s None =
           pick E s.has_remote (λ t. write-received-notes s (received_of l received) (got l received)) (λ t. other (begun h0 l) (Refused ChannelClosed) 0 [] (λ e. omega arith))
 
       pub write-notes : E (write_step l ch out bytes received)
-      unfolding write_step write_on answer_number refusal_number
+      unfolding write_step write_on answer_number
       write-notes =
           pick E (eqb (length bytes) 0) (λ z. other (begun h0 l) (Written 0) 0 [] (λ e. omega arith))
           (λ z. pick E (is_there l ch)
@@ -395,21 +387,21 @@ module _ (l : Lent) (ok : TableOk (policy l) l.state.header.negotiated.config.ch
 
     -- ---- open
 
-    on-notes : (out : ℕ) (destination : List ℕ) (a : Allocated) → E (open_on l out destination a)
-    unfolding open_on answer_number refusal_number
-    on-notes out destination NoFree = other (begun h0 l) (Refused NoFreeChannels) 0 [] (λ e. omega arith)
-    on-notes out destination (Channel ch) =
+    on-notes : (out : ℕ) (destination : List ℕ) (a : Result ChannelId NoFree) → E (open_on l out destination a)
+    unfolding open_on answer_number
+    on-notes out destination (Err _) = other (begun h0 l) (Refused NoFreeChannels) 0 [] (λ e. omega arith)
+    on-notes out destination (Ok ch) =
         pick E (ltb payload_limit (length destination)) (λ t. other (begun (numbered h0) l) (Refused PayloadTooLarge) 0 [] (λ e. omega arith))
         (λ t. pick E (ltb out (24 + length destination)) (λ u e. absurd (omega arith))
         (λ u. other (then (begun (pending_for (numbered h0) ch) l) [] (open_frame ch.local (offered_credit l.state.header.negotiated) destination ∷ [])) Waiting 0 [] (λ e. omega arith)))
 
-    open-readied-notes : (ch : ChannelId) (remote used : ℕ) (r : Readied) → E (open_readied l ch remote used r)
-    unfolding open_readied answer_number refusal_number
-    open-readied-notes ch remote used (Slot t) = other _ (Opened ch) used [] (λ e. omega arith)
-    open-readied-notes ch remote used (Bad b) = other _ (Refused (CreditRefused b)) used [] (bad-other b)
+    open-readied-notes : (ch : ChannelId) (remote used : ℕ) (r : Result ChannelSlot CreditFault) → E (open_readied l ch remote used r)
+    unfolding open_readied answer_number
+    open-readied-notes ch remote used (Ok t) = other _ (Opened ch) used [] (λ e. omega arith)
+    open-readied-notes ch remote used (Err b) = other _ (Refused (CreditRefused b)) used [] (bad-other b)
 
-    open-received-notes : (ch : ChannelId) (r : Received) → Got received limit r → E (open_by l ch received r)
-    unfolding open_by open_acted answer_number refusal_number
+    open-received-notes : (ch : ChannelId) (r : Result Packet (Answer × ℕ)) → Got received limit r → E (open_by l ch received r)
+    unfolding open_by open_acted answer_number
     open-received-notes ch r (stopped a used s) = other (begun (still_pending a l.state.header) l) a used [] s.under
     open-received-notes ch r (packet k s) =
         let mine = eqb k.arg1 ch.local.0 in

@@ -14,8 +14,6 @@ use Rattle.config.specs.declared.negotiated.RxPolicy.{RxPolicy}
 use Rattle.config.proofs.Laws.{and-true}
 use Rattle.protocol.specs.declared.command.Command.{Command}
 use Rattle.protocol.specs.declared.command.Command.TheVariants.{Sync, Connect, Open, Ready, Close, Write, Auth, StartTls}
-use Rattle.protocol.specs.declared.packet.Decoded.{Decoded}
-use Rattle.protocol.specs.declared.packet.Decoded.TheVariants.{Waiting as FrameWaiting, InvalidCommand as WordInvalid, InvalidMagic as MagicInvalid, PayloadTooLarge as LengthTooLarge, InvalidChecksum as SumInvalid, Accepted}
 use Rattle.protocol.specs.declared.packet.Packet.{Packet}
 use Rattle.protocol.specs.Command.{letters_of, word_of, is_ready, is_close, is_write, is_the}
 use Rattle.protocol.specs.Message.{message_of}
@@ -35,14 +33,15 @@ use Rattle.table.specs.Table.{first, wanted_by, place_of, slot_in}
 use Rattle.table_dispatch.proofs.DispatchLaws.{first_found}
 use Rattle.connection.specs.declared.Answer.{Answer}
 use Rattle.connection.specs.declared.Answer.TheVariants.{Waiting, Refused}
-use Rattle.connection.specs.declared.Received.{Received}
-use Rattle.connection.specs.declared.Received.TheVariants.{Packet as PacketIs, Stop}
 use Rattle.connection.specs.declared.Refusal.TheVariants.{InvalidCommand, InvalidMagic, PayloadTooLarge, InvalidChecksum}
 use Rattle.connection.specs.Answer.{refusal_number, answer_number}
 use Rattle.connection.specs.Calls.{Lent, received_by, received_of, body_of, frame_len}
 use Rattle.history.specs.Book.{Book, no_book, has_remote_id, is_live, named_in, is_wrte, is_clse, is_early, header_at, payload_at, closes_b, own_end}
 use Rattle.history.proofs.Places.{TableOk, first-le, found-there, place-le}
 use Rattle.history.proofs.Acts.{ends_of}
+use Rattle.protocol.specs.declared.packet.DecodeError.TheVariants.{InvalidCommand as WordInvalid, InvalidMagic as MagicInvalid, PayloadTooLarge as LengthTooLarge, InvalidChecksum as SumInvalid}
+use Rattle.protocol.specs.declared.packet.DecodeError.{DecodeError}
+use Rattle.std.specs.Prelude.{Option, Some, None, Result, Ok, Err}
 
 and-cond : (x y : Bool) → (x && y) ≡ cond x y false
 and-cond true y = refl
@@ -57,18 +56,18 @@ pub record Stops (a : Answer) (used : ℕ) : Type 0 where
   pub undone : eqb (answer_number a) 0 ≡ false
   pub under : answer_number a ≡ 11 → ⊥
 
-pub data Got (received : List ℕ) (limit : ℕ) : Received → Type 0 where
-  stopped : (a : Answer) (used : ℕ) → Stops a used → Got received limit (Stop a used)
-  packet : (k : Packet) → Says received limit k → Got received limit (PacketIs k)
+pub data Got (received : List ℕ) (limit : ℕ) : Result Packet (Answer × ℕ) → Type 0 where
+  stopped : (a : Answer) (used : ℕ) → Stops a used → Got received limit (Err (a, used))
+  packet : (k : Packet) → Says received limit k → Got received limit (Ok k)
 
-got-by : (received : List ℕ) (limit : ℕ) (d : Decoded) → decode_of received limit ≡ d → Got received limit (received_by d)
-unfolding received_by answer_number refusal_number
-got-by received limit FrameWaiting e = stopped Waiting 0 (record { quiet = λ n. refl; late = refl; undone = refl; under = λ e. omega arith })
-got-by received limit (WordInvalid word) e = stopped (Refused (InvalidCommand word)) 0 (record { quiet = λ n. refl; late = refl; undone = refl; under = λ e. omega arith })
-got-by received limit MagicInvalid e = stopped (Refused InvalidMagic) 0 (record { quiet = λ n. refl; late = refl; undone = refl; under = λ e. omega arith })
-got-by received limit LengthTooLarge e = stopped (Refused PayloadTooLarge) 0 (record { quiet = λ n. refl; late = refl; undone = refl; under = λ e. omega arith })
-got-by received limit (SumInvalid used) e = stopped (Refused InvalidChecksum) used (record { quiet = λ n. absurd (true≢false n); late = refl; undone = refl; under = λ e. omega arith })
-got-by received limit (Accepted k) e = packet k (says received limit k e)
+got-by : (received : List ℕ) (limit : ℕ) (d : Result (Option Packet) DecodeError) → decode_of received limit ≡ d → Got received limit (received_by d)
+unfolding received_by answer_number
+got-by received limit (Ok None) e = stopped Waiting 0 (record { quiet = λ n. refl; late = refl; undone = refl; under = λ e. omega arith })
+got-by received limit (Err (WordInvalid word)) e = stopped (Refused (InvalidCommand word)) 0 (record { quiet = λ n. refl; late = refl; undone = refl; under = λ e. omega arith })
+got-by received limit (Err MagicInvalid) e = stopped (Refused InvalidMagic) 0 (record { quiet = λ n. refl; late = refl; undone = refl; under = λ e. omega arith })
+got-by received limit (Err LengthTooLarge) e = stopped (Refused PayloadTooLarge) 0 (record { quiet = λ n. refl; late = refl; undone = refl; under = λ e. omega arith })
+got-by received limit (Err (SumInvalid used)) e = stopped (Refused InvalidChecksum) used (record { quiet = λ n. absurd (true≢false n); late = refl; undone = refl; under = λ e. omega arith })
+got-by received limit (Ok (Some k)) e = packet k (says received limit k e)
 
 pub got : (l : Lent) (received : List ℕ) → Got received l.state.header.negotiated.config.max_payload (received_of l received)
 unfolding received_of

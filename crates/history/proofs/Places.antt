@@ -18,16 +18,8 @@ use Rattle.rx_store.specs.RxStore.{Room, appended, appended_head, share_of, buff
 use Rattle.rx_store.proofs.Laws.{part-appended}
 use Rattle.slot.specs.declared.ids.LocalId.{LocalId}
 use Rattle.slot.specs.declared.ids.RemoteId.{RemoteId}
-use Rattle.slot.specs.declared.AckDecision.{AckDecision}
-use Rattle.slot.specs.declared.AckDecision.TheVariants.{Now, Hold, Overflow, Early}
-use Rattle.slot.specs.declared.ChannelFault.TheVariants.{RxOverflow, BadCredit}
+use Rattle.slot.specs.declared.ChannelFault.TheVariants.{RxOverflow, BadCredit, UnexpectedCommand}
 use Rattle.slot.specs.declared.ChannelSlot.{ChannelSlot}
-use Rattle.credit.specs.declared.Credit.{Credit}
-use Rattle.credit.specs.declared.Credit.TheVariants.{Of, Bad as CreditBad}
-use Rattle.slot.specs.declared.Failed.{Failed}
-use Rattle.slot.specs.declared.Failed.TheVariants.{No, By}
-use Rattle.slot.specs.declared.Readied.{Readied}
-use Rattle.slot.specs.declared.Readied.TheVariants.{Slot, Bad}
 use Rattle.slot.specs.declared.Wrote.{Wrote}
 use Rattle.slot.specs.Slot.{empty_slot, is_opening, is_failed, held_of, acks_now, buffered_with, wrote_of, ready_by, ready_of, closed_slot, SlotOk}
 use Rattle.credit.specs.Credit.{credit_of}
@@ -46,6 +38,9 @@ use Rattle.rx_store.proofs.ShareLaws.{share_in, buffered-own, buffered-other}
 use Rattle.connection.proofs.Slots.{slots_by, slot-set-same, slot-set-other}
 use Rattle.history.specs.Demand3.{run_of}
 use Rattle.history.proofs.Good.{Leaves}
+use Rattle.credit.specs.declared.CreditFault.{CreditFault}
+use Rattle.std.specs.Prelude.{ℤ, Option, Some, None, Result, Ok, Err}
+use Rattle.slot.specs.declared.ChannelFault.{ChannelFault as SlotFault}
 
 -- ---- a table of a whole state, its channels' numbers apart
 
@@ -124,15 +119,14 @@ unfolding held_of
 room_for s p k ok h = record { run_fits = ok.run_fits; more-fits = omega arith }
 
 -- what `apply_write` decides
-abbrev pub is_taken : AckDecision → Bool
-is_taken (Now len) = true
-is_taken Hold = true
-is_taken Overflow = false
-is_taken Early = false
+abbrev pub is_taken : Result (Option ℕ) SlotFault → Bool
+is_taken (Ok (Some len)) = true
+is_taken (Ok None) = true
+is_taken (Err why) = false
 
-pub data Decides (s : ChannelSlot) (p : RxPolicy) (k : ℕ) (d : AckDecision) : Type 0 where
+pub data Decides (s : ChannelSlot) (p : RxPolicy) (k : ℕ) (d : Result (Option ℕ) SlotFault) : Type 0 where
   buffers : is_taken d ≡ true → held_of s + k ≤ p.rx_cap → Decides s p k d
-  overflows : d ≡ Overflow → p.rx_cap < held_of s + k → Decides s p k d
+  overflows : d ≡ Err RxOverflow → p.rx_cap < held_of s + k → Decides s p k d
 
 pub decides : (s : ChannelSlot) (p : RxPolicy) (k : ℕ) → is_opening s.state ≡ false → Decides s p k (wrote_of s p k).decision
 unfolding wrote_of
@@ -147,10 +141,10 @@ pub record SameRun (s t : ChannelSlot) : Type 0 where
   pub head : t.head ≡ s.head
   pub more : t.buffered ≡ s.buffered
 
-ready-run-by : (s : ChannelSlot) (c : Credit) → Leaves (SameRun s) (ready_by s c)
+ready-run-by : (s : ChannelSlot) (c : Result ℤ CreditFault) → Leaves (SameRun s) (ready_by s c)
 unfolding ready_by
-ready-run-by s (Of z) = record { head = refl; more = refl }
-ready-run-by s (CreditBad b) = tt
+ready-run-by s (Ok z) = record { head = refl; more = refl }
+ready-run-by s (Err b) = tt
 
 pub ready-run : (s : ChannelSlot) (payload : List ℕ) (p : RxPolicy) → Leaves (SameRun s) (ready_of s payload p)
 unfolding ready_of
@@ -163,24 +157,24 @@ closed_run s = record { head = refl; more = refl }
 -- ---- what a packet does to one slot
 
 -- what `act_on` takes for a fault
-abbrev pub fault_of : DispatchOutcome → Failed
-fault_of (AckWrite i ids len) = No
-fault_of (CreditGranted i) = No
-fault_of (SlotClosed i) = No
-fault_of (DataBuffered i) = No
-fault_of (IncomingOpen remote credit) = No
-fault_of (CancelQueuedOpen remote) = No
-fault_of (StrayReady ids) = No
-fault_of (ChannelFault i ids opening f) = By f
-fault_of Unmatched = No
+abbrev pub fault_of : DispatchOutcome → Option SlotFault
+fault_of (AckWrite i ids len) = None
+fault_of (CreditGranted i) = None
+fault_of (SlotClosed i) = None
+fault_of (DataBuffered i) = None
+fault_of (IncomingOpen remote credit) = None
+fault_of (CancelQueuedOpen remote) = None
+fault_of (StrayReady ids) = None
+fault_of (ChannelFault i ids opening f) = Some f
+fault_of Unmatched = None
 
 -- mine: the packet is a WRTE with the slot's number; ends: it is a CLSE that closes the slot. What the packet leaves of slot
 -- and run, and the fault
-pub data At (p : RxPolicy) (s : ChannelSlot) (q payload : List ℕ) (mine ends : Bool) (t : ChannelSlot) (r : List ℕ) (fault : Failed) : Type 0 where
+pub data At (p : RxPolicy) (s : ChannelSlot) (q payload : List ℕ) (mine ends : Bool) (t : ChannelSlot) (r : List ℕ) (fault : Option SlotFault) : Type 0 where
   apart : mine ≡ false → ends ≡ false → t ≡ s → r ≡ q → At p s q payload mine ends t r fault
-  wrote : mine ≡ true → held_of s + length payload ≤ p.rx_cap → t ≡ (wrote_of s p (length payload)).slot → r ≡ q ++ payload → fault ≡ No → At p s q payload mine ends t r fault
-  over : mine ≡ true → p.rx_cap < held_of s + length payload → t ≡ s → r ≡ q → fault ≡ By RxOverflow → At p s q payload mine ends t r fault
-  credited : mine ≡ false → ends ≡ false → ready_of s payload p ≡ Slot t → r ≡ q → At p s q payload mine ends t r fault
+  wrote : mine ≡ true → held_of s + length payload ≤ p.rx_cap → t ≡ (wrote_of s p (length payload)).slot → r ≡ q ++ payload → fault ≡ None → At p s q payload mine ends t r fault
+  over : mine ≡ true → p.rx_cap < held_of s + length payload → t ≡ s → r ≡ q → fault ≡ Some RxOverflow → At p s q payload mine ends t r fault
+  credited : mine ≡ false → ends ≡ false → ready_of s payload p ≡ Ok t → r ≡ q → At p s q payload mine ends t r fault
   shut : mine ≡ false → ends ≡ true → t ≡ closed_slot s → r ≡ q → At p s q payload mine ends t r fault
 
 -- the same of what dispatching leaves at place i
@@ -232,41 +226,39 @@ module _ (p : RxPolicy) (n : ℕ) (ss : List ChannelSlot) (rx : List ℕ) (ok : 
       ∙ part-appended share s.head s.buffered payload r2
 
   -- a WRTE, by what the slot decides: for the slot at place i itself
-  at_own : (remote : RemoteId) (t : ChannelSlot) (d : AckDecision) (ends : Bool) → Decides (slot_in ss i) p (length payload) d → t ≡ (wrote_of (slot_in ss i) p (length payload)).slot
+  at_own : (remote : RemoteId) (t : ChannelSlot) (d : Result (Option ℕ) SlotFault) (ends : Bool) → Decides (slot_in ss i) p (length payload) d → t ≡ (wrote_of (slot_in ss i) p (length payload)).slot
       → AtPlace p ss rx i payload true ends (wrote_by p i (slot_in ss i) remote payload rx t d)
   unfolding wrote_by run_of
-  at_own remote t (Now len) ends (buffers e h) w =
+  at_own remote t (Ok (Some len)) ends (buffers e h) w =
       let s = slot_in ss i in
       let z = own_is t in
       let r = room_for s p (length payload) (ok.sound i there) h in
       let g = grown s p (length payload) (ok.opened i there) h in
       wrote refl h (z ∙ w) (ap (run_of (buffered_in rx p.rx_cap i s.head s.buffered payload) p.rx_cap i) z ∙ run-own s t.head t.buffered (ok.below i there) r (ap (λ (x : ChannelSlot). x.head) w ∙ g.head) (ap (λ (x : ChannelSlot). x.buffered) w ∙ g.more)) refl
-  at_own remote t Hold ends (buffers e h) w =
+  at_own remote t (Ok None) ends (buffers e h) w =
       let s = slot_in ss i in
       let z = own_is t in
       let r = room_for s p (length payload) (ok.sound i there) h in
       let g = grown s p (length payload) (ok.opened i there) h in
       wrote refl h (z ∙ w) (ap (run_of (buffered_in rx p.rx_cap i s.head s.buffered payload) p.rx_cap i) z ∙ run-own s t.head t.buffered (ok.below i there) r (ap (λ (x : ChannelSlot). x.head) w ∙ g.head) (ap (λ (x : ChannelSlot). x.buffered) w ∙ g.more)) refl
-  at_own remote t Overflow ends (buffers e h) w = absurd (true≢false (sym e))
-  at_own remote t Early ends (buffers e h) w = absurd (true≢false (sym e))
-  at_own remote t d ends (overflows e h) w = subst (λ (x : AckDecision). AtPlace p ss rx i payload true ends (wrote_by p i (slot_in ss i) remote payload rx t x)) (sym e) (over refl h refl refl refl)
+  at_own remote t (Err why) ends (buffers e h) w = absurd (true≢false (sym e))
+  at_own remote t d ends (overflows e h) w = subst (λ (x : Result (Option ℕ) SlotFault). AtPlace p ss rx i payload true ends (wrote_by p i (slot_in ss i) remote payload rx t x)) (sym e) (over refl h refl refl refl)
 
   -- for a slot at another place
-  at-else : (f : ℕ) (remote : RemoteId) (t : ChannelSlot) (d : AckDecision) (ends : Bool) → f < n → (i ≡ f → ⊥) → SlotOk (slot_in ss f) p.rx_cap → Decides (slot_in ss f) p (length payload) d → ends ≡ false
+  at-else : (f : ℕ) (remote : RemoteId) (t : ChannelSlot) (d : Result (Option ℕ) SlotFault) (ends : Bool) → f < n → (i ≡ f → ⊥) → SlotOk (slot_in ss f) p.rx_cap → Decides (slot_in ss f) p (length payload) d → ends ≡ false
       → AtPlace p ss rx i payload false ends (wrote_by p f (slot_in ss f) remote payload rx t d)
   unfolding wrote_by
-  at-else f remote t (Now len) ends h ne sound (buffers e k) x =
+  at-else f remote t (Ok (Some len)) ends h ne sound (buffers e k) x =
       let z = slot-set-other ss f i t ne in
       let r = room_for (slot_in ss f) p (length payload) sound k in
       apart refl x z (ap (run_of (buffered_in rx p.rx_cap f (slot_in ss f).head (slot_in ss f).buffered payload) p.rx_cap i) z ∙ run-other f (slot_in ss f) (slot_in ss i) h ne r)
-  at-else f remote t Hold ends h ne sound (buffers e k) x =
+  at-else f remote t (Ok None) ends h ne sound (buffers e k) x =
       let z = slot-set-other ss f i t ne in
       let r = room_for (slot_in ss f) p (length payload) sound k in
       apart refl x z (ap (run_of (buffered_in rx p.rx_cap f (slot_in ss f).head (slot_in ss f).buffered payload) p.rx_cap i) z ∙ run-other f (slot_in ss f) (slot_in ss i) h ne r)
-  at-else f remote t Overflow ends h ne sound (buffers e k) x = absurd (true≢false (sym e))
-  at-else f remote t Early ends h ne sound (buffers e k) x = absurd (true≢false (sym e))
+  at-else f remote t (Err why) ends h ne sound (buffers e k) x = absurd (true≢false (sym e))
   at-else f remote t d ends h ne sound (overflows e k) x =
-      subst (λ (y : AckDecision). AtPlace p ss rx i payload false ends (wrote_by p f (slot_in ss f) remote payload rx t y)) (sym e) (apart refl x refl refl)
+      subst (λ (y : Result (Option ℕ) SlotFault). AtPlace p ss rx i payload false ends (wrote_by p f (slot_in ss f) remote payload rx t y)) (sym e) (apart refl x refl refl)
 
   abbrev at-write-for : ℕ → LocalId → RemoteId → Bool → Type 0
   at-write-for f local remote mine =
@@ -302,18 +294,18 @@ module _ (p : RxPolicy) (n : ℕ) (ss : List ChannelSlot) (rx : List ℕ) (ok : 
       (λ u. subst (AtPlace p ss rx i payload false false) (sym (cond-false (ltb f n) _ _ u)) (at_left Unmatched false false refl refl))))
 
   -- an OKAY
-  at-granted : (f : ℕ) (remote : RemoteId) (r : Readied) → f < n → ready_of (slot_in ss f) payload p ≡ r → AtPlace p ss rx i payload false false (with (granted f (slot_in ss f) remote r) rx)
+  at-granted : (f : ℕ) (remote : RemoteId) (r : Result ChannelSlot CreditFault) → f < n → ready_of (slot_in ss f) payload p ≡ r → AtPlace p ss rx i payload false false (with (granted f (slot_in ss f) remote r) rx)
   unfolding granted
-  at-granted f remote (Slot t) h e =
+  at-granted f remote (Ok t) h e =
       by-test (eqb i f)
       (λ u. let d = eqb-true i f u in
-      let e2 : ready_of (slot_in ss i) payload p ≡ Slot t = ap (λ (x : ℕ). ready_of (slot_in ss x) payload p) d ∙ e in
+      let e2 : ready_of (slot_in ss i) payload p ≡ (Ok t) = ap (λ (x : ℕ). ready_of (slot_in ss x) payload p) d ∙ e in
       subst (λ (x : ℕ). AtPlace p ss rx i payload false false (with (stored (CreditGranted x) x t) rx)) d
       (let z = own_is t in
       let w = subst (Leaves (SameRun (slot_in ss i))) e2 (ready-run (slot_in ss i) payload p) in
-      credited refl refl (e2 ∙ ap Slot (sym z)) (ap (run_of rx p.rx_cap i) z ∙ run-same t (slot_in ss i) w)))
+      credited refl refl (e2 ∙ ap Ok (sym z)) (ap (run_of rx p.rx_cap i) z ∙ run-same t (slot_in ss i) w)))
       (λ u. at_other (CreditGranted f) f t false false refl refl (eqb-false i f u))
-  at-granted f remote (Bad b) h e = at_left (faulted f (slot_in ss f) remote (BadCredit b)) false false refl refl
+  at-granted f remote (Err b) h e = at_left (faulted f (slot_in ss f) remote (BadCredit b)) false false refl refl
 
   pub at_ready : (remote : RemoteId) (local : LocalId) → AtPlace p ss rx i payload false false (with (grant_of p n ss remote local payload) rx)
   unfolding grant_of ready_at readied_of

@@ -15,8 +15,6 @@ use Rattle.config.specs.Config.{stores_fit}
 use Rattle.config.specs.Negotiated.{negotiated_of, policy_of}
 use Rattle.config.proofs.Laws.{and-true}
 use Rattle.rx_store.proofs.Laws.{share-before}
-use Rattle.incoming.specs.declared.Front.{Front}
-use Rattle.incoming.specs.declared.Front.TheVariants.{Open as FrontOpen, Nothing as NoFront}
 use Rattle.incoming.specs.Incoming.{Incoming, queued_as, queued_opens, withdrawn, with_queued, offering, PushOutcome, next_share, pushed, withdrawal, popped, returned}
 use Rattle.incoming.proofs.ListLaws.{push-waits, withdrawal-waits, popped-waits, popped-offers, returned-waits}
 use Rattle.protocol.specs.declared.command.Command.{Command}
@@ -25,16 +23,6 @@ use Rattle.protocol.specs.declared.packet.Packet.{Packet}
 use Rattle.protocol.specs.Packet.{payload_limit}
 use Rattle.protocol.specs.Command.{is_ready, is_close, is_write}
 use Rattle.slot.specs.declared.ChannelSlot.{ChannelSlot}
-use Rattle.slot.specs.declared.AckDecision.{AckDecision}
-use Rattle.slot.specs.declared.AckDecision.TheVariants.{Now, Hold, Overflow, Early}
-use Rattle.slot.specs.declared.Budget.{Budget}
-use Rattle.slot.specs.declared.Budget.TheVariants.{Bytes as Most, Nothing as NoBudget}
-use Rattle.slot.specs.declared.Failed.{Failed}
-use Rattle.slot.specs.declared.Failed.TheVariants.{No, By}
-use Rattle.slot.specs.declared.Readied.{Readied}
-use Rattle.slot.specs.declared.Readied.TheVariants.{Slot, Bad}
-use Rattle.slot.specs.declared.Taken.{Taken}
-use Rattle.slot.specs.declared.Taken.TheVariants.{Data, Nothing as NothingTaken, Closed as ClosedTaken}
 use Rattle.slot.specs.Ids.{closed_by}
 use Rattle.slot.specs.Slot.{empty_slot, is_closed, is_failed, settled_of, spent_of, budget_of}
 use Rattle.slot.specs.declared.ids.LocalId.{LocalId}
@@ -51,8 +39,6 @@ use Rattle.le.proofs.RowLaws.{walk_here, never}
 use Rattle.state.proofs.ChangeLaws.{changes-append}
 use Rattle.state_whole.proofs.WholeLaws.{Live, Whole, whole-own}
 use Rattle.state_whole.proofs.LiveLaws.{settled-live}
-use Rattle.table.specs.declared.Allocated.{Allocated}
-use Rattle.table.specs.declared.Allocated.TheVariants.{Channel, NoFree}
 use Rattle.table.specs.declared.ChannelId.{ChannelId}
 use Rattle.table_dispatch.specs.declared.DispatchOutcome.{DispatchOutcome}
 use Rattle.table_dispatch.specs.declared.DispatchOutcome.TheVariants.{AckWrite, CreditGranted, SlotClosed, DataBuffered, IncomingOpen, CancelQueuedOpen, StrayReady, ChannelFault, Unmatched}
@@ -63,8 +49,6 @@ use Rattle.table_dispatch.proofs.DispatchLaws.{named-found}
 use Rattle.table_dispatch.proofs.KeepLaws.{dispatch-keeps}
 use Rattle.connection.specs.declared.Answer.{Answer}
 use Rattle.connection.specs.declared.Answer.TheVariants.{Numbers as NumbersAre, Done, Waiting, Nothing, Opened, Settled, Read, Written, Front as FrontIs, Refused}
-use Rattle.connection.specs.declared.Received.{Received}
-use Rattle.connection.specs.declared.Received.TheVariants.{Packet as PacketIs, Stop}
 use Rattle.connection.specs.declared.Refusal.{Refusal}
 use Rattle.connection.specs.Frames.{Frame, frames_bytes}
 use Rattle.connection.specs.declared.Refusal.TheVariants.{StoreShort, OutShort, ChannelClosed, BrokenState}
@@ -77,6 +61,12 @@ use Rattle.history.proofs.Bytes.{bytes-in}
 use Rattle.connection.proofs.Decoding.{ReceivedFits, received-fits}
 use Rattle.history.proofs.Never13.{Holds, holds-whole, holds_kept, holds-all, state-after, made-state, starts, holds_after}
 use Rattle.history.proofs.Heads.{call-offer}
+use Rattle.slot.specs.declared.ChannelFault.{ChannelFault as SlotFault}
+use Rattle.std.specs.Prelude.{Option, Some, None, Result, Ok, Err}
+use Rattle.credit.specs.declared.CreditFault.{CreditFault}
+use Rattle.slot.specs.declared.ChannelFault.TheVariants.{RxOverflow, UnexpectedCommand}
+use Rattle.slot.specs.declared.ChannelError.{ChannelError}
+use Rattle.table.specs.declared.NoFreeChannels.{NoFreeChannels}
 
 length-waits : (payload : ℕ) (store : List ℕ) (qs : List QueuedOpen) → length (queued_opens payload store qs) ≡ length qs
 unfolding queued_opens
@@ -115,10 +105,10 @@ module _ (p : RxPolicy) (n : ℕ) (ss : List ChannelSlot) (payload rx : List ℕ
       (λ t. by-test (ltb (remote_place n ss remote) n) (λ u. rw (t, u)) (λ u. rw (t, u)))
       (λ t. by-test (ltb (place_of (Local local) n ss) n) (λ u. rw (t, u)) (λ u. rw (t, u)))
 
-  granted-stays : (i : ℕ) (s : ChannelSlot) (remote : RemoteId) (r : Readied) → step_stays (granted i s remote r)
+  granted-stays : (i : ℕ) (s : ChannelSlot) (remote : RemoteId) (r : Result ChannelSlot CreditFault) → step_stays (granted i s remote r)
   unfolding granted move_by
-  granted-stays i s remote (Slot t) = refl
-  granted-stays i s remote (Bad b) = refl
+  granted-stays i s remote (Ok t) = refl
+  granted-stays i s remote (Err b) = refl
 
   ready-stays : (remote : RemoteId) (local : LocalId) → step_stays (grant_of p n ss remote local payload)
   unfolding grant_of ready_at stray_of move_by
@@ -128,12 +118,11 @@ module _ (p : RxPolicy) (n : ℕ) (ss : List ChannelSlot) (payload rx : List ℕ
       (λ t. pick (λ (o : DispatchOutcome). move_by payload o ≡ stays) (eqb remote.0 0) (λ u. refl)
       (λ u. pick (λ (o : DispatchOutcome). move_by payload o ≡ stays) (eqb local.0 0) (λ v. refl) (λ v. refl)))
 
-  wrote-stays : (i : ℕ) (s t : ChannelSlot) (remote : RemoteId) (d : AckDecision) → wrote_stays (wrote_by p i s remote payload rx t d)
+  wrote-stays : (i : ℕ) (s t : ChannelSlot) (remote : RemoteId) (d : Result (Option ℕ) SlotFault) → wrote_stays (wrote_by p i s remote payload rx t d)
   unfolding wrote_by move_by
-  wrote-stays i s t remote (Now len) = refl
-  wrote-stays i s t remote Hold = refl
-  wrote-stays i s t remote Overflow = refl
-  wrote-stays i s t remote Early = refl
+  wrote-stays i s t remote (Ok (Some len)) = refl
+  wrote-stays i s t remote (Ok None) = refl
+  wrote-stays i s t remote (Err why) = refl
 
   write-stays : (remote : RemoteId) (local : LocalId) → wrote_stays (table_write p n ss remote local payload rx)
   unfolding table_write wrote_at move_by
@@ -373,11 +362,11 @@ module _ (l : Lent) (g : Whole (negotiated l) l.state.header l.state.slots l.sta
   unfolding settle_step settled_as
   settle-moves m ch want = pick (Moves l m) (is_there l ch) (λ t. ends-left l m _ _ 0 [] (left-none l m b0 still0)) (λ t. gone-moves m)
 
-  taken-moves : (m : QueueMove) (ch : ChannelId) (s : ChannelSlot) (r : Taken) → Moves l m (taken_by l ch s b0 r)
+  taken-moves : (m : QueueMove) (ch : ChannelId) (s : ChannelSlot) (r : Result (Option (ChannelSlot × ℕ)) ChannelError) → Moves l m (taken_by l ch s b0 r)
   unfolding taken_by
-  taken-moves m ch s (Data t n) = ends-left l m _ _ 0 _ (left-none l m b0 still0)
-  taken-moves m ch s NothingTaken = ends-left l m b0 _ 0 [] (left-none l m b0 still0)
-  taken-moves m ch s (ClosedTaken e) = ends-left l m b0 _ 0 [] (left-none l m b0 still0)
+  taken-moves m ch s (Ok (Some (t, n))) = ends-left l m _ _ 0 _ (left-none l m b0 still0)
+  taken-moves m ch s (Ok None) = ends-left l m b0 _ 0 [] (left-none l m b0 still0)
+  taken-moves m ch s (Err e) = ends-left l m b0 _ 0 [] (left-none l m b0 still0)
 
   take-moves : (m : QueueMove) (ch : ChannelId) (room : ℕ) → Moves l m (take_step l ch room)
   unfolding take_step
@@ -400,10 +389,10 @@ module _ (l : Lent) (g : Whole (negotiated l) l.state.header l.state.slots l.sta
   unfolding reject_step
   reject-moves m = pick (Moves l m) (is_offered l) (λ t. reject-on m (offer_in l).remote Done) (λ t. none_moves m)
 
-  accept-on : (m : QueueMove) (remote : RemoteId) (credit : ℕ) (r : Allocated) → Moves l m (accept_on l (dropped l.state.header) remote credit r)
+  accept-on : (m : QueueMove) (remote : RemoteId) (credit : ℕ) (r : Result ChannelId NoFreeChannels) → Moves l m (accept_on l (dropped l.state.header) remote credit r)
   unfolding accept_on
-  accept-on m remote credit NoFree = reject-on m remote _
-  accept-on m remote credit (Channel ch) = ends-left l m _ _ 0 [] (left-none l m b0 still0)
+  accept-on m remote credit (Err _) = reject-on m remote _
+  accept-on m remote credit (Ok ch) = ends-left l m _ _ 0 [] (left-none l m b0 still0)
 
   accept-moves : (m : QueueMove) → Moves l m (accept_step l)
   unfolding accept_step
@@ -426,20 +415,20 @@ module _ (l : Lent) (g : Whole (negotiated l) l.state.header l.state.slots l.sta
   -- ---- calls that look at a packet
 
   module _ (long : Long (negotiated l) (length l.rx) (length l.store)) (received : List ℕ) where
-    abbrev lent_move : (Packet → Bool) → Received → QueueMove
+    abbrev lent_move : (Packet → Bool) → Result Packet (Answer × ℕ) → QueueMove
     lent_move takes r = packet_move l takes received r
 
     -- what is received, by what the call takes for itself
     module _ (takes : Packet → Bool) where
-      stop-stays : (a : Answer) (used : ℕ) → lent_move takes (Stop a used) ≡ stays
+      stop-stays : (a : Answer) (used : ℕ) → lent_move takes (Err (a, used)) ≡ stays
       unfolding packet_move
       stop-stays a used = refl
 
-      own-stays : (p : Packet) → takes p ≡ true → lent_move takes (PacketIs p) ≡ stays
+      own-stays : (p : Packet) → takes p ≡ true → lent_move takes (Ok p) ≡ stays
       unfolding packet_move
       own-stays p e = cond-true (takes p) _ _ e
 
-      other-moves : (p : Packet) → takes p ≡ false → lent_move takes (PacketIs p)
+      other-moves : (p : Packet) → takes p ≡ false → lent_move takes (Ok p)
           ≡ command_move (negotiated l).config.channels l.state.slots p.command p.arg0 p.arg1 (body_of received p)
       unfolding packet_move
       other-moves p e = cond-false (takes p) _ _ e
@@ -455,7 +444,7 @@ module _ (l : Lent) (g : Whole (negotiated l) l.state.header l.state.slots l.sta
     act_h p = act_on l.state.header l.state.slots l.state.queue l.rx l.store p (body_of received p)
 
     acted-dropped : (takes : Packet → Bool) (p : Packet) → PacketFits (negotiated l) p (body_of received p) → takes p ≡ false
-        → queue_w l (then_acted b0 (act_d p)) ≡ moved (negotiated l).config.channels (lent_move takes (PacketIs p)) (queue_of l)
+        → queue_w l (then_acted b0 (act_d p)) ≡ moved (negotiated l).config.channels (lent_move takes (Ok p)) (queue_of l)
     unfolding table_of queue_of
     acted-dropped takes p k e =
         queue-act l b0 (act_d p) _
@@ -463,7 +452,7 @@ module _ (l : Lent) (g : Whole (negotiated l) l.state.header l.state.slots l.sta
         ∙ ap (λ (m : QueueMove). moved (negotiated l).config.channels m (queue_of l)) (table-answer (dropped l.state.header) l.state.slots l.rx p (body_of received p) ∙ sym (other-moves takes p e)))
 
     acted-lent : (takes : Packet → Bool) (p : Packet) → PacketFits (negotiated l) p (body_of received p) → takes p ≡ false
-        → queue_w l (then_acted (begun l.state.header l) (act_h p)) ≡ moved (negotiated l).config.channels (lent_move takes (PacketIs p)) (queue_of l)
+        → queue_w l (then_acted (begun l.state.header l) (act_h p)) ≡ moved (negotiated l).config.channels (lent_move takes (Ok p)) (queue_of l)
     unfolding table_of queue_of
     acted-lent takes p k e =
         queue-act l (begun l.state.header l) (act_h p) _
@@ -472,10 +461,10 @@ module _ (l : Lent) (g : Whole (negotiated l) l.state.header l.state.slots l.sta
 
     -- ---- dispatch
 
-    dispatch-by : (r : Received) → ReceivedFits (negotiated l) received r → Moves l (lent_move takes_none r) (dispatch_by l (dropped l.state.header) received r)
+    dispatch-by : (r : Result Packet (Answer × ℕ)) → ReceivedFits (negotiated l) received r → Moves l (lent_move takes_none r) (dispatch_by l (dropped l.state.header) received r)
     unfolding dispatch_by takes_none
-    dispatch-by (Stop a used) k = ends-left l _ b0 a used [] (left-own l _ used b0 still0 (stop-stays takes_none a used))
-    dispatch-by (PacketIs p) k = ends-left l _ _ _ (frame_len p) [] (left-moved l _ p (then_acted b0 (act_d p)) (acted-dropped takes_none p k refl))
+    dispatch-by (Err (a, used)) k = ends-left l _ b0 a used [] (left-own l _ used b0 still0 (stop-stays takes_none a used))
+    dispatch-by (Ok p) k = ends-left l _ _ _ (frame_len p) [] (left-moved l _ p (then_acted b0 (act_d p)) (acted-dropped takes_none p k refl))
 
     dispatch-moves : Bytes received → Moves l (lent_move takes_none (received_of l received)) (dispatch_step l received)
     unfolding dispatch_step
@@ -485,11 +474,11 @@ module _ (l : Lent) (g : Whole (negotiated l) l.state.header l.state.slots l.sta
 
     module _ (ch : ChannelId) (room : ℕ) where
       module _ (m : QueueMove) where
-        reread-moves : (used : ℕ) (fault : Failed) (w : Work) (s : ChannelSlot) → Left l m used w → (r : Taken) → Moves l m (reread ch (policy l).rx_cap used fault w s r)
+        reread-moves : (used : ℕ) (fault : Option SlotFault) (w : Work) (s : ChannelSlot) → Left l m used w → (r : Result (Option (ChannelSlot × ℕ)) ChannelError) → Moves l m (reread ch (policy l).rx_cap used fault w s r)
         unfolding reread
-        reread-moves used fault w s k (Data t n) = ends-left l m _ _ used _ (queue-slot l w ch.slot t ∙ k)
-        reread-moves used fault w s k NothingTaken = ends-left l m _ _ used [] (queue-slot l w ch.slot s ∙ k)
-        reread-moves used fault w s k (ClosedTaken x) = ends-left l m _ _ used [] (queue-slot l w ch.slot s ∙ k)
+        reread-moves used fault w s k (Ok (Some (t, n))) = ends-left l m _ _ used _ (queue-slot l w ch.slot t ∙ k)
+        reread-moves used fault w s k (Ok None) = ends-left l m _ _ used [] (queue-slot l w ch.slot s ∙ k)
+        reread-moves used fault w s k (Err x) = ends-left l m _ _ used [] (queue-slot l w ch.slot s ∙ k)
 
         read-acted : (used : ℕ) (w : Work) (a : Acted) → Left l m used (then_acted w a) → Moves l m (read_acted l ch room used w a)
         unfolding read_acted read_settled
@@ -510,14 +499,14 @@ module _ (l : Lent) (g : Whole (negotiated l) l.state.header l.state.slots l.sta
             ap (λ (x : LocalId). (is_write p.command && eqb p.arg1 x.0 && leb p.data_length room) || closed_by (record { local = x; remote = (slot_for l ch).remote }) p) (sym like.local)
             ∙ ap (λ (x : RemoteId). is_direct s room p || closed_by (record { local = s.local; remote = x }) p) (sym like.remote)
 
-        abbrev read-move : Received → QueueMove
+        abbrev read-move : Result Packet (Answer × ℕ) → QueueMove
         read-move r = lent_move (read_takes l ch room) r
 
         abbrev act_s : Packet → Acted
         act_s p = act_on (dropped l.state.header) (set l.state.slots ch.slot s) l.state.queue l.rx l.store p (body_of received p)
 
         acted-stored : (p : Packet) → PacketFits (negotiated l) p (body_of received p) → reads p ≡ false
-            → queue_w l (then_acted (then w1 (slot_to ch.slot s ∷ []) []) (act_s p)) ≡ moved (negotiated l).config.channels (read-move (PacketIs p)) (queue_of l)
+            → queue_w l (then_acted (then w1 (slot_to ch.slot s ∷ []) []) (act_s p)) ≡ moved (negotiated l).config.channels (read-move (Ok p)) (queue_of l)
         unfolding table_of queue_of slot_for
         acted-stored p k e =
             queue-act l (then w1 (slot_to ch.slot s ∷ []) []) (act_s p) _
@@ -526,24 +515,24 @@ module _ (l : Lent) (g : Whole (negotiated l) l.state.header l.state.slots l.sta
             ∙ command-set (negotiated l).config.channels l.state.slots ch.slot s like p.command p.arg0 p.arg1 (body_of received p)
             ∙ sym (other-moves (read_takes l ch room) p (reads_same p ∙ e))))
 
-        read-by : (r : Received) → ReceivedFits (negotiated l) received r → Moves l (read-move r) (read_by l ch room w1 s received r)
+        read-by : (r : Result Packet (Answer × ℕ)) → ReceivedFits (negotiated l) received r → Moves l (read-move r) (read_by l ch room w1 s received r)
         unfolding read_by read_direct
-        read-by (Stop a used) k = ends-left l _ _ a used [] (left-own l _ used b0 still0 (stop-stays (read_takes l ch room) a used))
-        read-by (PacketIs p) k =
-            pick (Moves l (read-move (PacketIs p))) (is_direct s room p)
+        read-by (Err (a, used)) k = ends-left l _ _ a used [] (left-own l _ used b0 still0 (stop-stays (read_takes l ch room) a used))
+        read-by (Ok p) k =
+            pick (Moves l (read-move (Ok p))) (is_direct s room p)
             (λ t. ends-left l _ _ _ (frame_len p) _ (left-own l _ (frame_len p) b0 still0 (own-stays (read_takes l ch room) p (reads_same p ∙ or_left _ _ t))))
-            (λ t. pick (Moves l (read-move (PacketIs p))) (closed_by (ids_in s) p)
+            (λ t. pick (Moves l (read-move (Ok p))) (closed_by (ids_in s) p)
             (λ u. ends-left l _ _ _ (frame_len p) [] (left-own l _ (frame_len p) b0 still0 (own-stays (read_takes l ch room) p (reads_same p ∙ or_right (is_direct s room p) _ t ∙ u))))
             (λ u. read-acted _ (frame_len p) _ (act_s p)
             (left-moved l _ p (then_acted (then w1 (slot_to ch.slot s ∷ []) []) (act_s p)) (acted-stored p k (or_right (is_direct s room p) _ t ∙ u)))))
 
-        read-taken : Bytes received → (r : Taken) → Moves l (read-move (received_of l received)) (read_taken l ch room w1 s received r)
+        read-taken : Bytes received → (r : Result (Option (ChannelSlot × ℕ)) ChannelError) → Moves l (read-move (received_of l received)) (read_taken l ch room w1 s received r)
         unfolding read_taken
-        read-taken y (Data t n) = ends-left l _ _ _ 0 _ (left-none l _ b0 still0)
-        read-taken y NothingTaken =
+        read-taken y (Ok (Some (t, n))) = ends-left l _ _ _ 0 _ (left-none l _ b0 still0)
+        read-taken y (Ok None) =
             pick (Moves l (read-move (received_of l received))) s.has_remote (λ t. read-by (received_of l received) (received-fits l received y))
             (λ t. ends-left l _ _ _ 0 [] (left-none l _ b0 still0))
-        read-taken y (ClosedTaken e) = ends-left l _ _ _ 0 [] (left-none l _ b0 still0)
+        read-taken y (Err e) = ends-left l _ _ _ 0 [] (left-none l _ b0 still0)
 
       read-moves : Bytes received → Moves l (lent_move (read_takes l ch room) (received_of l received)) (read_step l ch room received)
       unfolding read_step read_first
@@ -565,44 +554,44 @@ module _ (l : Lent) (g : Whole (negotiated l) l.state.header l.state.slots l.sta
             pick (Moves l m) (ltb out (length (frames_bytes w.header.negotiated w.frames) + 24 + n)) (λ t. untouched-still l m OutShort)
             (λ t. ends-left l m _ _ used [] (queue-slot l w ch.slot (spent_of s (policy l) n) ∙ k))
 
-        send-by : (used : ℕ) (w : Work) (s : ChannelSlot) → Left l m used w → (b : Budget) → Moves l m (send_by l ch out bytes used w s b)
+        send-by : (used : ℕ) (w : Work) (s : ChannelSlot) → Left l m used w → (b : Option ℕ) → Moves l m (send_by l ch out bytes used w s b)
         unfolding send_by
-        send-by used w s k (Most most) = send-some used w s (send_len l bytes most) k
-        send-by used w s k NoBudget = ends-left l m _ _ used [] (queue-slot l w ch.slot s ∙ k)
+        send-by used w s k (Some most) = send-some used w s (send_len l bytes most) k
+        send-by used w s k None = ends-left l m _ _ used [] (queue-slot l w ch.slot s ∙ k)
 
         send-again : (used : ℕ) (w : Work) (s : ChannelSlot) → Left l m used w → Moves l m (send_again l ch out bytes used w s)
         unfolding send_again
         send-again used w s k =
             pick (Moves l m) (is_closed s.state) (λ t. ends-left l m _ _ used [] (queue-slot l w ch.slot s ∙ k)) (λ t. send-by used w s k (budget_of s (policy l)))
 
-        write-readied : (used : ℕ) (w : Work) (s : ChannelSlot) → Left l m used w → (r : Readied) → Moves l m (write_readied l ch out bytes used w s r)
+        write-readied : (used : ℕ) (w : Work) (s : ChannelSlot) → Left l m used w → (r : Result ChannelSlot CreditFault) → Moves l m (write_readied l ch out bytes used w s r)
         unfolding write_readied
-        write-readied used w s k (Slot t) = send-again used w t k
-        write-readied used w s k (Bad b) = ends-left l m w _ used [] k
+        write-readied used w s k (Ok t) = send-again used w t k
+        write-readied used w s k (Err b) = ends-left l m w _ used [] k
 
-        write-acted : (used : ℕ) (w : Work) (a : Acted) → Left l m used (then_acted w a) → (f : Failed) → Moves l m (write_acted l ch out bytes used w a f)
+        write-acted : (used : ℕ) (w : Work) (a : Acted) → Left l m used (then_acted w a) → (f : Option SlotFault) → Moves l m (write_acted l ch out bytes used w a f)
         unfolding write_acted
-        write-acted used w a k (By f) = ends-left l m _ _ used [] k
-        write-acted used w a k No = send-again used (then_acted w a) _ k
+        write-acted used w a k (Some f) = ends-left l m _ _ used [] k
+        write-acted used w a k None = send-again used (then_acted w a) _ k
 
-      abbrev write-move : Received → QueueMove
+      abbrev write-move : Result Packet (Answer × ℕ) → QueueMove
       write-move r = lent_move (write_takes l ch) r
 
-      write-by : (r : Received) → ReceivedFits (negotiated l) received r → Moves l (write-move r) (write_by l ch out bytes b0 (slot_for l ch) received r)
+      write-by : (r : Result Packet (Answer × ℕ)) → ReceivedFits (negotiated l) received r → Moves l (write-move r) (write_by l ch out bytes b0 (slot_for l ch) received r)
       unfolding write_by write_act write_takes
-      write-by (Stop a used) k = ends-left l _ b0 a used [] (left-own l _ used b0 still0 (stop-stays (write_takes l ch) a used))
-      write-by (PacketIs p) k =
+      write-by (Err (a, used)) k = ends-left l _ b0 a used [] (left-own l _ used b0 still0 (stop-stays (write_takes l ch) a used))
+      write-by (Ok p) k =
           let mine = is_ready p.command && eqb p.arg1 (slot_for l ch).local.0 in
-          pick (Moves l (write-move (PacketIs p))) mine
+          pick (Moves l (write-move (Ok p))) mine
           (λ t. write-readied _ (frame_len p) b0 (slot_for l ch) (left-own l _ (frame_len p) b0 still0 (own-stays (write_takes l ch) p (or_left _ _ t))) _)
-          (λ t. pick (Moves l (write-move (PacketIs p))) (closed_by (ids_in (slot_for l ch)) p)
+          (λ t. pick (Moves l (write-move (Ok p))) (closed_by (ids_in (slot_for l ch)) p)
           (λ u. ends-left l _ _ _ (frame_len p) [] (left-own l _ (frame_len p) b0 still0 (own-stays (write_takes l ch) p (or_right mine _ t ∙ u))))
           (λ u. write-acted _ (frame_len p) b0 (act_d p) (left-moved l _ p (then_acted b0 (act_d p)) (acted-dropped (write_takes l ch) p k (or_right mine _ t ∙ u))) _))
 
-      write-first : Bytes received → (b : Budget) → Moves l (write-move (received_of l received)) (write_first l ch out bytes received b0 (slot_for l ch) b)
+      write-first : Bytes received → (b : Option ℕ) → Moves l (write-move (received_of l received)) (write_first l ch out bytes received b0 (slot_for l ch) b)
       unfolding write_first
-      write-first y (Most most) = send-some _ 0 b0 (slot_for l ch) (send_len l bytes most) (left-none l _ b0 still0)
-      write-first y NoBudget =
+      write-first y (Some most) = send-some _ 0 b0 (slot_for l ch) (send_len l bytes most) (left-none l _ b0 still0)
+      write-first y None =
           pick (Moves l (write-move (received_of l received))) (slot_for l ch).has_remote (λ t. write-by (received_of l received) (received-fits l received y)) (λ t. gone-moves _)
 
       write_moves : Bytes received → Moves l (write-move (received_of l received)) (write_step l ch out bytes received)
@@ -629,7 +618,7 @@ module _ (l : Lent) (g : Whole (negotiated l) l.state.header l.state.slots l.sta
     still-queued (NumbersAre c1 c2 c3 c4 c5) h = refl
     still-queued (Refused r) h = refl
 
-    abbrev open-move : Received → QueueMove
+    abbrev open-move : Result Packet (Answer × ℕ) → QueueMove
     open-move r = lent_move (open_takes l) r
 
     open-acted : (m : QueueMove) (used : ℕ) (a : Acted) → Left l m used (then_acted (begun l.state.header l) a) → Moves l m (open_acted l used a)
@@ -638,20 +627,20 @@ module _ (l : Lent) (g : Whole (negotiated l) l.state.header l.state.slots l.sta
         ends-left l m _ _ used []
         (ap (λ (n : ℕ). queued_opens (negotiated l).config.max_payload a.store (take n (changed_all l.state a.changes).queue)) (still-queued (unless_fault a.fault Waiting) a.header) ∙ k)
 
-    open-readied : (m : QueueMove) (ch : ChannelId) (remote used : ℕ) (r : Readied) → Left l m used b0 → Moves l m (open_readied l ch remote used r)
+    open-readied : (m : QueueMove) (ch : ChannelId) (remote used : ℕ) (r : Result ChannelSlot CreditFault) → Left l m used b0 → Moves l m (open_readied l ch remote used r)
     unfolding open_readied
-    open-readied m ch remote used (Slot t) k = ends-left l m _ _ used [] k
-    open-readied m ch remote used (Bad b) k = ends-left l m _ _ used [] k
+    open-readied m ch remote used (Ok t) k = ends-left l m _ _ used [] k
+    open-readied m ch remote used (Err b) k = ends-left l m _ _ used [] k
 
     abbrev pending_id : ChannelId
     pending_id = record { slot = l.state.header.pending.slot; local = l.state.header.pending.local }
 
-    open-by : (r : Received) → ReceivedFits (negotiated l) received r → Moves l (open-move r) (open_by l pending_id received r)
+    open-by : (r : Result Packet (Answer × ℕ)) → ReceivedFits (negotiated l) received r → Moves l (open-move r) (open_by l pending_id received r)
     unfolding open_by open_takes
-    open-by (Stop a used) k =
+    open-by (Err (a, used)) k =
         ends-left l _ _ a used [] (left-own l _ used (begun (still_pending a l.state.header) l) (begun-still l (still_pending a l.state.header) (still-queued a l.state.header)) (stop-stays (open_takes l) a used))
-    open-by (PacketIs p) k =
-        let P = Moves l (open-move (PacketIs p)) in
+    open-by (Ok p) k =
+        let P = Moves l (open-move (Ok p)) in
         let mine = eqb p.arg1 l.state.header.pending.local.0 in
         let r = is_ready p.command && mine in
         let w = is_write p.command && mine in
@@ -665,10 +654,10 @@ module _ (l : Lent) (g : Whole (negotiated l) l.state.header l.state.slots l.sta
         (λ v. open-acted _ (frame_len p) (act_h p)
         (left-moved l _ p (then_acted (begun l.state.header l) (act_h p)) (acted-lent (open_takes l) p k (or_right r (w || c) t ∙ or_right w c u ∙ v))))))
 
-    open-on : (m : QueueMove) (out : ℕ) (destination : List ℕ) (r : Allocated) → Moves l m (open_on l out destination r)
+    open-on : (m : QueueMove) (out : ℕ) (destination : List ℕ) (r : Result ChannelId NoFreeChannels) → Moves l m (open_on l out destination r)
     unfolding open_on
-    open-on m out destination NoFree = ends-left l m _ _ 0 [] (left-none l m b0 still0)
-    open-on m out destination (Channel ch) =
+    open-on m out destination (Err _) = ends-left l m _ _ 0 [] (left-none l m b0 still0)
+    open-on m out destination (Ok ch) =
         pick (Moves l m) (ltb payload_limit (length destination)) (λ t. ends-left l m _ _ 0 [] (left-none l m b0 still0))
         (λ t. pick (Moves l m) (ltb out (24 + length destination)) (λ u. untouched-still l m OutShort) (λ u. ends-left l m _ _ 0 [] (left-none l m b0 still0)))
 
@@ -685,11 +674,11 @@ module _ (l : Lent) (g : Whole (negotiated l) l.state.header l.state.slots l.sta
   hd = dropped l.state.header
 
   -- none is answered where none is queued
-  nothing-waits : (popped hd l.state.queue).result ≡ NoFront → l.state.header.queued ≡ 0
+  nothing-waits : (popped hd l.state.queue).result ≡ None → l.state.header.queued ≡ 0
   unfolding popped
   nothing-waits e =
       by-test (eqb l.state.header.queued 0) (λ t. eqb-true l.state.header.queued 0 t)
-      (λ t. let x : FrontOpen (get_or l.state.queue 0 none_queued) (offering (with_queued hd (l.state.header.queued - 1))) ≡ NoFront = rw t at e in
+      (λ t. let x : (Some (get_or l.state.queue 0 none_queued, offering (with_queued hd (l.state.header.queued - 1)))) ≡ None = rw t at e in
       let z : true ≡ false = cc in never (sym z))
 
   places : l.state.header.queued ≤ length l.state.queue
@@ -703,7 +692,7 @@ module _ (l : Lent) (g : Whole (negotiated l) l.state.header l.state.slots l.sta
   unfolding queue_of queued_opens
   empty-queue e = ap (λ (n : ℕ). queued_opens (negotiated l).config.max_payload l.store (take n l.state.queue)) e
 
-  front-queue : (q : QueuedOpen) (less : Header) → (popped hd l.state.queue).result ≡ FrontOpen q less
+  front-queue : (q : QueuedOpen) (less : Header) → (popped hd l.state.queue).result ≡ Some (q, less)
       → queue_of l ≡ queued_as (negotiated l).config.max_payload l.store q
       ∷ queued_opens (negotiated l).config.max_payload l.store (take less.queued (changed_all l.state (popped hd l.state.queue).changes).queue)
   unfolding queue_of
@@ -717,35 +706,36 @@ module _ (l : Lent) (g : Whole (negotiated l) l.state.header l.state.slots l.sta
   offer_o o = offer_c (changed_all l.state o.changes)
 
   -- the header that a pop leaves
-  less-offers : (q : QueuedOpen) (less : Header) → (popped hd l.state.queue).result ≡ FrontOpen q less
+  less-offers : (q : QueuedOpen) (less : Header) → (popped hd l.state.queue).result ≡ Some (q, less)
       → (is_offer less.pending.what ≡ true) × (less.negotiated.config.max_payload ≡ (negotiated l).config.max_payload)
   unfolding popped
   less-offers q less e =
       by-test (eqb l.state.header.queued 0)
-      (λ t. let x : NoFront ≡ FrontOpen q less = rw t at e in let z : true ≡ false = cc in never (sym z))
-      (λ t. let x : FrontOpen (get_or l.state.queue 0 none_queued) (offering (with_queued hd (l.state.header.queued - 1))) ≡ FrontOpen q less = rw t at e in
-      let a : offering (with_queued hd (l.state.header.queued - 1)) ≡ less = cc in
+      (λ t. let x : None ≡ (Some (q, less)) = rw t at e in let z : true ≡ false = cc in never (sym z))
+      (λ t. let x : (Some (get_or l.state.queue 0 none_queued, offering (with_queued hd (l.state.header.queued - 1)))) ≡ (Some (q, less)) = rw t at e in
+      let pair : ◌≡◌ {A = QueuedOpen × Header} (get_or l.state.queue 0 none_queued, offering (with_queued hd (l.state.header.queued - 1))) (q, less) = cc in
+      let a : offering (with_queued hd (l.state.header.queued - 1)) ≡ less = ap (λ (p : QueuedOpen × Header). p.1) pair in
       (sym (ap (λ (h : Header). is_offer h.pending.what) a), sym (ap (λ (h : Header). h.negotiated.config.max_payload) a)))
 
-  front_by : (f : Front) → (popped hd l.state.queue).result ≡ f → queue_o l (take_front_by l hd (popped hd l.state.queue).changes f) ≡ drop 1 (queue_of l)
+  front_by : (f : Option (QueuedOpen × Header)) → (popped hd l.state.queue).result ≡ f → queue_o l (take_front_by l hd (popped hd l.state.queue).changes f) ≡ drop 1 (queue_of l)
   unfolding take_front_by ends
-  front_by (FrontOpen q less) e =
+  front_by (Some (q, less)) e =
       ends-queue l (then (begun less l) (popped hd l.state.queue).changes []) (FrontIs q.remote q.credit (q.share * hd.negotiated.config.max_payload) q.length) 0 []
       ∙ sym (ap (drop 1) (front-queue q less e))
-  front_by NoFront e =
+  front_by None e =
       let z = empty-queue (nothing-waits e) in
       ends-queue l (begun hd l) Nothing 0 [] ∙ begun-still l hd refl ∙ z ∙ sym (ap (drop 1) z)
 
   -- it is offered
-  offers-by : (f : Front) → (popped hd l.state.queue).result ≡ f → offer_o (take_front_by l hd (popped hd l.state.queue).changes f) ≡ take 1 (queue_of l)
+  offers-by : (f : Option (QueuedOpen × Header)) → (popped hd l.state.queue).result ≡ f → offer_o (take_front_by l hd (popped hd l.state.queue).changes f) ≡ take 1 (queue_of l)
   unfolding take_front_by ends
-  offers-by (FrontOpen q less) e =
+  offers-by (Some (q, less)) e =
       ap offer_c (changes-append l.state (popped hd l.state.queue).changes (header_to less ∷ []))
       ∙ ap (λ (x : Bool). cond x (queued_as less.negotiated.config.max_payload l.store (get_or (changed_all l.state (popped hd l.state.queue).changes).queue less.queued none_queued) ∷ []) []) (less-offers q less e).0
       ∙ ap (λ (x : ℕ). queued_as x l.store (get_or (changed_all l.state (popped hd l.state.queue).changes).queue less.queued none_queued) ∷ []) (less-offers q less e).1
       ∙ ap (λ (x : QueuedOpen). queued_as (negotiated l).config.max_payload l.store x ∷ []) (popped-offers l.state hd l.store q less e places)
       ∙ sym (ap (take 1) (front-queue q less e))
-  offers-by NoFront e = sym (ap (take 1) (empty-queue (nothing-waits e)))
+  offers-by None e = sym (ap (take 1) (empty-queue (nothing-waits e)))
 
   front-offers : offer_o (take_front_step l) ≡ take 1 (queue_of l)
   unfolding take_front_step
@@ -756,24 +746,25 @@ module _ (l : Lent) (g : Whole (negotiated l) l.state.header l.state.slots l.sta
   front-moves = front_by (popped hd l.state.queue).result refl
 
   -- the entry that is answered lies within its share
-  front-fine : (q : QueuedOpen) (less : Header) → (popped hd l.state.queue).result ≡ FrontOpen q less
+  front-fine : (q : QueuedOpen) (less : Header) → (popped hd l.state.queue).result ≡ Some (q, less)
       → queued_fine (negotiated l).config.channels (negotiated l).config.max_payload q ≡ true
   unfolding popped queue_fine
   front-fine q less e =
       by-test (eqb l.state.header.queued 0)
-      (λ t. let x : NoFront ≡ FrontOpen q less = rw t at e in let z : true ≡ false = cc in never (sym z))
+      (λ t. let x : None ≡ (Some (q, less)) = rw t at e in let z : true ≡ false = cc in never (sym z))
       (λ t. let d = eqb-false l.state.header.queued 0 t in
-      let x : FrontOpen (get_or l.state.queue 0 none_queued) (offering (with_queued hd (l.state.header.queued - 1))) ≡ FrontOpen q less = rw t at e in
-      let a : get_or l.state.queue 0 none_queued ≡ q = cc in
+      let x : (Some (get_or l.state.queue 0 none_queued, offering (with_queued hd (l.state.header.queued - 1)))) ≡ (Some (q, less)) = rw t at e in
+      let pair : ◌≡◌ {A = QueuedOpen × Header} (get_or l.state.queue 0 none_queued, offering (with_queued hd (l.state.header.queued - 1))) (q, less) = cc in
+      let a : get_or l.state.queue 0 none_queued ≡ q = ap (λ (p : QueuedOpen × Header). p.0) pair in
       let f : queue_fine (negotiated l).config.channels (negotiated l).config.max_payload (q ∷ drop 1 (take l.state.header.queued l.state.queue)) ≡ true
       = ap (queue_fine (negotiated l).config.channels (negotiated l).config.max_payload) (sym (walk_here l.state.queue l.state.header.queued 0 none_queued q (omega arith) places a)) ∙ g.queue.fine in
       (and-true _ _ f).0)
 
   module _ (long : (negotiated l).config.channels * (negotiated l).config.max_payload ≤ length l.store) where
-    hands-by : (f : Front) → (popped hd l.state.queue).result ≡ f → (x : Incoming) (xs : List Incoming) → queue_of l ≡ x ∷ xs
+    hands-by : (f : Option (QueuedOpen × Header)) → (popped hd l.state.queue).result ≡ f → (x : Incoming) (xs : List Incoming) → queue_of l ≡ x ∷ xs
         → Hands x (take_front_by l hd (popped hd l.state.queue).changes f).store (take_front_by l hd (popped hd l.state.queue).changes f).answer
     unfolding take_front_by ends queued_as queued_fine
-    hands-by (FrontOpen q less) e x xs w =
+    hands-by (Some (q, less)) e x xs w =
         let payload = (negotiated l).config.max_payload in
         let f = and-true (leb q.length payload) (ltb q.share (negotiated l).config.channels) (front-fine q less e) in
         let a = leb-true q.length payload f.0 in
@@ -788,16 +779,16 @@ module _ (l : Lent) (g : Whole (negotiated l) l.state.header l.state.slots l.sta
           answer-is = ap (FrontIs q.remote q.credit (q.share * payload)) (sym n);
           destination-is = ap (part l.store (q.share * payload)) n;
         })
-    hands-by NoFront e x xs w = let z : [] ≡ x ∷ xs = sym (empty-queue (nothing-waits e)) ∙ w in let v : true ≡ false = cc in never (sym v)
+    hands-by None e x xs w = let z : [] ≡ x ∷ xs = sym (empty-queue (nothing-waits e)) ∙ w in let v : true ≡ false = cc in never (sym v)
 
     front-hands : (x : Incoming) (xs : List Incoming) → queue_of l ≡ x ∷ xs → Hands x (take_front_step l).store (take_front_step l).answer
     unfolding take_front_step
     front-hands x xs w = hands-by (popped hd l.state.queue).result refl x xs w
 
-  none-by : (f : Front) → (popped hd l.state.queue).result ≡ f → queue_of l ≡ [] → (take_front_by l hd (popped hd l.state.queue).changes f).answer ≡ Nothing
+  none-by : (f : Option (QueuedOpen × Header)) → (popped hd l.state.queue).result ≡ f → queue_of l ≡ [] → (take_front_by l hd (popped hd l.state.queue).changes f).answer ≡ Nothing
   unfolding take_front_by ends
-  none-by (FrontOpen q less) e w = let z = sym (front-queue q less e) ∙ w in let v : true ≡ false = cc in never (sym v)
-  none-by NoFront e w = refl
+  none-by (Some (q, less)) e w = let z = sym (front-queue q less e) ∙ w in let v : true ≡ false = cc in never (sym v)
+  none-by None e w = refl
 
   front-none : queue_of l ≡ [] → (take_front_step l).answer ≡ Nothing
   unfolding take_front_step
@@ -861,10 +852,10 @@ offer_in-store store d =
     cond (is_offer d.header.pending.what) (queued_as d.header.negotiated.config.max_payload store (get_or d.queue d.header.queued none_queued) ∷ []) []
 
 -- taking the front leaves the open store
-front-store-by : (l : Lent) (h : Header) (xs : List Change) (f : Front) → (take_front_by l h xs f).store ≡ l.store
+front-store-by : (l : Lent) (h : Header) (xs : List Change) (f : Option (QueuedOpen × Header)) → (take_front_by l h xs f).store ≡ l.store
 unfolding take_front_by ends
-front-store-by l h xs (FrontOpen q less) = refl
-front-store-by l h xs NoFront = refl
+front-store-by l h xs (Some (q, less)) = refl
+front-store-by l h xs None = refl
 
 front-store : (l : Lent) → (take_front_step l).store ≡ l.store
 unfolding take_front_step

@@ -22,8 +22,6 @@ use Rattle.credit.specs.declared.CreditFault.{CreditFault}
 use Rattle.connection.specs.declared.Refusal.TheVariants.{BadCredit as CreditRefused}
 use Rattle.slot.specs.declared.ChannelFault.TheVariants.{RxOverflow, BadCredit, UnexpectedCommand}
 use Rattle.slot.specs.declared.ChannelSlot.{ChannelSlot}
-use Rattle.slot.specs.declared.Failed.{Failed}
-use Rattle.slot.specs.declared.Failed.TheVariants.{No, By}
 use Rattle.slot.specs.declared.Settled.{Settled}
 use Rattle.slot.specs.Slot.{is_opening, is_failed, spent_of, delivered_of, settled_of, SlotOk}
 use Rattle.slot.proofs.Kept.{pick}
@@ -48,6 +46,7 @@ use Rattle.history.proofs.Good.{Terms, Good, Limits, Settles, already, not-due, 
 use Rattle.history.proofs.Packets.{Stops, Marked, reads-write, reads-arg1, reads-payload, body-small, closes-agree}
 use Rattle.connection.proofs.Slots.{slots_by, slots-append, slot-set-same, slot-set-other}
 use Rattle.history.proofs.Places.{SameRun, TableOk}
+use Rattle.std.specs.Prelude.{Option, Some, None, Result, Ok, Err}
 
 -- ---- what a caller sees
 
@@ -156,37 +155,37 @@ module _ (p : RxPolicy) (credit : Terms) (most : ℕ) (lim : Limits p credit mos
       ∙ ap (λ (x : List ℕ). frame_b d i b.acked (header_at received) x (answer_number a) b) (reads-payload received limit k sy)) h
 
 -- an answer after dispatching: 11 where a WRTE did not fit
-pub not-four : (fault : Failed) (a : Answer) → eqb (answer_number a) 4 ≡ false → eqb (answer_number (unless_fault fault a)) 4 ≡ false
-unfolding unless_fault fault_refusal answer_number refusal_number
-not-four No a e = e
-not-four (By RxOverflow) a e = refl
-not-four (By (BadCredit b)) a e = by_number (λ n. eqb n 4 ≡ false) refl refl refl b
-not-four (By UnexpectedCommand) a e = refl
+pub not-four : (fault : Option ChannelFault) (a : Answer) → eqb (answer_number a) 4 ≡ false → eqb (answer_number (unless_fault fault a)) 4 ≡ false
+unfolding unless_fault answer_number
+not-four None a e = e
+not-four (Some RxOverflow) a e = refl
+not-four (Some (BadCredit b)) a e = by_number (λ n. eqb n 4 ≡ false) refl refl refl b
+not-four (Some UnexpectedCommand) a e = refl
 
 -- nor is that of a credit
 pub bad-four : (b : CreditFault) → eqb (answer_number (Refused (CreditRefused b))) 4 ≡ false
-unfolding answer_number refusal_number
+unfolding answer_number
 bad-four b = by_number (λ n. eqb n 4 ≡ false) refl refl refl b
 
-pub tells-fault : (mine : Bool) (fault : Failed) (a : Answer) → is_refused (answer_number a) ≡ false → Tells mine fault (unless_fault fault a)
-unfolding unless_fault fault_refusal answer_number refusal_number
+pub tells-fault : (mine : Bool) (fault : Option ChannelFault) (a : Answer) → is_refused (answer_number a) ≡ false → Tells mine fault (unless_fault fault a)
+unfolding unless_fault answer_number
 tells-fault mine fault a e =
     record {
-      taken = λ m f. ap (λ (x : Failed). is_refused (answer_number (unless_fault x a))) f ∙ e;
-      over = λ m f. (ap (λ (x : Failed). is_refused (answer_number (unless_fault x a))) f, ap (λ (x : Failed). eqb (answer_number (unless_fault x a)) 11) f);
+      taken = λ m f. ap (λ (x : Option ChannelFault). is_refused (answer_number (unless_fault x a))) f ∙ e;
+      over = λ m f. (ap (λ (x : Option ChannelFault). is_refused (answer_number (unless_fault x a))) f, ap (λ (x : Option ChannelFault). eqb (answer_number (unless_fault x a)) 11) f);
     }
 
 -- the other half of it, whatever else the answer would be
-pub over-told : (fault : Failed) (a : Answer) → fault ≡ By RxOverflow → (is_refused (answer_number (unless_fault fault a)) ≡ true) × (eqb (answer_number (unless_fault fault a)) 11 ≡ true)
-unfolding unless_fault fault_refusal answer_number refusal_number
-over-told fault a e = (ap (λ (x : Failed). is_refused (answer_number (unless_fault x a))) e, ap (λ (x : Failed). eqb (answer_number (unless_fault x a)) 11) e)
+pub over-told : (fault : Option ChannelFault) (a : Answer) → fault ≡ Some RxOverflow → (is_refused (answer_number (unless_fault fault a)) ≡ true) × (eqb (answer_number (unless_fault fault a)) 11 ≡ true)
+unfolding unless_fault answer_number
+over-told fault a e = (ap (λ (x : Option ChannelFault). is_refused (answer_number (unless_fault x a))) e, ap (λ (x : Option ChannelFault). eqb (answer_number (unless_fault x a)) 11) e)
 
-pub fault-apart : No ≡ By RxOverflow → ⊥
+pub fault-apart : None ≡ Some RxOverflow → ⊥
 fault-apart e = true≢false (sym (ap faulty e))
 
-pub unless-is : (fault : Failed) (f : ChannelFault) → fault ≡ By f → unless_fault fault Waiting ≡ Refused (fault_refusal f)
+pub unless-is : (fault : Option ChannelFault) (f : ChannelFault) → fault ≡ Some f → unless_fault fault Waiting ≡ Refused (fault_refusal f)
 unfolding unless_fault
-unless-is fault f e = ap (λ (x : Failed). unless_fault x Waiting) e
+unless-is fault f e = ap (λ (x : Option ChannelFault). unless_fault x Waiting) e
 
 pub waiting-four : eqb (answer_number Waiting) 4 ≡ false
 unfolding answer_number
@@ -194,21 +193,21 @@ waiting-four = refl
 
 -- these answers are none of 8, 9 and 13, nor 4
 pub late-error : (e : ChannelError) → is_early (answer_number (Refused (error_refusal e))) ≡ false
-unfolding answer_number refusal_number error_refusal fault_refusal
+unfolding answer_number
 late-error ErrorClosed = refl
 late-error (Fault RxOverflow) = refl
 late-error (Fault (BadCredit b)) = by_number (λ n. is_early n ≡ false) refl refl refl b
 late-error (Fault UnexpectedCommand) = refl
 
-pub late-unless : (f : Failed) (a : Answer) → is_early (answer_number a) ≡ false → is_early (answer_number (unless_fault f a)) ≡ false
-unfolding unless_fault fault_refusal answer_number refusal_number
-late-unless No a e = e
-late-unless (By RxOverflow) a e = refl
-late-unless (By (BadCredit b)) a e = by_number (λ n. is_early n ≡ false) refl refl refl b
-late-unless (By UnexpectedCommand) a e = refl
+pub late-unless : (f : Option ChannelFault) (a : Answer) → is_early (answer_number a) ≡ false → is_early (answer_number (unless_fault f a)) ≡ false
+unfolding unless_fault answer_number
+late-unless None a e = e
+late-unless (Some RxOverflow) a e = refl
+late-unless (Some (BadCredit b)) a e = by_number (λ n. is_early n ≡ false) refl refl refl b
+late-unless (Some UnexpectedCommand) a e = refl
 
 pub four-error : (x : ChannelError) → eqb (answer_number (Refused (error_refusal x))) 4 ≡ false
-unfolding answer_number refusal_number error_refusal fault_refusal
+unfolding answer_number
 four-error ErrorClosed = refl
 four-error (Fault RxOverflow) = refl
 four-error (Fault (BadCredit b)) = by_number (λ n. eqb n 4 ≡ false) refl refl refl b

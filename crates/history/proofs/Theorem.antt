@@ -159,7 +159,7 @@ module _ (reads : ℕ → Bool) (w : World) (r : List ℕ) (rx store : ℕ) wher
 
         -- the refusals ahead of a call
         follows-checked : (x : Call) (t : Bool) (o : Outcome) → follows x o → follows x (checked t l o)
-        unfolding checked answer_number refusal_number
+        unfolding checked answer_number
         follows-checked x t o f =
             pick (follows x) t
             (λ a. pick (follows x) (stores_fit m.config (length w.rx) (length w.store)) (λ b. f)
@@ -167,7 +167,7 @@ module _ (reads : ℕ → Bool) (w : World) (r : List ℕ) (rx store : ℕ) wher
             (λ a. early-follows (terms (reads i) m) l table (limits (reads i)) empty placed y.books mark y.asked (λ t d. k.asks t) i (book_at y i) (k.each i) x BrokenState refl)
 
         follows-out : (x : Call) (t : Bool) (out : ℕ) (o : Outcome) → follows x o → follows x (checked_out t l out o)
-        unfolding checked_out answer_number refusal_number
+        unfolding checked_out answer_number
         follows-out x t out o f =
             follows-checked x t _ (pick (follows x) (ltb out 56)
             (λ b. early-follows (terms (reads i) m) l table (limits (reads i)) empty placed y.books mark y.asked (λ t d. k.asks t) i (book_at y i) (k.each i) x OutShort refl) (λ b. f))
@@ -268,13 +268,13 @@ module _ (reads : ℕ → Bool) (w : World) (r : List ℕ) (rx store : ℕ) wher
       -- ---- what is claimed of it
 
       notes-checked : (received : List ℕ) (t : Bool) (o : Outcome) → (answer_number o.answer ≡ 11 → Notes l table received o) → answer_number (checked t l o).answer ≡ 11 → Notes l table received (checked t l o)
-      unfolding checked answer_number refusal_number
+      unfolding checked answer_number
       notes-checked received t o f =
           let E : Outcome → Type 0 = λ x. answer_number x.answer ≡ 11 → Notes l table received x in
           pick E t (λ a. pick E (stores_fit m.config (length w.rx) (length w.store)) (λ b. f) (λ b e. absurd (omega arith))) (λ a e. absurd (omega arith))
 
       notes-out : (received : List ℕ) (t : Bool) (out : ℕ) (o : Outcome) → (answer_number o.answer ≡ 11 → Notes l table received o) → answer_number (checked_out t l out o).answer ≡ 11 → Notes l table received (checked_out t l out o)
-      unfolding checked_out answer_number refusal_number
+      unfolding checked_out answer_number
       notes-out received t out o f =
           notes-checked received t _ (pick (λ (x : Outcome). answer_number x.answer ≡ 11 → Notes l table received x) (ltb out 56) (λ b e. absurd (omega arith)) (λ b. f))
 

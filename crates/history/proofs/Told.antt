@@ -22,7 +22,6 @@ use Rattle.protocol.specs.declared.message.Message.{Message}
 use Rattle.protocol.specs.Command.{letters_of, word_of, is_ready, is_the}
 use Rattle.protocol.specs.Message.{message_of}
 use Rattle.protocol.proofs.PacketLaws.{frame-length}
-use Rattle.credit.specs.declared.Credit.TheVariants.{Of}
 use Rattle.slot.specs.Ids.{named_by}
 use Rattle.credit.specs.Credit.{credit_of, at_least_zero}
 use Rattle.slot.proofs.Kept.{pick}
@@ -40,6 +39,7 @@ use Rattle.history.specs.Book.{Book, gone_book, credit_in, handed_b, acked_b, ac
 use Rattle.history.specs.Demand3.{size_of, Reads, AllRead, Noted, Told}
 use Rattle.history.proofs.Heard.{Writes, counted, heard_of, nothing8, seen-eight, count-eight}
 use Rattle.history.proofs.Opens.{and-false}
+use Rattle.std.specs.Prelude.{Option, Some, None, Result, Ok, Err}
 
 -- ---- a call that answers 8
 
@@ -151,17 +151,17 @@ size_is n (f ∷ fs) =
     omega arith
 
 -- an OKAY's credit, read as the signed number that it is
-okay-signed : (len : ℕ) → len < 2 ^ 31 → credit_of (credit_bytes true len) ≡ Of (pos (credit_in (credit_bytes true len)))
+okay-signed : (len : ℕ) → len < 2 ^ 31 → credit_of (credit_bytes true len) ≡ Ok (pos (credit_in (credit_bytes true len)))
 unfolding credit_of at_least_zero credit_in credit_bytes bytes_of part signed
 okay-signed len h =
     let w : num_of (bytes_of 4 len) ≡ len = write_read 4 len (omega arith) in
-    ap (λ (x : ℕ). at_least_zero (signed 31 x)) w ∙ ap at_least_zero (cond-true (ltb len (2 ^ 31)) (pos len) _ (lt-ltb len (2 ^ 31) h)) ∙ sym (ap (λ (x : ℕ). Of (pos x)) w)
+    ap (λ (x : ℕ). at_least_zero (signed 31 x)) w ∙ ap at_least_zero (cond-true (ltb len (2 ^ 31)) (pos len) _ (lt-ltb len (2 ^ 31) h)) ∙ sym (ap (λ (x : ℕ). (Ok (pos x))) w)
 
 okay-reads : (p : RxPolicy) (n : Negotiated) (f : Frame) → p.delayed ≡ n.delayed_ack → FrameFits n f → Reads p (sent_of n f)
 unfolding is_ready credit_bytes is_the word_of letters_of num_of
 okay-reads p n (okay_frame ids len) d h =
     record {
-      signed = λ r t. let m = sym d ∙ t in subst (λ (x : Bool). credit_of (credit_bytes x len) ≡ Of (pos (credit_in (credit_bytes x len)))) (sym m) (okay-signed len (h.len-fits m));
+      signed = λ r t. let m = sym d ∙ t in subst (λ (x : Bool). credit_of (credit_bytes x len) ≡ (Ok (pos (credit_in (credit_bytes x len))))) (sym m) (okay-signed len (h.len-fits m));
       bare = λ r t. cond-false n.delayed_ack (bytes_of 4 len) [] (sym d ∙ t);
     }
 okay-reads p n (close_frame ids) d h = record { signed = λ r. absurd (true≢false (sym r)); bare = λ r. absurd (true≢false (sym r)) }

@@ -16,8 +16,6 @@ use Rattle.config.specs.declared.negotiated.RxPolicy.{RxPolicy}
 use Rattle.config.specs.Config.{within_limits, cap_of, opening_credit, stores_fit}
 use Rattle.config.specs.Negotiated.{policy_of, offered_credit}
 use Rattle.config.proofs.Laws.{and-true, within, sound as limits}
-use Rattle.incoming.specs.declared.Front.{Front}
-use Rattle.incoming.specs.declared.Front.TheVariants.{Open as FrontOpen, Nothing as NoFront}
 use Rattle.incoming.specs.Incoming.{popped, returned}
 use Rattle.protocol.specs.declared.command.Command.TheVariants.{Write, Open}
 use Rattle.protocol.specs.declared.packet.Packet.{Packet}
@@ -27,17 +25,8 @@ use Rattle.protocol.specs.Packet.{payload_limit, packet_of}
 use Rattle.protocol.proofs.PacketLaws.{frame-length}
 use Rattle.protocol.proofs.RoundTrip.{Says}
 use Rattle.protocol.specs.Command.{is_ready, is_close, is_write}
-use Rattle.slot.specs.declared.Budget.{Budget}
-use Rattle.slot.specs.declared.Budget.TheVariants.{Bytes as Most, Nothing as NoBudget}
 use Rattle.slot.specs.declared.ChannelSlot.{ChannelSlot}
-use Rattle.slot.specs.declared.Failed.{Failed}
-use Rattle.slot.specs.declared.Failed.TheVariants.{No, By}
-use Rattle.slot.specs.declared.PendingAck.{PendingAck}
-use Rattle.slot.specs.declared.PendingAck.TheVariants.{Nothing as NoAck}
-use Rattle.slot.specs.declared.Readied.{Readied}
-use Rattle.slot.specs.declared.Readied.TheVariants.{Slot, Bad}
 use Rattle.slot.specs.declared.ChannelError.{ChannelError}
-use Rattle.slot.specs.declared.Taken.{Taken}
 use Rattle.slot.specs.Ids.{closed_by}
 use Rattle.slot.specs.Slot.{empty_slot, is_opening, is_failed, slot_ok, is_closed, ready_of, delivered_of, settled_of, taken_of, budget_of, has_data, take_len, took_of, error_of, SlotOk}
 use Rattle.slot.proofs.Kept.{pick, sound, settled-sound}
@@ -50,8 +39,6 @@ use Rattle.le.proofs.RowLaws.{Every, every_append}
 use Rattle.state.proofs.StateLaws.{Fits, SlotFits, OpenFits}
 use Rattle.state_whole.proofs.WholeLaws.{whole-fits}
 use Rattle.connection.proofs.WholeWork.{long}
-use Rattle.table.specs.declared.Allocated.{Allocated}
-use Rattle.table.specs.declared.Allocated.TheVariants.{Channel, NoFree}
 use Rattle.table.specs.declared.ChannelId.{ChannelId}
 use Rattle.table.specs.declared.Want.TheVariants.{Empty}
 use Rattle.table.specs.Table.{wanted_by, place_of, numbered, allocated, slot_in}
@@ -61,7 +48,6 @@ use Rattle.connection.specs.declared.Answer.{Answer}
 use Rattle.connection.specs.declared.Answer.TheVariants.{Waiting, Nothing, Read, Refused, Done, Opened}
 use Rattle.connection.specs.declared.Refusal.TheVariants.{ChannelClosed}
 use Rattle.connection.specs.Answer.{refusal_number, answer_number, answer_values}
-use Rattle.connection.specs.declared.Received.{Received}
 use Rattle.connection.specs.Act.{Acted, act_on}
 use Rattle.connection.specs.Calls.{looked, numbers_for, numbers_outcome, Lent, Outcome, Work, begun, then, then_acted, storing, ends, checked, checked_out, dropped, pending_for, policy, ids_in, is_there, slot_for, ack_frames, received_of, error_refusal, fault_refusal, unless_fault, body_of, frame_len, dispatch_by, dispatch_step, settled_as, settle_step, taken_by, take_step, reread, read_settled, read_acted, is_direct, read_direct, read_by, read_taken, read_first, read_step, send_len, send_some, send_by, send_again, write_readied, write_acted, write_act, write_by, write_first, write_on, write_step, close_step, take_front_by, take_front_step, open_on, still_pending, open_readied, open_acted, open_by, open_step, open_outcome, dispatch_outcome, settle_outcome, take_outcome, read_outcome, write_outcome, close_outcome, take_front_outcome, accept_outcome, reject_outcome, let_go_outcome, offer_in, is_offered, reject_on, accept_on, accept_step, reject_step, let_go_step}
 use Rattle.connection.specs.Frames.{Frame, close_frame, open_frame, write_frame, frame_bytes, frames_bytes, okay_frame}
@@ -78,6 +64,10 @@ use Rattle.history.proofs.Bytes.{bytes-in}
 use Rattle.connection.proofs.Sending.{IdsFit, Few, bytes-append, bytes_one, few-none, few-join, few-close, few-ack, Rests, quiet, same, clear, Own, ReadiedIds, ready-ids, some, Acts, acts, settled-ids, settled-small, silent-clear, silent-again, Taking, took, nothing, shut, taking, no-data, delivered-ids, delivered-small, FrameFits, few-okay}
 use Rattle.slot.specs.declared.ids.RemoteId.{RemoteId}
 use Rattle.state.specs.declared.QueuedOpen.{QueuedOpen}
+use Rattle.slot.specs.declared.ChannelFault.{ChannelFault}
+use Rattle.std.specs.Prelude.{Option, Some, None, Result, Ok, Err}
+use Rattle.credit.specs.declared.CreditFault.{CreditFault}
+use Rattle.table.specs.declared.NoFreeChannels.{NoFreeChannels}
 
 -- ---- what is asked of a state
 
@@ -166,9 +156,9 @@ no_frames : (n : Negotiated) (fs : List Frame) → some fs ≡ false → Few n 0
 no_frames n [] e = few-none n 0
 no_frames n (f ∷ fs) e = absurd (true≢false e)
 
-no-ack : (n : Negotiated) (s : ChannelSlot) (a : PendingAck) → a ≡ NoAck → Few n 0 (ack_frames s a)
+no-ack : (n : Negotiated) (s : ChannelSlot) (a : Option ℕ) → a ≡ None → Few n 0 (ack_frames s a)
 unfolding ack_frames
-no-ack n s a e = subst (λ (x : PendingAck). Few n 0 (ack_frames s x)) (sym e) (few-none n 0)
+no-ack n s a e = subst (λ (x : Option ℕ). Few n 0 (ack_frames s x)) (sym e) (few-none n 0)
 
 -- channels' numbers, with one slot anew
 ids_set : (ss : List ChannelSlot) (i : ℕ) (t : ChannelSlot) → ((j : ℕ) → IdsFit (ids_in (slot_in ss j))) → IdsFit (ids_in t) → i < length ss → (j : ℕ) → IdsFit (ids_in (slot_in (set ss i t) j))
@@ -225,7 +215,7 @@ Counts l x = length x.rx ≡ length l.rx → cond (eqb (answer_number x.answer) 
 -- the refusals ahead of every step count nothing
 counts-checked : (l : Lent) (whole : Bool) (o : Outcome) → (whole ≡ true → stores_fit l.state.header.negotiated.config (length l.rx) (length l.store) ≡ true → Counts l o)
     → Counts l (checked whole l o)
-unfolding checked answer_number refusal_number
+unfolding checked answer_number
 counts-checked l whole o f =
     pick (Counts l) whole
     (λ t. pick (Counts l) (stores_fit l.state.header.negotiated.config (length l.rx) (length l.store)) (λ u. f t u) (λ u z. refl))
@@ -233,16 +223,16 @@ counts-checked l whole o f =
 
 counts-checked-out : (l : Lent) (whole : Bool) (out : ℕ) (o : Outcome) → (whole ≡ true → stores_fit l.state.header.negotiated.config (length l.rx) (length l.store) ≡ true → 56 ≤ out → Counts l o)
     → Counts l (checked_out whole l out o)
-unfolding checked_out answer_number refusal_number
+unfolding checked_out answer_number
 counts-checked-out l whole out o f =
     counts-checked l whole _ (λ t u. pick (Counts l) (ltb out 56) (λ v z. refl) (λ v. f t u (ltb-false out 56 v)))
 
 -- ---- each step
 
 -- what an open is allotted
-data Allots : Allocated → Type 0 where
-  full : Allots NoFree
-  allots : (ch : ChannelId) → ch.local.0 < 2 ^ 32 → Allots (Channel ch)
+data Allots : Result ChannelId NoFreeChannels → Type 0 where
+  full : Allots (Err (record {}))
+  allots : (ch : ChannelId) → ch.local.0 < 2 ^ 32 → Allots (Ok ch)
 
 allotted : (h : Header) (ss : List ChannelSlot) → h.next_local < 2 ^ 32 → Allots (allocated h ss)
 unfolding allocated
@@ -306,10 +296,10 @@ module _ (l : Lent) (able : Able l) (out room : ℕ) where
   unfolding answer_number
   error-some e = refused-some (error_refusal e)
 
-  unless-some : (f : Failed) (a : Answer) → eqb (answer_number a) 0 ≡ false → eqb (answer_number (unless_fault f a)) 0 ≡ false
+  unless-some : (f : Option ChannelFault) (a : Answer) → eqb (answer_number a) 0 ≡ false → eqb (answer_number (unless_fault f a)) 0 ≡ false
   unfolding unless_fault answer_number
-  unless-some No a e = e
-  unless-some (By f) a e = refused-some (fault_refusal f)
+  unless-some None a e = e
+  unless-some (Some f) a e = refused-some (fault_refusal f)
 
   -- n bytes taken from a slot
   take-counts-by : Shares → (ch : ChannelId) → There ch → (s : ChannelSlot) (w : Work) (used : ℕ) → SlotOk s (policy l).rx_cap
@@ -318,18 +308,18 @@ module _ (l : Lent) (able : Able l) (out room : ℕ) where
       counts_some w (take_len s room) used _ (λ z. front_length big w.rx z ch.slot c.inside s ok (take_len s room) (take-held s room ok.settled-buffered))
 
   pub take-counts : Shares → (ch : ChannelId) → C (take_step l ch room)
-  unfolding take_step taken_of taken_by answer_number refusal_number
+  unfolding take_step taken_of taken_by answer_number
   take-counts big ch =
       let s = slot_for l ch in
       pick C (is_there l ch)
       (λ t. let c = there ch t in
-      let P : Taken → Type 0 = λ y. C (taken_by l ch s (begun h₀ l) y) in
+      let P : Result (Option (ChannelSlot × ℕ)) ChannelError → Type 0 = λ y. C (taken_by l ch s (begun h₀ l) y) in
       pick P (has_data s) (λ d. take-counts-by big ch c s (then (begun h₀ l) (slot_to ch.slot (took_of s (take_len s room)) ∷ []) []) 0 c.sound)
       (λ d. pick P (is_closed s.state) (λ e. counts-none (begun h₀ l) (Refused (error_refusal (error_of s.failed))) 0 (error-some (error_of s.failed))) (λ e. counts-none (begun h₀ l) Nothing 0 refl)))
       (λ t. counts-none (begun h₀ l) (Refused ChannelClosed) 0 refl)
 
   -- taking
-  take_by : (ch : ChannelId) (s : ChannelSlot) (x : Taken) → Taking s room x → W (taken_by l ch s (begun h₀ l) x)
+  take_by : (ch : ChannelId) (s : ChannelSlot) (x : Result (Option (ChannelSlot × ℕ)) ChannelError) → Taking s room x → W (taken_by l ch s (begun h₀ l) x)
   unfolding taken_by front_of ends
   take_by ch s x (took t k h) = writes-none n out room _ refl (part-short _ _ k room h)
   take_by ch s x (nothing e) = writes-none n out room _ refl (omega arith)
@@ -341,10 +331,10 @@ module _ (l : Lent) (able : Able l) (out room : ℕ) where
       pick W (is_there l ch) (λ t. take_by ch (slot_for l ch) _ (taking (slot_for l ch) room)) (λ t. writes-none n out room _ refl (omega arith))
 
   -- the front
-  front_by : (h : Header) (xs : List Change) (f : Front) → W (take_front_by l h xs f)
+  front_by : (h : Header) (xs : List Change) (f : Option (QueuedOpen × Header)) → W (take_front_by l h xs f)
   unfolding take_front_by ends
-  front_by h xs (FrontOpen q less) = writes-none n out room _ refl (omega arith)
-  front_by h xs NoFront = writes-none n out room _ refl (omega arith)
+  front_by h xs (Some (q, less)) = writes-none n out room _ refl (omega arith)
+  front_by h xs None = writes-none n out room _ refl (omega arith)
 
   pub front-writes : W (take_front_step l)
   unfolding take_front_step
@@ -402,7 +392,7 @@ module _ (l : Lent) (able : Able l) (out room : ℕ) where
     unfolding reject_step
     reject-writes = pick W (is_offered l) (λ t. reject-on h₀ (offer_in l).remote Done able.offered) (λ t. idle h₀ _ 0)
 
-    accept-on : (remote : RemoteId) (credit : ℕ) → remote.0 < 2 ^ 32 → (r : Allocated) → Allots r → W (accept_on l h₀ remote credit r)
+    accept-on : (remote : RemoteId) (credit : ℕ) → remote.0 < 2 ^ 32 → (r : Result ChannelId NoFreeChannels) → Allots r → W (accept_on l h₀ remote credit r)
     unfolding accept_on
     accept-on remote credit f r full = reject-on h₀ remote _ f
     accept-on remote credit f r (allots ch g) =
@@ -438,7 +428,7 @@ module _ (l : Lent) (able : Able l) (out room : ℕ) where
           handed = omega arith;
         }
 
-    open-on : (destination : List ℕ) (r : Allocated) → Allots r → W (open_on l out destination r)
+    open-on : (destination : List ℕ) (r : Result ChannelId NoFreeChannels) → Allots r → W (open_on l out destination r)
     unfolding open_on
     open-on destination r full = idle h₀ _ 0
     open-on destination r (allots ch f) =
@@ -451,7 +441,7 @@ module _ (l : Lent) (able : Able l) (out room : ℕ) where
       limit = n.config.max_payload
 
       -- dispatching
-      dispatch-by : (r : Received) → Got received limit r → W (dispatch_by l h₀ received r)
+      dispatch-by : (r : Result Packet (Answer × ℕ)) → Got received limit r → W (dispatch_by l h₀ received r)
       unfolding dispatch_by
       dispatch-by r (stopped a used s) = idle h₀ a used
       dispatch-by r (packet k s) =
@@ -464,14 +454,14 @@ module _ (l : Lent) (able : Able l) (out room : ℕ) where
       dispatch-writes = dispatch-by (received_of l received) (got l received)
 
       -- a pending open goes on
-      open-readied : (ch : ChannelId) (remote used : ℕ) (r : Readied) → ch.local.0 < 2 ^ 32 → remote < 2 ^ 32 → W (open_readied l ch remote used r)
+      open-readied : (ch : ChannelId) (remote used : ℕ) (r : Result ChannelSlot CreditFault) → ch.local.0 < 2 ^ 32 → remote < 2 ^ 32 → W (open_readied l ch remote used r)
       unfolding open_readied
-      open-readied ch remote used (Slot t) f g = quit (then (begun h₀ l) _ []) _ used (few-none n 2)
-      open-readied ch remote used (Bad b) f g =
+      open-readied ch remote used (Ok t) f g = quit (then (begun h₀ l) _ []) _ used (few-none n 2)
+      open-readied ch remote used (Err b) f g =
           quit (then (begun h₀ l) _ (close_frame (record { local = ch.local; remote = record { 0 = remote } }) ∷ [])) _ used
           (few-up n 1 2 _ (omega arith) (few-close n _ (record { local = f; remote = g })))
 
-      open-by : (ch : ChannelId) → ch.local.0 < 2 ^ 32 → (r : Received) → Got received limit r → W (open_by l ch received r)
+      open-by : (ch : ChannelId) → ch.local.0 < 2 ^ 32 → (r : Result Packet (Answer × ℕ)) → Got received limit r → W (open_by l ch received r)
       unfolding open_by open_acted
       open-by ch f r (stopped a used s) = idle (still_pending a l.state.header) a used
       open-by ch f r (packet k s) =
@@ -525,11 +515,11 @@ module _ (l : Lent) (able : Able l) (out room : ℕ) where
             handed = omega arith;
           })
 
-      send-by : (ch : ChannelId) (given : List ℕ) (used : ℕ) (w : Work) (s : ChannelSlot) (r : Budget) → Few n 1 w.frames → w.header.negotiated ≡ n → IdsFit (ids_in s)
+      send-by : (ch : ChannelId) (given : List ℕ) (used : ℕ) (w : Work) (s : ChannelSlot) (r : Option ℕ) → Few n 1 w.frames → w.header.negotiated ≡ n → IdsFit (ids_in s)
           → W (send_by l ch out given used w s r)
       unfolding send_by
-      send-by ch given used w s (Most most) f e i = send-some ch given used w s most f e i
-      send-by ch given used w s NoBudget f e i = quit (then w _ []) _ used (few-join n 1 0 2 _ [] (omega arith) f (few-none n 0))
+      send-by ch given used w s (Some most) f e i = send-some ch given used w s most f e i
+      send-by ch given used w s None f e i = quit (then w _ []) _ used (few-join n 1 0 2 _ [] (omega arith) f (few-none n 0))
 
       send-again : (ch : ChannelId) (given : List ℕ) (used : ℕ) (w : Work) (s : ChannelSlot) → Few n 1 w.frames → w.header.negotiated ≡ n → IdsFit (ids_in s)
           → W (send_again l ch out given used w s)
@@ -538,20 +528,20 @@ module _ (l : Lent) (able : Able l) (out room : ℕ) where
           pick W (is_closed s.state) (λ t. quit (then w _ []) _ used (few-join n 1 0 2 _ [] (omega arith) f (few-none n 0)))
           (λ t. send-by ch given used w s (budget_of s (policy l)) f e i)
 
-      write-readied : (ch : ChannelId) (given : List ℕ) (used : ℕ) (s : ChannelSlot) (r : Readied) → ReadiedIds r → W (write_readied l ch out given used (begun h₀ l) s r)
+      write-readied : (ch : ChannelId) (given : List ℕ) (used : ℕ) (s : ChannelSlot) (r : Result ChannelSlot CreditFault) → ReadiedIds r → W (write_readied l ch out given used (begun h₀ l) s r)
       unfolding write_readied
-      write-readied ch given used s (Slot t) i = send-again ch given used (begun h₀ l) t (few-none n 1) refl i
-      write-readied ch given used s (Bad b) i = idle h₀ _ used
+      write-readied ch given used s (Ok t) i = send-again ch given used (begun h₀ l) t (few-none n 1) refl i
+      write-readied ch given used s (Err b) i = idle h₀ _ used
 
-      write-acted : (ch : ChannelId) (given : List ℕ) (used : ℕ) (a : Acted) (f : Failed) → ch.slot < 64 → Acts ⊥ h₀ l.state.slots ch.slot a
+      write-acted : (ch : ChannelId) (given : List ℕ) (used : ℕ) (a : Acted) (f : Option ChannelFault) → ch.slot < 64 → Acts ⊥ h₀ l.state.slots ch.slot a
           → W (write_acted l ch out given used (begun h₀ l) a f)
       unfolding write_acted
-      write-acted ch given used a (By f) b x = quit (then_acted (begun h₀ l) a) _ used (few-up n 1 2 _ (omega arith) x.writes)
-      write-acted ch given used a No b x =
+      write-acted ch given used a (Some f) b x = quit (then_acted (begun h₀ l) a) _ used (few-up n 1 2 _ (omega arith) x.writes)
+      write-acted ch given used a None b x =
           send-again ch given used (then_acted (begun h₀ l) a) _ x.writes x.agreed
           (subst (λ (ss : List ChannelSlot). IdsFit (ids_in (slot_in ss ch.slot))) (sym (slots-by l.state a.changes)) x.own.ids)
 
-      write-by : (ch : ChannelId) → There ch → (given : List ℕ) (r : Received) → Got received limit r → W (write_by l ch out given (begun h₀ l) (slot_for l ch) received r)
+      write-by : (ch : ChannelId) → There ch → (given : List ℕ) (r : Result Packet (Answer × ℕ)) → Got received limit r → W (write_by l ch out given (begun h₀ l) (slot_for l ch) received r)
       unfolding write_by write_act
       write-by ch c given r (stopped a used s) = idle h₀ a used
       write-by ch c given r (packet k s) =
@@ -566,10 +556,10 @@ module _ (l : Lent) (able : Able l) (out room : ℕ) where
           (λ u. pick W (closed_by (ids_in t) k) (λ v. quit (then (begun h₀ l) _ []) _ (frame_len k) (few-none n 2))
           (λ v. write-acted ch given (frame_len k) a a.fault b x))
 
-      write-first : (ch : ChannelId) → There ch → (given : List ℕ) (r : Budget) → W (write_first l ch out given received (begun h₀ l) (slot_for l ch) r)
+      write-first : (ch : ChannelId) → There ch → (given : List ℕ) (r : Option ℕ) → W (write_first l ch out given received (begun h₀ l) (slot_for l ch) r)
       unfolding write_first
-      write-first ch c given (Most most) = send-some ch given 0 (begun h₀ l) (slot_for l ch) most (few-none n 1) refl c.ids
-      write-first ch c given NoBudget =
+      write-first ch c given (Some most) = send-some ch given 0 (begun h₀ l) (slot_for l ch) most (few-none n 1) refl c.ids
+      write-first ch c given None =
           pick W (slot_for l ch).has_remote (λ t. write-by ch c given (received_of l received) (got l received)) (λ t. idle h₀ _ 0)
 
       pub write-writes : (ch : ChannelId) (given : List ℕ) → W (write_step l ch out given received)
@@ -624,7 +614,7 @@ module _ (l : Lent) (able : Able l) (out room : ℕ) where
         abbrev fs₂ : Acted → ChannelSlot → List Frame
         fs₂ a t = fs₁ ++ [] ++ a.frames ++ ack_frames (settled_of t p room).slot (settled_of t p room).ack
 
-        silent-few : (a : Acted) (t : ChannelSlot) → Few n 1 a.frames → (settled_of t p room).ack ≡ NoAck → Few n 2 (fs₂ a t)
+        silent-few : (a : Acted) (t : ChannelSlot) → Few n 1 a.frames → (settled_of t p room).ack ≡ None → Few n 2 (fs₂ a t)
         silent-few a t f e =
             few-join n 2 0 2 (fs₁ ++ [] ++ a.frames) _ (omega arith) (two (fs₁ ++ []) a.frames (no_more 1 fs₁ few₁) f) (no-ack n _ _ e)
 
@@ -638,7 +628,7 @@ module _ (l : Lent) (able : Able l) (out room : ℕ) where
         again-few a t f i o z (clear e) = silent-few a t f (silent-clear t p room e)
 
         -- and what is then taken
-        reread-by : (used : ℕ) (fault : Failed) (w : Work) (s : ChannelSlot) (x : Taken) → Few n 2 w.frames → Taking s room x → W (reread ch p.rx_cap used fault w s x)
+        reread-by : (used : ℕ) (fault : Option ChannelFault) (w : Work) (s : ChannelSlot) (x : Result (Option (ChannelSlot × ℕ)) ChannelError) → Few n 2 w.frames → Taking s room x → W (reread ch p.rx_cap used fault w s x)
         unfolding reread front_of
         reread-by used fault w s x f (took t k h) = done (then w _ []) _ used _ (no_more 2 _ f) (part-short _ _ k room h)
         reread-by used fault w s x f (nothing e) = quit (then w _ []) _ used (no_more 2 _ f)
@@ -684,7 +674,7 @@ module _ (l : Lent) (able : Able l) (out room : ℕ) where
             acts (Unit {0}) h₀ ss l.state.queue l.rx l.store k (body_of received k) ch.slot (ids_set l.state.slots ch.slot s₁ able.ids ids₁ (omega arith)) (omega arith)
             (λ q. subst (λ (v : ChannelSlot). SlotOk v p.rx_cap) (sym here) sound₁) g.arg0 g.arg1
 
-        read-by : s₁.buffered ≡ 0 → (r : Received) → Got received limit r → W (read_by l ch room w₁ s₁ received r)
+        read-by : s₁.buffered ≡ 0 → (r : Result Packet (Answer × ℕ)) → Got received limit r → W (read_by l ch room w₁ s₁ received r)
         unfolding read_by
         read-by z r (stopped a used s) = stop₁ _ a used
         read-by z r (packet k s) =
@@ -692,7 +682,7 @@ module _ (l : Lent) (able : Able l) (out room : ℕ) where
             (λ t. pick W (closed_by (ids_in s₁) k) (λ u. stop₁ _ _ (frame_len k))
             (λ u. read-acted (act₂ k) (frame_len k) z (acts₂ k s)))
 
-        read-taken : (x : Taken) → Taking s₁ room x → W (read_taken l ch room w₁ s₁ received x)
+        read-taken : (x : Result (Option (ChannelSlot × ℕ)) ChannelError) → Taking s₁ room x → W (read_taken l ch room w₁ s₁ received x)
         unfolding read_taken front_of
         read-taken x (took t k h) = done (then w₁ _ []) _ 0 _ (few-join n 1 0 2 fs₁ [] (omega arith) few₁ (few-none n 0)) (part-short _ _ k room h)
         read-taken x (nothing e) =
@@ -701,10 +691,10 @@ module _ (l : Lent) (able : Able l) (out room : ℕ) where
 
         -- its answer counts what it hands over
         module _ (shares : Shares) where
-          reread-counts : (used : ℕ) (fault : Failed) (w : Work) (s : ChannelSlot) → SlotOk s p.rx_cap → C (reread ch p.rx_cap used fault w s (taken_of s room))
+          reread-counts : (used : ℕ) (fault : Option ChannelFault) (w : Work) (s : ChannelSlot) → SlotOk s p.rx_cap → C (reread ch p.rx_cap used fault w s (taken_of s room))
           unfolding reread taken_of answer_number
           reread-counts used fault w s ok =
-              let P : Taken → Type 0 = λ y. C (reread ch p.rx_cap used fault w s y) in
+              let P : Result (Option (ChannelSlot × ℕ)) ChannelError → Type 0 = λ y. C (reread ch p.rx_cap used fault w s y) in
               pick P (has_data s) (λ d. take-counts-by shares ch c s (then w (slot_to ch.slot (took_of s (take_len s room)) ∷ []) []) used ok)
               (λ d. pick P (is_closed s.state)
               (λ e. counts-none (then w (slot_to ch.slot s ∷ []) []) _ used (unless-some fault (Refused (error_refusal (error_of s.failed))) (error-some (error_of s.failed))))
@@ -714,8 +704,8 @@ module _ (l : Lent) (able : Able l) (out room : ℕ) where
           unfolding read_acted read_settled
           acted-counts a used ok = reread-counts used a.fault _ (settled_of (t₂ a) p room).slot (settled-sound (t₂ a) p room p.rx_cap ok)
 
-          received-counts : (r : Received) → Got received limit r → C (read_by l ch room w₁ s₁ received r)
-          unfolding read_by read_direct answer_number refusal_number
+          received-counts : (r : Result Packet (Answer × ℕ)) → Got received limit r → C (read_by l ch room w₁ s₁ received r)
+          unfolding read_by read_direct answer_number
           received-counts r (stopped a used s) = counts-none (then w₁ (slot_to ch.slot s₁ ∷ []) []) a used s.undone
           received-counts r (packet k s) =
               pick C (is_direct s₁ room k) (λ t. counts_some _ (length (body_of received k)) (frame_len k) (body_of received k) (λ z. refl))
@@ -723,15 +713,15 @@ module _ (l : Lent) (able : Able l) (out room : ℕ) where
               (λ u. acted-counts (act₂ k) (frame_len k) ((own₂ (act₂ k) (acts₂ k s)).sound tt)))
 
           taken-counts : C (read_taken l ch room w₁ s₁ received (taken_of s₁ room))
-          unfolding read_taken taken_of answer_number refusal_number
+          unfolding read_taken taken_of answer_number
           taken-counts =
-              let P : Taken → Type 0 = λ y. C (read_taken l ch room w₁ s₁ received y) in
+              let P : Result (Option (ChannelSlot × ℕ)) ChannelError → Type 0 = λ y. C (read_taken l ch room w₁ s₁ received y) in
               pick P (has_data s₁) (λ d. take-counts-by shares ch c s₁ (then w₁ (slot_to ch.slot (took_of s₁ (take_len s₁ room)) ∷ []) []) 0 sound₁)
               (λ d. pick P (is_closed s₁.state) (λ e. counts-none (then w₁ (slot_to ch.slot s₁ ∷ []) []) _ 0 (error-some (error_of s₁.failed)))
               (λ e. pick C s₁.has_remote (λ t. received-counts (received_of l received) (got l received)) (λ t. counts-none (then w₁ (slot_to ch.slot s₁ ∷ []) []) (Refused ChannelClosed) 0 refl)))
 
       pub read-counts : Shares → (ch : ChannelId) → C (read_step l ch room received)
-      unfolding read_step read_first answer_number refusal_number
+      unfolding read_step read_first answer_number
       read-counts shares ch =
           pick C (is_there l ch) (λ t. taken-counts ch (there ch t) shares) (λ t. counts-none (begun h₀ l) (Refused ChannelClosed) 0 refl)
 

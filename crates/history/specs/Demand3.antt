@@ -4,7 +4,6 @@ use Rattle.protocol.specs.Command.{is_ready}
 use Rattle.le.specs.Le.{part}
 use Rattle.config.specs.declared.negotiated.RxPolicy.{RxPolicy}
 use Rattle.slot.specs.declared.ChannelSlot.{ChannelSlot}
-use Rattle.credit.specs.declared.Credit.TheVariants.{Of}
 use Rattle.credit.specs.Credit.{credit_of}
 use Rattle.state.specs.State.{state_of}
 use Rattle.table.specs.Table.{slot_in}
@@ -14,6 +13,7 @@ use Rattle.history.specs.Run.{Call, received_in, World, after, after_all, Start,
 use Rattle.history.specs.Seen.{said_by, count_of, Event, seen_of, events_of}
 use Rattle.history.specs.Book.{Book, credit_in, header_at, is_wrte, Ledger, clean, book_at, entry, ledger_of}
 use Rattle.protocol.specs.Message.{message_size}
+use Rattle.std.specs.Prelude.{Option, Some, None, Result, Ok, Err}
 
 -- the slot at a place
 abbrev pub place_slot : World → ℕ → ChannelSlot
@@ -61,7 +61,7 @@ size_of (f ∷ fs) = message_size + length f.payload + size_of fs
 
 -- an OKAY reads, as the signed number that it is, as what the book adds; in the plain mode it carries none
 pub record Reads (p : RxPolicy) (f : Sent) : Type 0 where
-  pub signed : is_ready f.command ≡ true → p.delayed ≡ true → credit_of f.payload ≡ Of (pos (credit_in f.payload))
+  pub signed : is_ready f.command ≡ true → p.delayed ≡ true → credit_of f.payload ≡ Ok (pos (credit_in f.payload))
   pub bare : is_ready f.command ≡ true → p.delayed ≡ false → f.payload ≡ []
 
 -- so do all

@@ -4,7 +4,6 @@ use Rattle.le.specs.Le.{Bytes}
 use Rattle.config.specs.Config.{stores_fit}
 use Rattle.protocol.specs.declared.command.Command.TheVariants.{Close}
 use Rattle.protocol.specs.declared.packet.Packet.{Packet}
-use Rattle.protocol.specs.declared.packet.Decoded.TheVariants.{Accepted}
 use Rattle.protocol.specs.Packet.{decode_of}
 use Rattle.slot.specs.declared.ids.RemoteId.{RemoteId}
 use Rattle.slot.specs.Slot.{closed_slot}
@@ -14,6 +13,7 @@ use Rattle.table.specs.Table.{wanted_by, count_of}
 use Rattle.connection.specs.Answer.{answer_number}
 use Rattle.history.specs.Run.{bytes_in, dispatch_call, World, lent, outcome, after}
 use Rattle.history.specs.Demand3.{place_slot}
+use Rattle.std.specs.Prelude.{Option, Some, None, Result, Ok, Err}
 
 -- how many channels have this remote number and are not closed
 unfoldable pub live_count : World → RemoteId → ℕ
@@ -39,6 +39,6 @@ abbrev pub ClseGoesLive : Type 0
 ClseGoesLive =
     (w : World) (out received : List ℕ) (r : RemoteId) (len i : ℕ) → Bytes w.state → is_whole w.state ≡ true
     → stores_fit (lent w).state.header.negotiated.config (length w.rx) (length w.store) ≡ true → 56 ≤ length out
-    → decode_of (bytes_in received) (lent w).state.header.negotiated.config.max_payload ≡ Accepted (closing r len) → (r.0 ≡ 0 → ⊥)
+    → decode_of (bytes_in received) (lent w).state.header.negotiated.config.max_payload ≡ Ok (Some (closing r len)) → (r.0 ≡ 0 → ⊥)
     → wanted_by (Live r) (place_slot w i) ≡ true
     → ClosesLowest w (after w (dispatch_call out received)) r × (answer_number (outcome w (dispatch_call out received)).answer ≡ 0)

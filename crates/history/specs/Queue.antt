@@ -1,6 +1,6 @@
 -- The queued opens change as the Rust's IncomingQueue does, over every list of calls (incoming.rs; connection.rs, `act_on`
 -- and `try_accept_incoming`). Assumes nothing.
-use Rattle.std.specs.Prelude.{ℕ, ◌≤◌, Bool, true, false, cond, ◌&&◌, ◌||◌, List, [], ◌∷◌, ◌++◌, ◌≡◌, eqb, ltb, length, take, drop}
+use Rattle.std.specs.Prelude.{ℕ, ◌≤◌, Bool, true, false, cond, ◌&&◌, ◌||◌, List, [], ◌∷◌, ◌++◌, ◌≡◌, eqb, ltb, length, take, drop, Option, Some, None, Result, Ok, Err}
 use Rattle.le.specs.Le.{part}
 use Rattle.config.specs.Config.{stores_fit}
 use Rattle.incoming.specs.Incoming.{Incoming, queued_as, queued_opens, withdrawn}
@@ -15,8 +15,6 @@ use Rattle.table.specs.declared.ChannelId.{ChannelId}
 use Rattle.table_dispatch.specs.Dispatch.{remote_place}
 use Rattle.connection.specs.declared.Answer.{Answer}
 use Rattle.connection.specs.declared.Answer.TheVariants.{Nothing, Front as FrontIs}
-use Rattle.connection.specs.declared.Received.{Received}
-use Rattle.connection.specs.declared.Received.TheVariants.{Packet as PacketIs, Stop}
 use Rattle.connection.specs.Calls.{Lent, offer_in, is_offered, ids_in, slot_for, received_of, body_of, is_direct}
 use Rattle.history.specs.Run.{bytes_in, Call, open_call, dispatch_call, settle_call, take_call, read_call, write_call, close_call, front_taken, look_call, accept_call, reject_call, let_go_call, World, lent, outcome, after, after_all, Start, begins}
 
@@ -69,9 +67,9 @@ command_move n ss Auth a b payload = stays
 command_move n ss StartTls a b payload = stays
 
 -- what was received: nothing but a packet that the call does not take for itself is dispatched
-unfoldable pub packet_move : Lent → (Packet → Bool) → List ℕ → Received → QueueMove
-packet_move l takes received (Stop a used) = stays
-packet_move l takes received (PacketIs p) =
+unfoldable pub packet_move : Lent → (Packet → Bool) → List ℕ → Result Packet (Answer × ℕ) → QueueMove
+packet_move l takes received (Err (a, used)) = stays
+packet_move l takes received (Ok p) =
     cond (takes p) stays (command_move l.state.header.negotiated.config.channels l.state.slots p.command p.arg0 p.arg1 (body_of received p))
 
 -- and only where the call uses received bytes: used is what it answers

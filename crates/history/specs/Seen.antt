@@ -3,13 +3,15 @@
 use Rattle.std.specs.Prelude.{ℕ, zero, suc, cond, List, [], ◌∷◌, eqb, take, drop, get_or}
 use Rattle.le.specs.Le.{put}
 use Rattle.config.specs.declared.negotiated.Negotiated.{Negotiated}
-use Rattle.protocol.specs.declared.packet.Decoded.{Decoded}
-use Rattle.protocol.specs.declared.packet.Decoded.TheVariants.{Waiting, InvalidCommand, InvalidMagic, PayloadTooLarge, InvalidChecksum, Accepted}
 use Rattle.protocol.specs.Packet.{payload_limit, payload_of, decode_of, used_of}
 use Rattle.connection.specs.Answer.{answer_number, answer_values}
 use Rattle.connection.specs.Calls.{Outcome, written_by}
 use Rattle.connection.specs.Frames.{Sent, frames_bytes}
 use Rattle.history.specs.Run.{Call, open_call, dispatch_call, settle_call, take_call, read_call, write_call, close_call, front_taken, look_call, accept_call, reject_call, let_go_call, out_of, buf_of, World, lent, outcome, after}
+use Rattle.protocol.specs.declared.packet.DecodeError.TheVariants.{InvalidCommand, InvalidMagic, PayloadTooLarge, InvalidChecksum}
+use Rattle.protocol.specs.declared.packet.Packet.{Packet}
+use Rattle.protocol.specs.declared.packet.DecodeError.{DecodeError}
+use Rattle.std.specs.Prelude.{Option, Some, None, Result, Ok, Err}
 
 -- what a caller holds after a call: the number, what the answer says (bytes used, bytes written, values), and both buffers as
 -- they are then
@@ -58,13 +60,13 @@ count_of (reject_call out) number values = 0
 count_of let_go_call number values = 0
 
 -- what bytes begin with, before the frames behind it
-unfoldable pub sent_by : List ℕ → List Sent → Decoded → List Sent
-sent_by l rest (Accepted p) = record { command = p.command; arg0 = p.arg0; arg1 = p.arg1; payload = payload_of l p.data_length } ∷ rest
-sent_by l rest Waiting = []
-sent_by l rest (InvalidCommand word) = []
-sent_by l rest InvalidMagic = []
-sent_by l rest PayloadTooLarge = []
-sent_by l rest (InvalidChecksum used) = []
+unfoldable pub sent_by : List ℕ → List Sent → Result (Option Packet) DecodeError → List Sent
+sent_by l rest (Ok (Some p)) = record { command = p.command; arg0 = p.arg0; arg1 = p.arg1; payload = payload_of l p.data_length } ∷ rest
+sent_by l rest (Ok None) = []
+sent_by l rest (Err (InvalidCommand word)) = []
+sent_by l rest (Err InvalidMagic) = []
+sent_by l rest (Err PayloadTooLarge) = []
+sent_by l rest (Err (InvalidChecksum used)) = []
 
 -- at most n frames, one behind the other
 unfoldable pub sent_in : ℕ → List ℕ → List Sent

@@ -36,15 +36,7 @@ pub fn spend_and_close(slot: ChannelSlot, n: usize, policy: RxPolicy) -> Channel
 pub fn in_use(slots: &[ChannelSlot]) -> usize
     ensures { result ≡ filled_in slots.now }
 {
-    let mut used = 0;
-    let mut i = 0;
-    while i < slots.len() {
-        if slots[i].filled {
-            used += 1;
-        }
-        i += 1;
-    }
-    used
+    slots.iter().filter(|slot| slot.filled).count()
 }
 
 // A whole table.

@@ -15,24 +15,24 @@ use Rattle.state.specs.State.{queue_at, queued_len, state_len, state_of, queued_
 use Rattle.state.proofs.Fields.{length-open}
 use Rattle.le.proofs.RowLaws.{flat_append, length-flat, walk-over}
 use Rattle.state.proofs.StateLaws.{open_in, state-full}
-use Rattle.incoming.specs.declared.Keep.{Keep}
-use Rattle.incoming.specs.declared.Keep.TheVariants.{All}
 use Rattle.incoming.specs.Incoming.{stays_by, kept, Retains}
+use Rattle.slot.specs.declared.ids.RemoteId.{RemoteId}
+use Rattle.std.specs.Prelude.{Option, Some, None, Result, Ok, Err}
 
 -- ---- those that stay
 
 -- where all stay, nothing changes
-pub kept-all : (qs : List QueuedOpen) → kept All qs ≡ qs
+pub kept-all : (qs : List QueuedOpen) → kept None qs ≡ qs
 unfolding kept stays_by
 kept-all [] = refl
 kept-all (q ∷ qs) = rw (kept-all qs)
 
-kept_append : (keep : Keep) (x y : List QueuedOpen) → kept keep (x ++ y) ≡ kept keep x ++ kept keep y
+kept_append : (keep : Option RemoteId) (x y : List QueuedOpen) → kept keep (x ++ y) ≡ kept keep x ++ kept keep y
 unfolding kept
 kept_append keep [] y = refl
 kept_append keep (q ∷ x) y = let r = kept_append keep x y in by-test (stays_by keep q) (λ t. rw (t, r)) (λ t. rw (t, r))
 
-kept-one : (keep : Keep) (q : QueuedOpen) → kept keep (q ∷ []) ≡ cond (stays_by keep q) (q ∷ []) []
+kept-one : (keep : Option RemoteId) (q : QueuedOpen) → kept keep (q ∷ []) ≡ cond (stays_by keep q) (q ∷ []) []
 unfolding kept
 kept-one keep q = refl
 
@@ -62,7 +62,7 @@ module _ (b : List ℕ) (ks : List QueuedOpen) (h : length ks ≤ 64) (l : state
 
 -- ---- the pass, at place i: those before it that stay are at the front
 
-module _ (keep : Keep) (b : List ℕ) (from : ℕ) where
+module _ (keep : Option RemoteId) (b : List ℕ) (from : ℕ) where
   -- at its start none is moved
   pub retain-none : Retains (kept keep (drop from (take from (state_of b).queue))) b 0 b
   unfolding kept

@@ -12,15 +12,13 @@ use Rattle.state.specs.declared.QueuedOpen.{QueuedOpen}
 use Rattle.state.specs.Change.{put_queue, Steps}
 use Rattle.state.specs.State.{state_len, none_queued, state_of, queued_at, put_queued}
 use Rattle.state.proofs.StateLaws.{open_in, state-full}
-use Rattle.incoming.specs.declared.Front.TheVariants.{Open, Nothing}
-use Rattle.incoming.specs.declared.Keep.TheVariants.{All, Without}
-use Rattle.incoming.specs.declared.Pushed.TheVariants.{Queued, Full}
 use Rattle.incoming.specs.Incoming.{free_share, kept, with_queued, Retains, withdrawal, offering, popped, returned, Pushes, next_share, pushed}
 use Rattle.incoming.proofs.KeptLaws.{kept-all, put-opens-next}
+use Rattle.std.specs.Prelude.{Option, Some, None, Result, Ok, Err}
 
 module _ (h : Header) (b : List ℕ) (remote : RemoteId) (credit : ℕ) (destination store : List ℕ) where
   -- as many wait as there are channels: nothing changes
-  pub push-full : h.negotiated.config.channels ≤ h.queued → Pushes (pushed h (state_of b).queue remote credit destination store) b Full b store
+  pub push-full : h.negotiated.config.channels ≤ h.queued → Pushes (pushed h (state_of b).queue remote credit destination store) b None b store
   unfolding pushed
   push-full k = rw (le-leb h.negotiated.config.channels h.queued k) (record { result-is = refl; state-is = refl; store_is = refl })
 
@@ -29,26 +27,26 @@ module _ (h : Header) (b : List ℕ) (remote : RemoteId) (credit : ℕ) (destina
       → share ≡ free_share h.negotiated.config.channels (take h.queued (state_of b).queue)
       → x ≡ put_queued b h.queued (record { remote = remote; credit = credit; share = share; length = length destination })
       → y ≡ put store (share * h.negotiated.config.max_payload) destination → m ≡ with_queued h (h.queued + 1)
-      → Pushes (pushed h (state_of b).queue remote credit destination store) b (Queued m) x y
+      → Pushes (pushed h (state_of b).queue remote credit destination store) b (Some m) x y
   unfolding pushed next_share
   push-queued share x y m k e p q f =
-      rw (lt-leb h.negotiated.config.channels h.queued k, ← e) (record { result-is = ap Queued f; state-is = p; store_is = q })
+      rw (lt-leb h.negotiated.config.channels h.queued k, ← e) (record { result-is = ap Some f; state-is = p; store_is = q })
 
 module _ (h : Header) (b : List ℕ) where
   -- those that stay are at the front, and the header counts them
   pub withdraw-gives : (gone : RemoteId) (left : ℕ) (x : List ℕ) (m : Header)
-      → Retains (kept (Without gone) (drop 0 (take h.queued (state_of b).queue))) b left x → m ≡ with_queued h left
+      → Retains (kept (Some gone) (drop 0 (take h.queued (state_of b).queue))) b left x → m ≡ with_queued h left
       → Steps (withdrawal h (state_of b).queue gone) b m x
   unfolding withdrawal
   withdraw-gives gone left x m r f = record { result-is = f ∙ ap (with_queued h) r.count-is; state-is = r.state-is }
 
   -- none is queued: nothing changes
-  pub pop-nothing : h.queued ≡ 0 → Steps (popped h (state_of b).queue) b Nothing b
+  pub pop-nothing : h.queued ≡ 0 → Steps (popped h (state_of b).queue) b None b
   unfolding popped
   pop-nothing e = rw (eq-eqb h.queued 0 e) (record { result-is = refl; state-is = refl })
 
   -- else the others are fewer than there were
-  pub left_below : (left : ℕ) (x : List ℕ) → (h.queued ≡ 0 → ⊥) → h.queued ≤ 64 → Retains (kept All (drop 1 (take h.queued (state_of b).queue))) b left x → left < 64
+  pub left_below : (left : ℕ) (x : List ℕ) → (h.queued ≡ 0 → ⊥) → h.queued ≤ 64 → Retains (kept None (drop 1 (take h.queued (state_of b).queue))) b left x → left < 64
   left_below left x d k r =
       let z = (state-full b).queue in
       let qs = drop 1 (take h.queued (state_of b).queue) in
@@ -58,8 +56,8 @@ module _ (h : Header) (b : List ℕ) where
 
   -- the first is answered, the others have moved up, and it stands behind them
   pub pop-gives : (front : QueuedOpen) (left : ℕ) (x : List ℕ) (m : Header) → (h.queued ≡ 0 → ⊥) → h.queued ≤ 64 → front ≡ queued_at b 0
-      → Retains (kept All (drop 1 (take h.queued (state_of b).queue))) b left x → m ≡ offering (with_queued h left) → state_len ≤ length b
-      → (y : List ℕ) → y ≡ put_queued x left front → Steps (popped h (state_of b).queue) b (Open front m) y
+      → Retains (kept None (drop 1 (take h.queued (state_of b).queue))) b left x → m ≡ offering (with_queued h left) → state_len ≤ length b
+      → (y : List ℕ) → y ≡ put_queued x left front → Steps (popped h (state_of b).queue) b (Some (front, m)) y
   unfolding popped
   pop-gives front left x m d k e r f long y p =
       let qs = drop 1 (take h.queued (state_of b).queue) in

@@ -21,12 +21,9 @@ use Rattle.state.specs.Change.{changed_all}
 use Rattle.state.specs.State.{none_queued, Connection}
 use Rattle.state_whole.specs.Whole.{queued_fine, queue_fine}
 use Rattle.le.proofs.RowLaws.{walk_here, never, Every}
-use Rattle.incoming.specs.declared.Front.TheVariants.{Open, Nothing}
-use Rattle.incoming.specs.declared.Keep.{Keep}
-use Rattle.incoming.specs.declared.Keep.TheVariants.{Without}
-use Rattle.incoming.specs.declared.Pushed.TheVariants.{Queued, Full}
 use Rattle.incoming.specs.Incoming.{queued_as, queued_opens, named, free_share, stays_by, kept, withdrawn, with_queued, withdrawal, offering, popped, returned, next_share, pushed}
 use Rattle.incoming.proofs.ShareLaws.{free-unused, next-below, share-fits}
+use Rattle.std.specs.Prelude.{Option, Some, None, Result, Ok, Err}
 
 waits-append : (payload : ℕ) (store : List ℕ) (x y : List QueuedOpen) → queued_opens payload store (x ++ y) ≡ queued_opens payload store x ++ queued_opens payload store y
 unfolding queued_opens
@@ -88,7 +85,7 @@ module _ (channels payload queued : ℕ) (queue : List QueuedOpen) (store destin
 -- ---- a withdrawal
 
 -- those of one remote number no longer wait
-pub withdraw-waits : (payload : ℕ) (store : List ℕ) (gone : RemoteId) (qs : List QueuedOpen) → queued_opens payload store (kept (Without gone) qs) ≡ withdrawn gone (queued_opens payload store qs)
+pub withdraw-waits : (payload : ℕ) (store : List ℕ) (gone : RemoteId) (qs : List QueuedOpen) → queued_opens payload store (kept (Some gone) qs) ≡ withdrawn gone (queued_opens payload store qs)
 unfolding queued_opens queued_as kept stays_by withdrawn
 withdraw-waits payload store gone [] = refl
 withdraw-waits payload store gone (q ∷ qs) =
@@ -111,7 +108,7 @@ pop-waits payload store queued queue h k = ap (queued_opens payload store) (walk
 
 module _ (c : Connection) (h : Header) (store : List ℕ) where
   -- an OPEN that is pushed stands behind the others
-  pub pushed_waits : (remote : RemoteId) (credit : ℕ) (destination : List ℕ) (m : Header) → (pushed h c.queue remote credit destination store).result ≡ Queued m
+  pub pushed_waits : (remote : RemoteId) (credit : ℕ) (destination : List ℕ) (m : Header) → (pushed h c.queue remote credit destination store).result ≡ Some m
       → h.queued < length c.queue → h.negotiated.config.channels * h.negotiated.config.max_payload ≤ length store
       → length destination ≤ h.negotiated.config.max_payload
       → queue_fine h.negotiated.config.channels h.negotiated.config.max_payload (take h.queued c.queue) ≡ true
@@ -123,9 +120,9 @@ module _ (c : Connection) (h : Header) (store : List ℕ) where
       let n = h.negotiated.config.channels in
       let payload = h.negotiated.config.max_payload in
       by-test (leb n h.queued)
-      (λ t. let x : Full ≡ Queued m = rw t at e in let z : true ≡ false = cc in never (sym z))
+      (λ t. let x : None ≡ (Some m) = rw t at e in let z : true ≡ false = cc in never (sym z))
       (λ t.
-      let x : Queued (with_queued h (h.queued + 1)) ≡ Queued m = rw t at e in
+      let x : (Some (with_queued h (h.queued + 1))) ≡ (Some m) = rw t at e in
       let k : with_queued h (h.queued + 1) ≡ m = cc in
       rw (t, ← k) (push-waits n payload h.queued c.queue store destination remote credit (leb-false n h.queued t) long fits places fine))
 
@@ -135,11 +132,11 @@ module _ (c : Connection) (h : Header) (store : List ℕ) where
       ≡ withdrawn gone (queued_opens h.negotiated.config.max_payload store (take h.queued c.queue))
   unfolding withdrawal
   withdrawal-waits gone =
-      rw (front-is (kept (Without gone) (take h.queued c.queue)) c.queue)
+      rw (front-is (kept (Some gone) (take h.queued c.queue)) c.queue)
       (withdraw-waits h.negotiated.config.max_payload store gone (take h.queued c.queue))
 
   -- the entry that is answered was queued first
-  pub popped-waits : (q : QueuedOpen) (m : Header) → (popped h c.queue).result ≡ Open q m → h.queued ≤ length c.queue
+  pub popped-waits : (q : QueuedOpen) (m : Header) → (popped h c.queue).result ≡ Some (q, m) → h.queued ≤ length c.queue
       → queued_opens h.negotiated.config.max_payload store (take h.queued c.queue)
       ≡ queued_as h.negotiated.config.max_payload store q
       ∷ queued_opens h.negotiated.config.max_payload store (take m.queued (changed_all c (popped h c.queue).changes).queue)
@@ -148,12 +145,13 @@ module _ (c : Connection) (h : Header) (store : List ℕ) where
       let payload = h.negotiated.config.max_payload in
       let ks = drop 1 (take h.queued c.queue) in
       by-test (eqb h.queued 0)
-      (λ t. let x : Nothing ≡ Open q m = rw t at e in let z : true ≡ false = cc in never (sym z))
+      (λ t. let x : None ≡ (Some (q, m)) = rw t at e in let z : true ≡ false = cc in never (sym z))
       (λ t.
       let d = eqb-false h.queued 0 t in
-      let x : Open (get_or c.queue 0 none_queued) (offering (with_queued h (h.queued - 1))) ≡ Open q m = rw t at e in
-      let a : get_or c.queue 0 none_queued ≡ q = cc in
-      let k : offering (with_queued h (h.queued - 1)) ≡ m = cc in
+      let x : (Some (get_or c.queue 0 none_queued, offering (with_queued h (h.queued - 1)))) ≡ (Some (q, m)) = rw t at e in
+      let pair : ◌≡◌ {A = QueuedOpen × Header} (get_or c.queue 0 none_queued, offering (with_queued h (h.queued - 1))) (q, m) = cc in
+      let a : get_or c.queue 0 none_queued ≡ q = ap (λ (p : QueuedOpen × Header). p.0) pair in
+      let k : offering (with_queued h (h.queued - 1)) ≡ m = ap (λ (p : QueuedOpen × Header). p.1) pair in
       let n : length ks ≡ h.queued - 1 = simp (length-drop, length-take) (omega arith) in
       let front = get_or c.queue 0 none_queued in
       let f : take (h.queued - 1) ((ks ++ front ∷ []) ++ drop (length (ks ++ front ∷ [])) c.queue) ≡ ks =
@@ -161,18 +159,19 @@ module _ (c : Connection) (h : Header) (store : List ℕ) where
       rw (t, ← k, f, ← a) (pop-waits payload store h.queued c.queue (omega arith) places))
 
   -- it stands behind the others as it stood before them
-  pub popped-offers : (q : QueuedOpen) (m : Header) → (popped h c.queue).result ≡ Open q m → h.queued ≤ length c.queue
+  pub popped-offers : (q : QueuedOpen) (m : Header) → (popped h c.queue).result ≡ Some (q, m) → h.queued ≤ length c.queue
       → get_or (changed_all c (popped h c.queue).changes).queue m.queued none_queued ≡ q
   unfolding popped
   popped-offers q m e places =
       let ks = drop 1 (take h.queued c.queue) in
       by-test (eqb h.queued 0)
-      (λ t. let x : Nothing ≡ Open q m = rw t at e in let z : true ≡ false = cc in never (sym z))
+      (λ t. let x : None ≡ (Some (q, m)) = rw t at e in let z : true ≡ false = cc in never (sym z))
       (λ t.
       let d = eqb-false h.queued 0 t in
-      let x : Open (get_or c.queue 0 none_queued) (offering (with_queued h (h.queued - 1))) ≡ Open q m = rw t at e in
-      let a : get_or c.queue 0 none_queued ≡ q = cc in
-      let k : offering (with_queued h (h.queued - 1)) ≡ m = cc in
+      let x : (Some (get_or c.queue 0 none_queued, offering (with_queued h (h.queued - 1)))) ≡ (Some (q, m)) = rw t at e in
+      let pair : ◌≡◌ {A = QueuedOpen × Header} (get_or c.queue 0 none_queued, offering (with_queued h (h.queued - 1))) (q, m) = cc in
+      let a : get_or c.queue 0 none_queued ≡ q = ap (λ (p : QueuedOpen × Header). p.0) pair in
+      let k : offering (with_queued h (h.queued - 1)) ≡ m = ap (λ (p : QueuedOpen × Header). p.1) pair in
       let n : length ks ≡ h.queued - 1 = simp (length-drop, length-take) (omega arith) in
       let front = get_or c.queue 0 none_queued in
       let v = drop (length (ks ++ front ∷ [])) c.queue in
@@ -215,7 +214,7 @@ module _ (channels payload : ℕ) where
       (fine-append (take queued queue) (q ∷ []) fine (rw (le-leb q.length payload fits, lt-ltb q.share channels share)))
 
   -- a withdrawal
-  pub kept_fine : (keep : Keep) (qs : List QueuedOpen) → queue_fine channels payload qs ≡ true → queue_fine channels payload (kept keep qs) ≡ true
+  pub kept_fine : (keep : Option RemoteId) (qs : List QueuedOpen) → queue_fine channels payload qs ≡ true → queue_fine channels payload (kept keep qs) ≡ true
   unfolding queue_fine kept
   kept_fine keep [] e = refl
   kept_fine keep (q ∷ qs) e =
@@ -224,7 +223,7 @@ module _ (channels payload : ℕ) where
       by-test (stays_by keep q) (λ t. rw (t, e₁.0) r) (λ t. rw t r)
 
 -- what holds of every entry holds of every one that stays
-pub kept-every : (P : QueuedOpen → Type 0) (keep : Keep) (qs : List QueuedOpen) → Every P qs → Every P (kept keep qs)
+pub kept-every : (P : QueuedOpen → Type 0) (keep : Option RemoteId) (qs : List QueuedOpen) → Every P qs → Every P (kept keep qs)
 unfolding kept
 kept-every P keep [] e = tt
 kept-every P keep (q ∷ qs) e =
@@ -232,7 +231,7 @@ kept-every P keep (q ∷ qs) e =
     by-test (stays_by keep q) (λ t. rw t (e.0, r)) (λ t. rw t r)
 
 -- no more stay than there were
-pub length-kept : (keep : Keep) (qs : List QueuedOpen) → length (kept keep qs) ≤ length qs
+pub length-kept : (keep : Option RemoteId) (qs : List QueuedOpen) → length (kept keep qs) ≤ length qs
 unfolding kept
 length-kept keep [] = omega arith
 length-kept keep (q ∷ qs) =

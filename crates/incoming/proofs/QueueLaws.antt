@@ -22,15 +22,11 @@ use Rattle.state.specs.State.{is_ours, is_offer, none_queued, Connection}
 use Rattle.state_whole.specs.Whole.{queued_fine, queue_fine}
 use Rattle.le.proofs.RowLaws.{never, walk_here, Every, every_set, every_append, every_drop, every_take}
 use Rattle.state.proofs.StateLaws.{OpenFits}
-use Rattle.incoming.specs.declared.Front.{Front}
-use Rattle.incoming.specs.declared.Front.TheVariants.{Open, Nothing}
-use Rattle.incoming.specs.declared.Keep.TheVariants.{Without}
-use Rattle.incoming.specs.declared.Pushed.{Pushed}
-use Rattle.incoming.specs.declared.Pushed.TheVariants.{Queued, Full}
 use Rattle.incoming.specs.Incoming.{free_share, kept, with_queued, withdrawal, offering, popped, returned, next_share, PushOutcome, pushed}
 use Rattle.incoming.proofs.ShareLaws.{next-below, share-fits}
 use Rattle.incoming.proofs.ListLaws.{fine-parts, fine-cons, fine-snoc, get_or-behind, push-fine, kept_fine, kept-every, length-kept}
 use Rattle.state_whole.proofs.WholeLaws.{Whole, OpensWhole, OfferWhole}
+use Rattle.std.specs.Prelude.{Option, Some, None, Result, Ok, Err}
 
 -- changes to the queued opens os alone, after which the header is `more`
 pub record QueueKeeps (n : Negotiated) (ss : List ChannelSlot) (os : List QueuedOpen) (more : Header) (xs : List Change) : Type 0 where
@@ -98,9 +94,9 @@ module _ (h : Header) (ss : List ChannelSlot) (os : List QueuedOpen) (g : Whole 
 
   -- ---- a push
 
-  abbrev pub PushedAs : ℕ → PushOutcome → Pushed → Type 0
-  PushedAs store o (Queued more) = QueueKeeps h.negotiated ss os more o.changes × (length o.store ≡ store)
-  PushedAs store o Full = Unit {0}
+  abbrev pub PushedAs : ℕ → PushOutcome → Option Header → Type 0
+  PushedAs store o (Some more) = QueueKeeps h.negotiated ss os more o.changes × (length o.store ≡ store)
+  PushedAs store o None = Unit {0}
 
   abbrev pub PushKeeps : ℕ → PushOutcome → Type 0
   PushKeeps store o = PushedAs store o o.result
@@ -165,19 +161,19 @@ module _ (h : Header) (ss : List ChannelSlot) (os : List QueuedOpen) (g : Whole 
       let n = h.negotiated.config.channels in
       let payload = h.negotiated.config.max_payload in
       let qs = take h.queued os in
-      let k = length-kept (Without gone) qs in
+      let k = length-kept (Some gone) qs in
       let m : length qs ≤ h.queued = simp length-take (omega arith) in
       let w = g.header.queue-fits in
-      opens-keeps (kept (Without gone) qs) (length (kept (Without gone) qs)) refl (omega arith)
-      (kept-every OpenFits (Without gone) qs (every_take OpenFits h.queued os g.queue.fits))
-      (kept_fine n payload (Without gone) qs g.queue.fine)
+      opens-keeps (kept (Some gone) qs) (length (kept (Some gone) qs)) refl (omega arith)
+      (kept-every OpenFits (Some gone) qs (every_take OpenFits h.queued os g.queue.fits))
+      (kept_fine n payload (Some gone) qs g.queue.fine)
 
   -- a pop
-  abbrev pub FrontAs : List Change → Front → Type 0
-  FrontAs xs (Open q less) = QueueKeeps h.negotiated ss os less xs
-  FrontAs xs Nothing = Unit {0}
+  abbrev pub FrontAs : List Change → Option (QueuedOpen × Header) → Type 0
+  FrontAs xs (Some (q, less)) = QueueKeeps h.negotiated ss os less xs
+  FrontAs xs None = Unit {0}
 
-  abbrev pub FrontKeeps : Step Front → Type 0
+  abbrev pub FrontKeeps : Step (Option (QueuedOpen × Header)) → Type 0
   FrontKeeps s = FrontAs s.changes s.result
 
   pub pop-keeps : FrontKeeps (popped h os)

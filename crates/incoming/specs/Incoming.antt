@@ -1,18 +1,12 @@
 -- The device's queued OPENs (incoming.rs): the first `queued` of the state's 64 entries, and their
 -- destinations in the open store, share k from byte k * max_payload on. Assumes nothing.
-use Rattle.std.specs.Prelude.{ℕ, zero, suc, ◌+◌, ◌-◌, ◌*◌, ◌≤◌, ◌<◌, Bool, true, false, not, cond, ◌||◌, ◌≡◌, List, [], ◌∷◌, ◌++◌, eqb, leb, length, take, drop, get_or}
+use Rattle.std.specs.Prelude.{ℕ, zero, suc, ◌+◌, ◌-◌, ◌*◌, ◌≤◌, ◌<◌, Bool, true, false, not, cond, ◌||◌, ◌≡◌, List, [], ◌∷◌, ◌++◌, eqb, leb, length, take, drop, get_or, Option, Some, None, Result, Ok, Err}
 use Rattle.le.specs.Le.{part, put}
 use Rattle.slot.specs.declared.ids.RemoteId.{RemoteId}
 use Rattle.state.specs.declared.Header.{Header}
 use Rattle.state.specs.declared.Pending.TheVariants.{Offer}
 use Rattle.state.specs.declared.QueuedOpen.{QueuedOpen}
 use Rattle.state.specs.Change.{Change, queued_to, queue_to, put_queue, put_all, Step}
-use Rattle.incoming.specs.declared.Front.{Front}
-use Rattle.incoming.specs.declared.Front.TheVariants.{Open, Nothing}
-use Rattle.incoming.specs.declared.Keep.{Keep}
-use Rattle.incoming.specs.declared.Keep.TheVariants.{All, Without}
-use Rattle.incoming.specs.declared.Pushed.{Pushed}
-use Rattle.incoming.specs.declared.Pushed.TheVariants.{Queued, Full}
 use Rattle.state.specs.State.{state_len, none_queued}
 
 -- ---- what is queued
@@ -51,12 +45,12 @@ free_share n qs = free_from 0 n qs
 -- ---- those that stay
 
 -- all stay, or all but those of one remote number
-unfoldable pub stays_by : Keep → QueuedOpen → Bool
-stays_by All q = true
-stays_by (Without gone) q = not (eqb q.remote.0 gone.0)
+unfoldable pub stays_by : Option RemoteId → QueuedOpen → Bool
+stays_by None q = true
+stays_by (Some gone) q = not (eqb q.remote.0 gone.0)
 
 -- those that stay, in order
-unfoldable pub kept : Keep → List QueuedOpen → List QueuedOpen
+unfoldable pub kept : Option RemoteId → List QueuedOpen → List QueuedOpen
 kept keep [] = []
 kept keep (q ∷ qs) = cond (stays_by keep q) (q ∷ kept keep qs) (kept keep qs)
 
@@ -86,8 +80,8 @@ with_queued h n = record { negotiated = h.negotiated; next_local = h.next_local;
 unfoldable pub withdrawal : Header → List QueuedOpen → RemoteId → Step Header
 withdrawal h queue gone =
     record {
-      result = with_queued h (length (kept (Without gone) (take h.queued queue)));
-      changes = queue_to (kept (Without gone) (take h.queued queue)) ∷ [];
+      result = with_queued h (length (kept (Some gone) (take h.queued queue)));
+      changes = queue_to (kept (Some gone) (take h.queued queue)) ∷ [];
     }
 
 -- a header that says that the entry behind those that are queued is an offer
@@ -101,11 +95,11 @@ offering h =
     }
 
 -- the first goes, the others move up, and it stands behind them as an offer; nothing where none is queued
-unfoldable pub popped : Header → List QueuedOpen → Step Front
+unfoldable pub popped : Header → List QueuedOpen → Step (Option (QueuedOpen × Header))
 popped h queue =
-    cond (eqb h.queued 0) (record { result = Nothing; changes = [] })
+    cond (eqb h.queued 0) (record { result = None; changes = [] })
     (record {
-      result = Open (get_or queue 0 none_queued) (offering (with_queued h (h.queued - 1)));
+      result = Some (get_or queue 0 none_queued, offering (with_queued h (h.queued - 1)));
       changes = queue_to (drop 1 (take h.queued queue) ++ get_or queue 0 none_queued ∷ []) ∷ [];
     })
 
@@ -128,12 +122,12 @@ pub record PushRoom (h : Header) (state store destination : ℕ) : Type 0 where
 
 -- an answer, what changes in the state, and the open store
 pub record PushOutcome : Type 0 where
-  pub result : Pushed
+  pub result : Option Header
   pub changes : List Change
   pub store : List ℕ
 
 -- what it promises: the answer, every byte of the state and of the open store
-pub record Pushes (o : PushOutcome) (before : List ℕ) (r : Pushed) (after store : List ℕ) : Type 0 where
+pub record Pushes (o : PushOutcome) (before : List ℕ) (r : Option Header) (after store : List ℕ) : Type 0 where
   pub result-is : r ≡ o.result
   pub state-is : after ≡ put_all before o.changes
   pub store_is : store ≡ o.store
@@ -145,9 +139,9 @@ next_share h queue = free_share h.negotiated.config.channels (take h.queued queu
 -- an OPEN is put behind those that are queued; none is while as many are queued as there are channels
 unfoldable pub pushed : Header → List QueuedOpen → RemoteId → ℕ → List ℕ → List ℕ → PushOutcome
 pushed h queue remote credit destination store =
-    cond (leb h.negotiated.config.channels h.queued) (record { result = Full; changes = []; store = store })
+    cond (leb h.negotiated.config.channels h.queued) (record { result = None; changes = []; store = store })
     (record {
-      result = Queued (with_queued h (h.queued + 1));
+      result = Some (with_queued h (h.queued + 1));
       changes = queued_to h.queued (record { remote = remote; credit = credit; share = next_share h queue; length = length destination }) ∷ [];
       store = put store (next_share h queue * h.negotiated.config.max_payload) destination;
     })

@@ -10,51 +10,23 @@ ghost use Rattle.incoming.specs.Numbers.{pushed_number, front_number};
 ghost use Rattle.incoming.specs.Incoming.{named, free_share, stays_by, kept, with_queued, Retains, QueueOk, withdrawal, popped};
 ghost use Rattle.incoming.specs.Incoming.{PushRoom, Pushes, pushed, offering, FrontRoom, returned};
 
+use refusal::there_number_of;
 use slot::ids::RemoteId;
 use state::{Header, Pending, PendingOpen, QueuedOpen, put_queued, queued_at};
 
-// Which of the queued OPENs stay.
-#[derive(Clone, Copy)]
-pub enum Keep {
-    All,
-    Without(RemoteId),
-}
-
-#[derive(Clone, Copy)]
-pub enum Pushed {
-    Queued(Header),
-    Full,
-}
-
-#[derive(Clone, Copy)]
-pub enum Front {
-    Open(QueuedOpen, Header),
-    Nothing,
-}
-
-// The number of each answer (docs/SCOPE.md, 6): an OPEN beyond the number of channels is answered by a CLSE and is no refusal of
+// The numbers of answers (docs/SCOPE.md, 6): an OPEN beyond the number of channels is answered by a CLSE and is no refusal of
 // the call; 101 for none queued.
 
-impl Pushed {
-    pub fn number(self) -> u32
-        ensures { result ≡ pushed_number self }
-    {
-        match self {
-            Pushed::Queued(_) => 0,
-            Pushed::Full => 0,
-        }
-    }
+pub fn pushed_number(pushed: Option<Header>) -> u32
+    ensures { result ≡ pushed_number pushed }
+{
+    there_number_of(pushed, 0)
 }
 
-impl Front {
-    pub fn number(self) -> u32
-        ensures { result ≡ front_number self }
-    {
-        match self {
-            Front::Open(_, _) => 0,
-            Front::Nothing => 101,
-        }
-    }
+pub fn front_number(front: Option<(QueuedOpen, Header)>) -> u32
+    ensures { result ≡ front_number front }
+{
+    there_number_of(front, 101)
 }
 
 // Whether one of the first `queued` uses share k.
@@ -62,13 +34,11 @@ fn is_named(state: &[u8], queued: usize, k: usize) -> bool
     requires { (queued ≤ 64) × (state_len ≤ length state.now) }
     ensures { result ≡ named k (take queued (state_of state.now).queue) }
 {
-    let mut i = 0;
-    while i < queued {
+    for i in 0..queued {
         let q = queued_at(state, i);
         if q.share == k {
             return true;
         }
-        i += 1;
     }
     false
 }
@@ -78,43 +48,36 @@ fn free_share(state: &[u8], queued: usize, n: usize) -> usize
     requires { (queued ≤ 64) × (state_len ≤ length state.now) }
     ensures { result ≡ free_share n (take queued (state_of state.now).queue) }
 {
-    let mut k = 0;
-    while k < n {
-        if is_named(state, queued, k) {
-            k += 1;
-        } else {
+    for k in 0..n {
+        if !is_named(state, queued, k) {
             return k;
         }
     }
     n
 }
 
-fn stays(q: QueuedOpen, keep: Keep) -> bool
-    ensures { result ≡ stays_by keep q }
+// Whether an OPEN stays, where those of one remote number go, or none does.
+fn stays(q: QueuedOpen, gone: Option<RemoteId>) -> bool
+    ensures { result ≡ stays_by gone q }
 {
-    let remote = q.remote;
-    match keep {
-        Keep::All => true,
-        Keep::Without(gone) => remote.0 != gone.0,
+    match gone {
+        None => true,
+        Some(remote) => q.remote != remote,
     }
 }
 
 // Those of the first `queued` that stay, from place `from` on, moved to the front in one pass. Answers how many.
-fn retain(state: &mut [u8], from: usize, queued: usize, keep: Keep) -> usize
+fn retain(state: &mut [u8], from: usize, queued: usize, gone: Option<RemoteId>) -> usize
     requires { (from ≤ queued) × (queued ≤ 64) × (state_len ≤ length state.old) }
-    ensures { Retains (kept keep (drop from (take queued (state_of state.old).queue))) state.old result
+    ensures { Retains (kept gone (drop from (take queued (state_of state.old).queue))) state.old result
         state.new }
 {
     let mut w = 0;
-    let mut i = from;
-    while i < queued {
+    for i in from..queued {
         let q = queued_at(state, i);
-        if stays(q, keep) {
+        if stays(q, gone) {
             put_queued(state, w, q);
             w += 1;
-            i += 1;
-        } else {
-            i += 1;
         }
     }
     w
@@ -123,25 +86,20 @@ fn retain(state: &mut [u8], from: usize, queued: usize, keep: Keep) -> usize
 fn with_queued(h: Header, queued: usize) -> Header
     ensures { result ≡ with_queued h queued }
 {
-    let mut moved = h;
-    moved.queued = queued;
-    moved
+    Header { queued, ..h }
 }
 
 // The entry behind those that are queued is an offer.
 fn offer_behind(h: Header) -> Header
     ensures { result ≡ offering h }
 {
-    let pending = h.pending;
-    let local = pending.local;
-    let offer = PendingOpen {
-        what: Pending::Offer,
-        slot: pending.slot,
-        local,
-    };
-    let mut offered = h;
-    offered.pending = offer;
-    offered
+    Header {
+        pending: PendingOpen {
+            what: Pending::Offer,
+            ..h.pending
+        },
+        ..h
+    }
 }
 
 // Puts one ahead of the first `queued`, which move down a place each.
@@ -150,12 +108,10 @@ fn put_first(state: &mut [u8], queued: usize, first: QueuedOpen)
     ensures { state.new ≡ put_queue state.old (first ∷ take queued (state_of state.old).queue) }
 {
     let mut carried = first;
-    let mut i = 0;
-    while i < queued {
+    for i in 0..queued {
         let next = queued_at(state, i);
         put_queued(state, i, carried);
         carried = next;
-        i += 1;
     }
     put_queued(state, queued, carried);
 }
@@ -169,7 +125,7 @@ pub fn push_back(
     remote: RemoteId,
     credit: u32,
     destination: &[u8],
-) -> Pushed
+) -> Option<Header>
     requires { PushRoom h (length state.old) (length store.old) (length destination.now) }
     ensures { Pushes (pushed h (state_of state.old).queue remote credit destination.now store.old)
         state.old result state.new store.new }
@@ -178,7 +134,7 @@ pub fn push_back(
     let config = negotiated.config;
     let queued = h.queued;
     if queued >= config.channels {
-        return Pushed::Full;
+        return None;
     }
     let share = free_share(state, queued, config.channels);
     let at = share * config.max_payload as usize;
@@ -194,7 +150,7 @@ pub fn push_back(
             length,
         },
     );
-    Pushed::Queued(with_queued(h, queued + 1))
+    Some(with_queued(h, queued + 1))
 }
 
 // Drops those of this remote number.
@@ -202,23 +158,23 @@ pub fn withdraw(state: &mut [u8], h: Header, remote: RemoteId) -> Header
     requires { QueueOk h (length state.old) }
     ensures { Steps (withdrawal h (state_of state.old).queue remote) state.old result state.new }
 {
-    let left = retain(state, 0, h.queued, Keep::Without(remote));
+    let left = retain(state, 0, h.queued, Some(remote));
     with_queued(h, left)
 }
 
 // Takes the one that was queued first, which stands behind the others as an offer; its destination lies in the open store
 // until the next push.
-pub fn pop_front(state: &mut [u8], h: Header) -> Front
+pub fn pop_front(state: &mut [u8], h: Header) -> Option<(QueuedOpen, Header)>
     requires { QueueOk h (length state.old) }
     ensures { Steps (popped h (state_of state.old).queue) state.old result state.new }
 {
     if h.queued == 0 {
-        return Front::Nothing;
+        return None;
     }
     let front = queued_at(state, 0);
-    let left = retain(state, 1, h.queued, Keep::All);
+    let left = retain(state, 1, h.queued, None);
     put_queued(state, left, front);
-    Front::Open(front, offer_behind(with_queued(h, left)))
+    Some((front, offer_behind(with_queued(h, left))))
 }
 
 // Puts one that was taken back ahead of the others.

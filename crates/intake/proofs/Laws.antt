@@ -1,5 +1,5 @@
 -- What one read leaves. Assumes nothing.
-use mathlib.Core.Path.{◌≡◌, refl, sym, ap, ◌∙◌}
+use mathlib.Core.Path.{◌≡◌, sym, ap, ◌∙◌}
 use mathlib.Core.List.{List, ◌++◌}
 use Prim.Native.Nat.{ℕ, ◌+◌, ◌-◌, ◌≤◌}
 use native.Mathlib.Omega.{arith}
@@ -12,7 +12,9 @@ use Rattle.le.specs.Le.{part}
 use Rattle.le.proofs.Parts.{by-test, length_part}
 use Rattle.rx_store.specs.RxStore.{slid}
 use Rattle.rx_store.proofs.Laws.{length-slid}
-use Rattle.intake.specs.Intake.{ReadsMore}
+use Rattle.intake.specs.declared.Held.{Held}
+use Rattle.std.proofs.Common.{ControlFlow}
+use Rattle.intake.specs.Intake.{held_of, more_of, ReadsMore}
 
 -- something came, or nothing did
 came : (n k : ℕ) → ltb 0 k ≡ ltb n (n + k)
@@ -29,17 +31,19 @@ moved : (d : List ℕ) (at n : ℕ) → at + n ≤ length d → take n (slid d a
 unfolding slid
 moved d at n h = take_at (part d at n) (drop n d) n (length_part d at n h)
 
-pub reads_more : (d m ys : List ℕ) (at end k j : ℕ) → at ≤ end → end ≤ length d → m ≡ slid d at (end - at)
+pub reads_more : (d m ys : List ℕ) (at end k j : ℕ) (r : ControlFlow Held Held) → held_of r ≡ record { at = 0; end = (end - at) + k } → more_of r ≡ ltb 0 k → at ≤ end → end ≤ length d → m ≡ slid d at (end - at)
     → (end - at) + k ≤ length (put_mid (end - at) j m ys)
-    → ReadsMore d at end (record { at = 0; end = (end - at) + k; more = ltb 0 k }) (put_mid (end - at) j m ys)
-reads_more d m ys at end k j o i e inside =
+    → ReadsMore d at end r (put_mid (end - at) j m ys)
+reads_more d m ys at end k j r held more o i e inside =
+    let at-is = ap (λ (h : Held). h.at) held in
+    let end_is = ap (λ (h : Held). h.end) held in
     let h : length m ≡ length d = ap length e ∙ length-slid d at (end - at) (omega arith) in
     record {
-      at-is = refl;
+      at-is = at-is;
       kept = front m ys (end - at) j (omega arith) ∙ ap (take (end - at)) e ∙ moved d at (end - at) (omega arith);
       grown = omega arith;
-      inside = inside;
-      more-is = came (end - at) k;
+      inside = omega arith;
+      more-is = more ∙ came (end - at) k ∙ ap (ltb (end - at)) (sym end_is);
     }
 
 -- what a reader of the bytes held used is held
@@ -50,6 +54,10 @@ used-held d at end n h g = let k = length-take (end - at) (drop at d) in omega a
 pub behind : (m ys : List ℕ) (n j k : ℕ) → n ≤ length m → k ≤ length ys → take k (drop n (put_mid n j m ys)) ≡ take k ys
 behind m ys n j k within fits =
     ap (take k) (drop_at (take n m) (ys ++ post_of n j m) n (length-take-le n m within)) ∙ take-append-le k ys (post_of n j m) fits
+
+pub came_behind : (m ys : List ℕ) (n j k : ℕ) → n ≤ length m → k ≤ length ys → part (put_mid n j m ys) n (n + k - n) ≡ take k ys
+unfolding part
+came_behind m ys n j k within fits = let same : n + k - n ≡ k = omega arith in rw (same, behind m ys n j k within fits)
 
 -- and the front with it is all that was read
 pub read-on : (m ys : List ℕ) (n j k : ℕ) → n ≤ length m → k ≤ length ys → take n m ++ take k ys ≡ take (n + k) (put_mid n j m ys)

@@ -1,31 +1,28 @@
-// Bytes of standard input, held in a lent buffer until they are used: those from `at` to `end`.
+// Bytes of an input, held in a lent buffer until they are used.
 #![tactic(auto)]
 
-ghost use Rattle.std.specs.Prelude.{◌≡◌, ◌-◌, ◌<◌, ◌≤◌, length, take, true, IfOk};
+ghost use Rattle.std.specs.Prelude.{◌≡◌, ◌-◌, ◌<◌, ◌≤◌, length, take, IfOk};
 ghost use Rattle.std.specs.Io.KnownBytes.{Consumes, IsAtEnd};
 ghost use Rattle.le.specs.Le.{part};
-ghost use Rattle.intake.specs.Intake.{Within, ReadsMore};
+ghost use Rattle.intake.specs.Intake.{Within, held_of, ReadsMore};
 
 use std::io;
 use std::io::Read;
+use std::ops::ControlFlow;
 
-#[derive(Clone, Copy)]
+// Where held bytes lie in their buffer: from `at` to `end`. The buffer stays beside it: a struct with a `&mut` in it would need a
+// clause in each method that it is the same reference, and reads no plainer.
+#[derive(Clone, Copy, Debug, PartialEq, Eq)]
 pub struct Held {
     pub at: usize,
     pub end: usize,
-    // Whether there may be more to come.
-    pub more: bool,
 }
 
 // Before any byte.
 pub fn begin() -> Held
-    ensures { result ≡ record { at = 0; end = 0; more = true } }
+    ensures { result ≡ record { at = 0; end = 0 } }
 {
-    Held {
-        at: 0,
-        end: 0,
-        more: true,
-    }
+    Held { at: 0, end: 0 }
 }
 
 // How many bytes one read put at the start of buf: none where it failed, as where the input has ended.
@@ -33,25 +30,29 @@ fn came<R: Read>(input: &mut R, buf: &mut [u8]) -> usize
     ensures bound { result ≤ length buf.new }
     ensures bytes { Consumes (R.remaining input.old) (R.remaining input.new) (take result buf.new) }
 {
-    match input.read(buf) {
-        Ok(n) => n,
-        Err(_) => 0,
-    }
+    input.read(buf).unwrap_or(0)
 }
 
-// One read, behind what is held, which is moved to the buffer's start. Where nothing comes, there is no more.
-pub fn read_more<R: Read>(input: &mut R, buf: &mut [u8], at: usize, end: usize) -> Held
-    requires { Within at end buf.old }
-    ensures held { ReadsMore buf.old at end result buf.new }
-    ensures bytes { Consumes (R.remaining input.old) (R.remaining input.new) (part buf.new (end - at) (result.end - (end - at))) }
-{
-    let n = end - at;
-    rx_store::move_down(buf, at, n);
-    let came = came(input, &mut buf[n..]);
-    Held {
-        at: 0,
-        end: n + came,
-        more: came > 0,
+impl Held {
+    // One read, behind what is held, which is moved to the buffer's start. Where nothing comes, there is no more.
+    pub fn read_more<R: Read>(self, input: &mut R, buf: &mut [u8]) -> ControlFlow<Held, Held>
+        requires { Within self.at self.end buf.old }
+        ensures held { ReadsMore buf.old self.at self.end result buf.new }
+        ensures bytes { let n = self.end - self.at in
+            Consumes (R.remaining input.old) (R.remaining input.new) (part buf.new n ((held_of result).end - n)) }
+    {
+        let n = self.end - self.at;
+        rx_store::move_down(buf, self.at, n);
+        let came = came(input, &mut buf[n..]);
+        let held = Held {
+            at: 0,
+            end: n + came,
+        };
+        if came > 0 {
+            ControlFlow::Continue(held)
+        } else {
+            ControlFlow::Break(held)
+        }
     }
 }
 
@@ -62,12 +63,13 @@ pub fn read_full<R: Read>(input: &mut R, buf: &mut [u8]) -> io::Result<usize>
     ensures end { IfOk result (λ n. n < length buf.new → IsAtEnd (R.remaining input.new)) }
 {
     let mut done = 0;
+
+    // The step is what a read brought, so no `for` counts it. std's `read_exact` does not say how many bytes came.
     while done < buf.len() {
-        let came = input.read(&mut buf[done..])?;
-        if came == 0 {
-            return Ok(done);
+        match input.read(&mut buf[done..])? {
+            0 => return Ok(done),
+            came => done += came,
         }
-        done += came;
     }
     Ok(done)
 }

@@ -1,24 +1,23 @@
 -- Laws of numbers as bytes, over any number of bytes and any number of bits. Assumes nothing.
-use mathlib.Core.Path.{◌≡◌, refl, sym, ap, subst, ◌∙◌}
+use mathlib.Core.Path.{◌≡◌, refl, sym, ap, ◌∙◌}
 use mathlib.Core.Logic.{◌⊎◌, ⊎_elim}
-use mathlib.Core.Bool.{true, false}
-use mathlib.Core.List.{List, [], ◌∷◌, ◌++◌}
+use mathlib.Core.List.{List, [], ◌∷◌}
 use Prim.Native.Nat.{ℕ, zero, suc, ◌+◌, ◌-◌, ◌*◌, ◌/◌, ◌%◌, ◌^◌, ◌≤◌, ◌<◌}
-use native.Mathlib.Nat.{zero-add, pow-suc, one-le-pow}
+use native.Mathlib.Nat.{pow-suc, one-le-pow}
 use native.Mathlib.Omega.{arith}
-use lib.Dec.{T, ltb}
-use lib.IntN.{ℤ, pos, negsuc, nat_abs, ◌-ℤ◌}
+use lib.Dec.{ltb}
+use lib.IntN.{ℤ, pos, negsuc}
 use lib.ListN.{length, take, drop, get_or, set, length-take, get_or-eq_default}
 use lib.Seq.{get_or-take, drop-cons, get_or-drop, sets-eq}
-use lib.Signed.{lt_z, mag, non_neg}
+use lib.Signed.{mag}
+use mir.Syntax.{Width}
+use mir.Val.{bits, hbits, to_z, of_z}
+use Rattle.std.specs.Int.{bytes_low_first}
+use Rattle.std.proofs.Math.Nat.{div-div-eq-div-mul}
 use borrow.Author.Tests.{ltb-true, ltb-false, lt-ltb, le-ltb}
 use Rattle.le.specs.Le.{num_of, bytes_of, signed, unsigned, part, put, Bytes}
-use Rattle.le.proofs.Parts.{by-test, length_part, part_join, put-put, part-put-same, part-put-below, part-put-above, length-put}
-
-pub length-bytes_of : (k x : ℕ) → length (bytes_of k x) ≡ k
-unfolding bytes_of
-length-bytes_of zero x = refl
-length-bytes_of (suc k) x = ap suc (length-bytes_of k (x / 256))
+pub use Rattle.le.specs.WordLaws.{length-bytes_of, num_of-small, read-write, unsigned_signed, signed-small}
+use Rattle.le.proofs.Parts.{by-test, length_part, part_join, part-put-same, part-put-below, part-put-above, length-put}
 
 pub bytes_drop : (n : ℕ) (l : List ℕ) → Bytes l → Bytes (drop n l)
 bytes_drop n l h k = rw get_or-drop (h (n + k))
@@ -40,16 +39,6 @@ unfolding bytes_of
 bytes-bytes_of zero x j = omega arith
 bytes-bytes_of (suc k) x zero = omega arith
 bytes-bytes_of (suc k) x (suc j) = bytes-bytes_of k (x / 256) j
-
--- a number of k bytes is below 256 ^ k
-pub num_of-small : (l : List ℕ) → Bytes l → num_of l < 256 ^ length l
-unfolding num_of
-num_of-small [] h = omega arith
-num_of-small (b ∷ l) h =
-    let i = num_of-small l (λ j. h (suc j)) in
-    let lt : b < 256 = h 0 in
-    let e : 256 ^ suc (length l) ≡ 256 ^ length l * 256 = pow-suc 256 (length l) in
-    rw e (omega arith)
 
 -- and so is one of at most k
 pub num_of-take : (k : ℕ) (l : List ℕ) → Bytes l → num_of (take k l) < 256 ^ k
@@ -75,18 +64,6 @@ write_read (suc k) x h =
     let q : x / 256 < 256 ^ k = omega arith in
     let i = write_read k (x / 256) q in
     rw i (omega arith)
-
--- bytes, read and written again
-pub read-write : (l : List ℕ) → Bytes l → bytes_of (length l) (num_of l) ≡ l
-unfolding num_of bytes_of
-read-write [] h = refl
-read-write (b ∷ l) h =
-    let m = num_of l in
-    let lt : b < 256 = h 0 in
-    let r : (b + 256 * m) % 256 ≡ b = omega arith in
-    let q : (b + 256 * m) / 256 ≡ m = omega arith in
-    let i = read-write l (λ j. h (suc j)) in
-    rw (r, q, i)
 
 pub read-write-part : (l : List ℕ) (at k : ℕ) → Bytes l → at + k ≤ length l → bytes_of k (num_of (part l at k)) ≡ part l at k
 read-write-part l at k h e =
@@ -129,6 +106,10 @@ four l a h =
       drop-cons l (suc (suc (suc a))) 0 (omega arith),
     )
 
+pub read-one : (l : List ℕ) (a : ℕ) → a + 1 ≤ length l → get_or l a 0 ≡ num_of (part l a 1)
+unfolding num_of part
+read-one l a h = rw (drop-cons l a 0 (omega arith)) (omega arith)
+
 pub read-four : (l : List ℕ) (a : ℕ) → a + 4 ≤ length l → get_or l a 0 + get_or l (a + 1) 0 * 256 + get_or l (a + 2) 0 * 65536 + get_or l (a + 3) 0 * 16777216 ≡ num_of (part l a 4)
 unfolding num_of
 read-four l a h = rw (four l a h) (omega arith)
@@ -146,44 +127,6 @@ put_byte d at v h k =
     let e : v % 256 ≡ v = omega arith in
     rw e (sets-eq (v ∷ []) d at h)
 
--- four stores are one
-pub put_four : (d : List ℕ) (at v : ℕ) → at + 4 ≤ length d
-    → set (set (set (set d at (v % 256)) (at + 1) (v / 256 % 256)) (at + 2) (v / 65536 % 256)) (at + 3) (v / 16777216 % 256) ≡ put d at (bytes_of 4 v)
-unfolding put bytes_of
-put_four d at v h =
-    let e1 : at + 1 ≡ suc at = omega arith in
-    let e2 : at + 2 ≡ suc (suc at) = omega arith in
-    let e3 : at + 3 ≡ suc (suc (suc at)) = omega arith in
-    let q2 : v / 256 / 256 ≡ v / 65536 = omega arith in
-    let q3 : v / 65536 / 256 ≡ v / 16777216 = omega arith in
-    rw (e1, e2, e3, q2, q3) (sets-eq (v % 256 ∷ v / 256 % 256 ∷ v / 65536 % 256 ∷ v / 16777216 % 256 ∷ []) d at h)
-
-halves : (r q : ℕ) → r < 4294967296 → bytes_of 4 r ++ bytes_of 4 q ≡ bytes_of 8 (r + 4294967296 * q)
-unfolding bytes_of
-halves r q h =
-    let x = r + 4294967296 * q in
-    let d1 : x / 256 ≡ r / 256 + 16777216 * q = omega arith in
-    let d2 : (r / 256 + 16777216 * q) / 256 ≡ r / 256 / 256 + 65536 * q = omega arith in
-    let d3 : (r / 256 / 256 + 65536 * q) / 256 ≡ r / 256 / 256 / 256 + 256 * q = omega arith in
-    let d4 : (r / 256 / 256 / 256 + 256 * q) / 256 ≡ q = omega arith in
-    let e0 : x % 256 ≡ r % 256 = omega arith in
-    let e1 : (r / 256 + 16777216 * q) % 256 ≡ r / 256 % 256 = omega arith in
-    let e2 : (r / 256 / 256 + 65536 * q) % 256 ≡ r / 256 / 256 % 256 = omega arith in
-    let e3 : (r / 256 / 256 / 256 + 256 * q) % 256 ≡ r / 256 / 256 / 256 % 256 = omega arith in
-    rw (d1, d2, d3, d4, e0, e1, e2, e3)
-
-bytes_halves : (x : ℕ) → bytes_of 4 (x % 4294967296) ++ bytes_of 4 (x / 4294967296) ≡ bytes_of 8 x
-bytes_halves x =
-    let e : x % 4294967296 + 4294967296 * (x / 4294967296) ≡ x = omega arith in
-    halves (x % 4294967296) (x / 4294967296) (omega arith) ∙ ap (bytes_of 8) e
-
-pub put-halves : (d : List ℕ) (at x : ℕ) → at + 8 ≤ length d → put (put d at (bytes_of 4 (x % 4294967296))) (at + 4) (bytes_of 4 (x / 4294967296)) ≡ put d at (bytes_of 8 x)
-put-halves d at x h =
-    let n = length-bytes_of 4 (x % 4294967296) in
-    let m = length-bytes_of 4 (x / 4294967296) in
-    put-put d at (bytes_of 4 (x % 4294967296)) (at + 4) (bytes_of 4 (x / 4294967296)) (omega arith) (omega arith)
-    ∙ ap (put d at) (bytes_halves x)
-
 -- two's complement, both ways, at any number of bits
 pub signed-unsigned : (k : ℕ) (z : ℤ) → mag z < 2 ^ k → signed k (unsigned k z) ≡ z
 unfolding signed unsigned
@@ -192,44 +135,34 @@ signed-unsigned k (negsuc n) f =
     let e : 2 * 2 ^ k - 1 - (2 * 2 ^ k - 1 - n) ≡ n = omega arith in
     rw (le-ltb (2 * 2 ^ k - 1 - n) (2 ^ k) (omega arith), e)
 
-pub unsigned_signed : (k x : ℕ) → x < 2 * 2 ^ k → unsigned k (signed k x) ≡ x
-unfolding signed unsigned
-unsigned_signed k x h =
-    by-test (ltb x (2 ^ k)) (λ t. rw t)
-    (λ t. let e : 2 * 2 ^ k - 1 - (2 * 2 ^ k - 1 - x) ≡ x = omega arith in rw (t, e))
-
 -- the number that bits stand for is within its range, and so are the bits of a number
-pub signed-small : (k x : ℕ) → x < 2 * 2 ^ k → mag (signed k x) < 2 ^ k
-unfolding signed
-signed-small k x h =
-    by-test (ltb x (2 ^ k)) (λ t. rw t (omega (arith, ltb-true))) (λ t. rw t (omega (arith, ltb-false)))
-
 pub unsigned_small : (k : ℕ) (z : ℤ) → mag z < 2 ^ k → unsigned k z < 2 * 2 ^ k
 unfolding unsigned
 unsigned_small k (pos n) f = omega arith
 unsigned_small k (negsuc n) f = omega arith
 
--- the code's ways to and from a negative number
-pub minus_one : (k : ℕ) → negsuc 0 -ℤ pos k ≡ negsuc k
-minus_one zero = refl
-minus_one (suc n) = ap (λ (m : ℕ). negsuc (suc m)) (zero-add n)
+-- two's complement as the library says it, at 32 and 64 bits
+pub is-signed : (w : Width) (v : ℕ) → 2 ^ bits w ≡ 2 * 2 ^ hbits w → to_z w v ≡ signed (hbits w) v
+unfolding signed
+is-signed w v e =
+    let f : 2 ^ bits w - suc v ≡ 2 * 2 ^ hbits w - 1 - v = omega arith in
+    by-test (ltb v (2 ^ hbits w)) (λ t. rw t) (λ t. rw (t, f))
 
-pub minus-one-neg : (k : ℕ) → negsuc 0 -ℤ negsuc k ≡ pos k
-minus-one-neg k = rw (le-ltb (suc k) 1 (omega arith)) (ap pos (omega arith))
-
--- what the code says of a negative number of k bits
-pub record Below (k : ℕ) (z : ℤ) : Type 0 where
-  pub flipped : ℕ
-  pub small : flipped < 2 ^ k
-  pub is : negsuc 0 -ℤ z ≡ pos flipped
-  pub bits : 2 * 2 ^ k - 1 - flipped ≡ unsigned k z
-
-pub below : (k : ℕ) (z : ℤ) → mag z < 2 ^ k → lt_z z (pos 0) ≡ true → Below k z
+pub is-unsigned : (w : Width) (z : ℤ) → 2 ^ bits w ≡ 2 * 2 ^ hbits w → of_z w z ≡ unsigned (hbits w) z
 unfolding unsigned
-below k (pos n) f t = absurd (omega (arith, ltb-true))
-below k (negsuc n) f t = record { flipped = n; small = omega arith; is = minus-one-neg n; bits = refl }
+is-unsigned w (pos n) e = refl
+is-unsigned w (negsuc n) e = omega arith
 
-pub not-below : (k : ℕ) (z : ℤ) → lt_z z (pos 0) ≡ false → T (non_neg z) × (nat_abs z ≡ unsigned k z)
-unfolding unsigned
-not-below k (pos n) t = (tt, refl)
-not-below k (negsuc n) t = absurd (subst T t tt)
+-- the bytes that the library makes of a number, from byte i on
+le_bytes : (i k n : ℕ) → bytes_low_first i k n ≡ bytes_of k (n / 256 ^ i)
+unfolding bytes_of
+le_bytes i zero n = refl
+le_bytes zero (suc k) n =
+    let e : n / 256 ^ 0 ≡ n = omega arith in
+    rw (e, le_bytes 1 k n)
+le_bytes (suc i) (suc k) n =
+    let e : n / 256 ^ suc i / 256 ≡ n / 256 ^ suc (suc i) = div-div-eq-div-mul n (256 ^ suc i) 256 ∙ ap (λ m. n / m) (sym (pow-suc 256 (suc i))) in
+    rw (e, le_bytes (suc (suc i)) k n)
+
+pub is-bytes_of : (k n : ℕ) → bytes_low_first 0 k n ≡ bytes_of k n
+is-bytes_of k n = le_bytes 0 k n ∙ ap (bytes_of k) (omega arith)

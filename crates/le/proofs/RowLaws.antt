@@ -1,7 +1,7 @@
 -- Laws of tables of records. Assumes nothing.
 use mathlib.Core.Path.{◌≡◌, refl, sym, ap, subst, ◌∙◌}
 use mathlib.Core.Bool.{Bool, true, false}
-use mathlib.Core.List.{List, [], ◌∷◌, ◌++◌, append_assoc}
+use mathlib.Core.List.{List, [], ◌∷◌, ◌++◌, append_assoc, append-nil}
 use Prim.Native.Nat.{ℕ, zero, suc, ◌+◌, ◌*◌, ◌≤◌, ◌<◌}
 use native.Mathlib.Nat.{zero-mul, suc-mul}
 use native.Mathlib.Omega.{arith}
@@ -9,8 +9,11 @@ use lib.Dec.{T}
 use lib.ListN.{length, take, drop, get_or, set, length-append, length-drop, length-take, take-append-drop, drop_of_length-le}
 use lib.Seq.{split_at, set_split, take_at, drop_at, drop-drop, drop-cons, get_or-take, take-add, length-take-le}
 use Rattle.le.specs.Le.{part, put, Bytes}
-use Rattle.le.proofs.Parts.{by-test}
+use Rattle.le.proofs.Parts.{by-test, put-put}
 use Rattle.le.proofs.Laws.{bytes_drop, bytes_take}
+use Rattle.std.proofs.Common.{add-one}
+use Rattle.std.proofs.lemmas.List.{take_more}
+use Rattle.std.proofs.Math.Nat.{mul-le-mul_right}
 use Rattle.le.specs.Rows.{flat, rows, all_is}
 
 pub never : {P : Type 0} → false ≡ true → P
@@ -42,6 +45,19 @@ module _ {A : Type 0} (size : ℕ) (bytes : A → List ℕ) (sized : (a : A) →
 
   flat-cut-length : (k : ℕ) (x : List A) → k ≤ length x → length (flat bytes (take k x)) ≡ k * size
   flat-cut-length k x h = length-flat (take k x) ∙ rw (length-take-le k x h)
+
+  -- a row behind the first i of them, where each has been put behind those before it
+  pub put_one_more : (d : List ℕ) (at i : ℕ) (xs : List A) (x : A) → i < length xs → at + length xs * size ≤ length d → x ≡ get_or xs i x
+      → put (put d at (flat bytes (take i xs))) (at + i * size) (bytes x) ≡ put d at (flat bytes (take (i + 1) xs))
+  unfolding flat
+  put_one_more d at i xs x h room is =
+      let n : length (flat bytes (take i xs)) ≡ i * size = flat-cut-length i xs (omega arith) in
+      let fit : (i + 1) * size ≤ length xs * size = mul-le-mul_right {m = i + 1} {n = length xs} size (omega arith) in
+      let e : (i + 1) * size ≡ i * size + size = rw (add-one i) (suc-mul i size) in
+      let s = sized x in
+      let grown : take (i + 1) xs ≡ take i xs ++ (x ∷ []) = take_more xs i x h ∙ ap (λ y. take i xs ++ (y ∷ [])) (sym is) in
+      put-put d at (flat bytes (take i xs)) (at + i * size) (bytes x) (omega arith) (omega arith)
+      ∙ ap (put d at) (sym (ap (flat bytes) grown ∙ flat_append (take i xs) (x ∷ []) ∙ ap (λ l. flat bytes (take i xs) ++ l) (append-nil (bytes x))))
 
   pub flat-take : (k : ℕ) (x : List A) → k ≤ length x → take (k * size) (flat bytes x) ≡ flat bytes (take k x)
   flat-take k x h = rw (flat-cut k x) (take_at (flat bytes (take k x)) (flat bytes (drop k x)) (k * size) (flat-cut-length k x h))

@@ -1,157 +1,186 @@
-// Little-endian words at an offset of a slice, unsigned and in two's complement, and a copy to an offset.
+// Little-endian numbers at an offset of a slice, unsigned and in two's complement, and a copy to an offset.
 //
 // Readers say `num_of` of the part they read; writers say `put` of the bytes they write. The laws of both, over any
 // width, are in proofs/Laws.antt.
 #![tactic(auto)]
 
-ghost use Rattle.std.specs.Prelude.{◌≡◌, ◌+◌, ◌*◌, ◌/◌, ◌%◌, ◌≤◌, length};
+ghost use Rattle.std.specs.Prelude.{◌≡◌, refl, ℕ, List, ◌+◌, ◌*◌, ◌≤◌, length};
 ghost use Rattle.le.specs.Le.{num_of, bytes_of, signed, unsigned, part, put};
+ghost use Rattle.le.specs.Rows.{flat};
+ghost use Rattle.le.specs.Word.{WordLaws};
+ghost use Rattle.le.specs.WordLaws.{unsigned_laws, signed_laws};
 
-// The number of four bytes, the low one first.
-fn le4(b0: u8, b1: u8, b2: u8, b3: u8) -> u32
-    ensures { result ≡ b0 + b1 * 256 + b2 * 65536 + b3 * 16777216 }
-{
-    b0 as u32 + b1 as u32 * 256 + b2 as u32 * 65536 + b3 as u32 * 16777216
+// A number that stands in a slice as a fixed count of bytes, the low one first.
+pub trait Word: Copy {
+    // How many bytes.
+    const LEN: usize;
+
+    ghost LEN: { ℕ };
+
+    // The number that they stand for.
+    ghost read: { List ℕ → Self };
+
+    // The bytes that stand for a number.
+    ghost bytes: { Self → List ℕ };
+
+    fn read_at(s: &[u8], at: usize) -> Self
+        requires { at + LEN ≤ length s.now }
+        ensures { result ≡ read (part s.now at LEN) };
+
+    fn put_at(self, s: &mut [u8], at: usize)
+        requires { at + LEN ≤ length s.old }
+        ensures { s.new ≡ put s.old at (bytes self) };
+
+    ghost laws: { WordLaws LEN read bytes };
 }
 
-pub fn get_u32(s: &[u8], at: usize) -> u32
-    requires { at + 4 ≤ length s.now }
-    ensures { result ≡ num_of (part s.now at 4) }
-{
-    le4(s[at], s[at + 1], s[at + 2], s[at + 3])
-}
+impl Word for u8 {
+    const LEN: usize = 1;
 
-// 64 bits as two halves.
-fn join(lo: u32, hi: u32) -> u64
-    ensures { result ≡ lo + hi * 4294967296 }
-{
-    lo as u64 + hi as u64 * 4294967296
-}
+    ghost LEN = { 1 };
 
-fn low(x: u64) -> u32
-    ensures { result ≡ x % 4294967296 }
-{
-    (x % 4294967296) as u32
-}
+    ghost read = { num_of };
 
-fn high(x: u64) -> u32
-    ensures { result ≡ x / 4294967296 }
-{
-    (x / 4294967296) as u32
-}
+    ghost bytes = { bytes_of 1 };
 
-pub fn get_u64(s: &[u8], at: usize) -> u64
-    requires { at + 8 ≤ length s.now }
-    ensures { result ≡ num_of (part s.now at 8) }
-{
-    join(get_u32(s, at), get_u32(s, at + 4))
-}
+    ghost laws = { unsigned_laws 1 };
 
-pub fn get_usize(s: &[u8], at: usize) -> usize
-    requires { at + 8 ≤ length s.now }
-    ensures { result ≡ num_of (part s.now at 8) }
-{
-    get_u64(s, at) as usize
-}
-
-// Two's complement: the number that 32 bits stand for.
-pub fn signed_of_u32(v: u32) -> i32
-    ensures { result ≡ signed 31 v }
-{
-    if v < 0x8000_0000 {
-        return v as i32;
+    fn read_at(s: &[u8], at: usize) -> u8 {
+        s[at]
     }
-    -1 - ((0xffff_ffff - v) as i32)
-}
 
-// The 32 bits that stand for a number.
-pub fn bits_of_i32(z: i32) -> u32
-    ensures { result ≡ unsigned 31 z }
-{
-    if z < 0 {
-        return 0xffff_ffff - ((-1 - z) as u32);
+    fn put_at(self, s: &mut [u8], at: usize) {
+        s[at] = self;
     }
-    z as u32
 }
 
-// Two's complement: the number that 64 bits stand for.
-pub fn signed_of_u64(v: u64) -> i64
-    ensures { result ≡ signed 63 v }
-{
-    if v < 0x8000_0000_0000_0000 {
-        return v as i64;
+impl Word for u32 {
+    const LEN: usize = 4;
+
+    ghost LEN = { 4 };
+
+    ghost read = { num_of };
+
+    ghost bytes = { bytes_of 4 };
+
+    ghost laws = { unsigned_laws 4 };
+
+    fn read_at(s: &[u8], at: usize) -> u32 {
+        u32::from_le_bytes([s[at], s[at + 1], s[at + 2], s[at + 3]])
     }
-    -1 - ((0xffff_ffff_ffff_ffff - v) as i64)
-}
 
-// The 64 bits that stand for a number.
-pub fn bits_of_i64(z: i64) -> u64
-    ensures { result ≡ unsigned 63 z }
-{
-    if z < 0 {
-        return 0xffff_ffff_ffff_ffff - ((-1 - z) as u64);
+    fn put_at(self, s: &mut [u8], at: usize) {
+        let end = at + 4;
+        s[at..end].copy_from_slice(&self.to_le_bytes());
     }
-    z as u64
 }
 
-pub fn get_i32(s: &[u8], at: usize) -> i32
-    requires { at + 4 ≤ length s.now }
-    ensures { result ≡ signed 31 (num_of (part s.now at 4)) }
-{
-    signed_of_u32(get_u32(s, at))
+// Read in two halves, so that what is proved of four bytes serves for eight.
+impl Word for u64 {
+    const LEN: usize = 8;
+
+    ghost LEN = { 8 };
+
+    ghost read = { num_of };
+
+    ghost bytes = { bytes_of 8 };
+
+    ghost laws = { unsigned_laws 8 };
+
+    fn read_at(s: &[u8], at: usize) -> u64 {
+        u64::from(u32::read_at(s, at)) + u64::from(u32::read_at(s, at + 4)) * 0x1_0000_0000
+    }
+
+    fn put_at(self, s: &mut [u8], at: usize) {
+        let end = at + 8;
+        s[at..end].copy_from_slice(&u64::to_le_bytes(self));
+    }
 }
 
-pub fn get_i64(s: &[u8], at: usize) -> i64
-    requires { at + 8 ≤ length s.now }
-    ensures { result ≡ signed 63 (num_of (part s.now at 8)) }
-{
-    signed_of_u64(get_u64(s, at))
+impl Word for usize {
+    const LEN: usize = 8;
+
+    ghost LEN = { 8 };
+
+    ghost read = { num_of };
+
+    ghost bytes = { bytes_of 8 };
+
+    ghost laws = { unsigned_laws 8 };
+
+    fn read_at(s: &[u8], at: usize) -> usize {
+        u64::read_at(s, at) as usize
+    }
+
+    fn put_at(self, s: &mut [u8], at: usize) {
+        (self as u64).put_at(s, at);
+    }
 }
 
-pub fn put_u8(s: &mut [u8], at: usize, x: u8)
-    requires { at + 1 ≤ length s.old }
-    ensures { s.new ≡ put s.old at (bytes_of 1 x) }
-{
-    s[at] = x;
+impl Word for i32 {
+    const LEN: usize = 4;
+
+    ghost LEN = { 4 };
+
+    ghost read = { λ l. signed 31 (num_of l) };
+
+    ghost bytes = { λ z. bytes_of 4 (unsigned 31 z) };
+
+    ghost laws = { signed_laws 31 4 refl };
+
+    fn read_at(s: &[u8], at: usize) -> i32 {
+        u32::read_at(s, at).cast_signed()
+    }
+
+    fn put_at(self, s: &mut [u8], at: usize) {
+        self.cast_unsigned().put_at(s, at);
+    }
 }
 
-pub fn put_u32(s: &mut [u8], at: usize, x: u32)
-    requires { at + 4 ≤ length s.old }
-    ensures { s.new ≡ put s.old at (bytes_of 4 x) }
-{
-    s[at] = (x % 256) as u8;
-    s[at + 1] = (x / 256 % 256) as u8;
-    s[at + 2] = (x / 65536 % 256) as u8;
-    s[at + 3] = (x / 16777216 % 256) as u8;
+impl Word for i64 {
+    const LEN: usize = 8;
+
+    ghost LEN = { 8 };
+
+    ghost read = { λ l. signed 63 (num_of l) };
+
+    ghost bytes = { λ z. bytes_of 8 (unsigned 63 z) };
+
+    ghost laws = { signed_laws 63 8 refl };
+
+    fn read_at(s: &[u8], at: usize) -> i64 {
+        u64::read_at(s, at).cast_signed()
+    }
+
+    fn put_at(self, s: &mut [u8], at: usize) {
+        self.cast_unsigned().put_at(s, at);
+    }
 }
 
-pub fn put_u64(s: &mut [u8], at: usize, x: u64)
-    requires { at + 8 ≤ length s.old }
-    ensures { s.new ≡ put s.old at (bytes_of 8 x) }
+pub fn get<T: Word>(s: &[u8], at: usize) -> T
+    requires { at + T.LEN ≤ length s.now }
+    ensures { result ≡ T.read (part s.now at T.LEN) }
 {
-    put_u32(s, at, low(x));
-    put_u32(s, at + 4, high(x));
+    T::read_at(s, at)
 }
 
-pub fn put_usize(s: &mut [u8], at: usize, x: usize)
-    requires { at + 8 ≤ length s.old }
-    ensures { s.new ≡ put s.old at (bytes_of 8 x) }
+pub fn put<T: Word>(s: &mut [u8], at: usize, x: T)
+    requires { at + T.LEN ≤ length s.old }
+    ensures { s.new ≡ put s.old at (T.bytes x) }
 {
-    put_u64(s, at, x as u64);
+    x.put_at(s, at);
 }
 
-pub fn put_i32(s: &mut [u8], at: usize, z: i32)
-    requires { at + 4 ≤ length s.old }
-    ensures { s.new ≡ put s.old at (bytes_of 4 (unsigned 31 z)) }
+// Several, one behind the other.
+pub fn put_all<T: Word>(s: &mut [u8], at: usize, xs: &[T])
+    requires { at + length xs.now * T.LEN ≤ length s.old }
+    ensures { s.new ≡ put s.old at (flat T.bytes xs.now) }
 {
-    put_u32(s, at, bits_of_i32(z));
-}
-
-pub fn put_i64(s: &mut [u8], at: usize, z: i64)
-    requires { at + 8 ≤ length s.old }
-    ensures { s.new ≡ put s.old at (bytes_of 8 (unsigned 63 z)) }
-{
-    put_u64(s, at, bits_of_i64(z));
+    let mut end = at;
+    for x in xs {
+        x.put_at(s, end);
+        end += T::LEN;
+    }
 }
 
 // All of src, at an offset of dst.

@@ -23,5 +23,5 @@ use Rattle.table_dispatch.specs.Dispatch.{named_place, remote_place, closed_at, 
 use Rattle.marked.specs.Marked.{Row, table}
 
 pub agrees : map (λ (r : Row). r.given) table ≡ map (λ (r : Row). r.said) table
-unfolding table num_of bytes_of part total sum_of check_for letters_of word_of magic_of commands among_of command_of same_bytes colons_in colon_after begins named after_name first_part on_first parts_of any_same listed has_feature message_of header_bytes payload_of check_passes packet_of known_of named_of decode_of decoded_number used_of message_for packet_bytes signed cap_of ceiling_of watermark_of opening_credit fits_behind appended_head taken_head clamp sat_sum credit_number credit_fault_number at_least_zero fault_refusal refusal_number wanted_by first place_of is_ready is_the is_failed readied_of granted ready_at grant_of decision_number taken_number error_number credit_of opening_slot accepted_slot is_opening is_closed ready_by ready_of held_of acks_now buffered_with wrote_of some_len ack_len_of has_data settled_by settled_some settled_of take_len took_of taken_of error_of next_local_id both negotiated_of policy_of acted_by table_of act_on answer_number ends unless_fault received_by received_of dispatch_by dispatch_step stays_by kept withdrawal slot_in named_place remote_place closed_at close_of route_of dispatch_of
+unfolding table num_of bytes_of part total sum_of check_for letters_of word_of magic_of commands among_of command_of same_bytes colons_in colon_after begins named after_name first_part on_first parts_of any_same listed has_feature message_of header_bytes payload_of check_passes packet_of known_of named_of decode_of used_of message_for packet_bytes signed cap_of ceiling_of watermark_of opening_credit fits_behind appended_head taken_head clamp sat_sum at_least_zero wanted_by first place_of is_ready is_the is_failed readied_of granted ready_at grant_of credit_of opening_slot accepted_slot is_opening is_closed ready_by ready_of held_of acks_now buffered_with wrote_of some_len ack_len_of has_data settled_by settled_some settled_of take_len took_of taken_of error_of next_local_id both negotiated_of policy_of acted_by table_of act_on answer_number ends unless_fault received_by received_of dispatch_by dispatch_step stays_by kept withdrawal slot_in named_place remote_place closed_at close_of route_of dispatch_of
 agrees = refl

@@ -1,9 +1,8 @@
 -- The marked cases (docs/SCOPE.md, 9): for each, what the definitions give and what they are to give. Assumes nothing.
-use Rattle.std.specs.Prelude.{ℕ, suc, ℤ, pos, negsuc, Bool, true, false, List, [], ◌∷◌, ◌++◌, take}
+use Rattle.std.specs.Prelude.{ℕ, suc, ℤ, pos, negsuc, Bool, true, false, List, [], ◌∷◌, ◌++◌, take, Option, Some, None, Result, Ok, Err}
 use Rattle.le.specs.Le.{bytes_of}
 use Rattle.checksum.specs.declared.Checksum.TheVariants.{Compute, Skip}
 use Rattle.protocol.specs.declared.command.Command.TheVariants.{Ready, Close, Write}
-use Rattle.protocol.specs.declared.packet.Decoded.{Decoded}
 use Rattle.checksum.specs.Checksum.{check_for}
 use Rattle.features.specs.Features.{has_feature}
 use Rattle.protocol.specs.Packet.{decode_of, decoded_number, used_of, packet_bytes}
@@ -14,13 +13,7 @@ use Rattle.config.specs.Negotiated.{negotiated_of}
 use Rattle.connection.specs.Answer.{answer_number}
 use Rattle.connection.specs.Calls.{Outcome, dispatch_step}
 use Rattle.slot.specs.declared.ChannelSlot.{ChannelSlot}
-use Rattle.credit.specs.declared.Credit.{Credit}
-use Rattle.credit.specs.declared.Credit.TheVariants.{Of, Bad}
-use Rattle.slot.specs.declared.PendingAck.{PendingAck}
-use Rattle.slot.specs.declared.PendingAck.TheVariants.{Len, Nothing}
 use Rattle.slot.specs.declared.Settled.{Settled}
-use Rattle.slot.specs.declared.Taken.{Taken}
-use Rattle.slot.specs.declared.Taken.TheVariants.{Data, Nothing as NothingTaken, Closed as ClosedTaken}
 use Rattle.slot.specs.declared.Wrote.{Wrote}
 use Rattle.credit.specs.Credit.{credit_number, credit_of}
 use Rattle.slot.specs.Numbers.{decision_number, taken_number}
@@ -31,6 +24,10 @@ use Rattle.state.specs.declared.QueuedOpen.{QueuedOpen}
 use Rattle.state.specs.Change.{changed_all}
 use Rattle.state.specs.State.{Connection}
 use Rattle.table.specs.Table.{slot_in, next_local_id}
+use Rattle.credit.specs.declared.CreditFault.{CreditFault}
+use Rattle.protocol.specs.declared.packet.Packet.{Packet}
+use Rattle.protocol.specs.declared.packet.DecodeError.{DecodeError}
+use Rattle.slot.specs.declared.ChannelError.{ChannelError}
 
 -- a row: the case, what the definitions give, and what the document says
 pub record Row : Type 0 where
@@ -42,7 +39,7 @@ abbrev row : ℕ → List ℕ → List ℕ → Row
 row m g s = record { mark = m; given = g; said = s }
 
 -- an answer as numbers: its own, and the bytes used
-abbrev answer : Decoded → List ℕ
+abbrev answer : Result (Option Packet) DecodeError → List ℕ
 answer d = decoded_number d ∷ used_of d ∷ []
 
 -- waiting, used 0
@@ -92,9 +89,9 @@ sized (pos n) = 0 ∷ n ∷ []
 sized (negsuc n) = 1 ∷ suc n ∷ []
 
 -- a credit: its answer's number, and its value
-abbrev credit : Credit → List ℕ
-credit (Of z) = credit_number (Of z) ∷ sized z
-credit (Bad f) = credit_number (Bad f) ∷ []
+abbrev credit : Result ℤ CreditFault → List ℕ
+credit (Ok z) = credit_number (Ok z) ∷ sized z
+credit (Err f) = credit_number (Err f) ∷ []
 
 -- delayed, cap 10
 abbrev ten : RxPolicy
@@ -132,19 +129,19 @@ abbrev four : Settled
 four = settled_of six.slot ten 4
 
 -- an acknowledgement's length
-abbrev length-of : PendingAck → List ℕ
-length-of (Len n) = n ∷ []
-length-of Nothing = []
+abbrev length-of : Option ℕ → List ℕ
+length-of (Some n) = n ∷ []
+length-of None = []
 
 -- what a WRTE does: its answer's number, and what is then unacknowledged
 abbrev wrote : Wrote → List ℕ
 wrote w = decision_number w.decision ∷ w.slot.unacked ∷ []
 
 -- what a take does: its answer's number, its length, and what is then set aside
-abbrev took : Taken → List ℕ
-took (Data s n) = taken_number (Data s n) ∷ n ∷ s.settled ∷ []
-took NothingTaken = taken_number NothingTaken ∷ []
-took (ClosedTaken e) = taken_number (ClosedTaken e) ∷ []
+abbrev took : Result (Option (ChannelSlot × ℕ)) ChannelError → List ℕ
+took (Ok (Some (s, n))) = taken_number (Ok (Some (s, n))) ∷ n ∷ s.settled ∷ []
+took (Ok None) = taken_number (Ok None) ∷ []
+took (Err e) = taken_number (Err e) ∷ []
 
 -- M9: a channel whose remote number is 0, and two queued opens, one of remote number 0
 abbrev queued_opens : ℕ → QueuedOpen

@@ -4,6 +4,7 @@
 --     pieces         so records read in pieces are those of the whole
 --     file-pieces    and so is a file, its header with it
 --     file-arrives   a file that was written is read as its frames, in whatever pieces it arrives
+use Rattle.std.proofs.Common.{Some, None, Ok, Err}
 use mathlib.Core.Path.{◌≡◌, refl, sym, ap, subst, ◌∙◌}
 use mathlib.Core.Bool.{true, false}
 use mathlib.Core.List.{List, [], ◌∷◌, ◌++◌, append_assoc, append-nil}
@@ -16,12 +17,9 @@ use borrow.Author.Tests.{ltb-false, le-ltb}
 use Rattle.le.proofs.Parts.{by-test, part-front}
 use Rattle.stream.specs.Stream.{message, refused, more, is_waiting, joined, Reading, read_all, begun, feed, feed_all, Stable, Every, none_left, each, written, ReadsBack}
 use Rattle.stream.proofs.Cut.{cut, arrives}
-use Rattle.pcap.specs.declared.Header.{Header}
-use Rattle.pcap.specs.declared.Header.TheVariants.{Waiting as HeaderWaiting, Invalid, Whole as HeaderWhole}
-use Rattle.pcap.specs.declared.Read.{Read}
-use Rattle.pcap.specs.declared.Read.TheVariants.{Waiting, InvalidLength, Whole}
-use Rattle.pcap.specs.Header.{file_header, read_header}
-use Rattle.pcap.specs.Record.{kept_of, original_of, is_refused, read_record, used_of}
+use Rattle.pcap.specs.declared.Record.{Record}
+use Rattle.pcap.specs.Header.{file_header, HeaderRead, read_header}
+use Rattle.pcap.specs.Record.{Read, kept_of, original_of, is_refused, read_record, used_of}
 use Rattle.pcap.specs.File.{Got, answer_of, receives, FileReading, head_on, read_file, file_begun, head_fed, feed_file, feed_files, bytes_for, file_of, Sent}
 use Rattle.pcap.proofs.WriteLaws.{length-header, length-record}
 use Rattle.pcap.proofs.ReadLaws.{says, used-within, time-front, kept-front, original-front, header-stays}
@@ -49,27 +47,28 @@ module _ (limit : ℕ) (l m : List ℕ) where
 
   answer-stays : (r : Read) → read_record limit l ≡ r → answer_of (l ++ m) r ≡ answer_of l r
   unfolding answer_of
-  answer-stays Waiting e = refl
-  answer-stays InvalidLength e = refl
-  answer-stays (Whole t n used) e =
-      let a = says limit l t n used e in
-      rw (part-front l m 16 n (omega (arith, a.length-is, a.whole)))
+  answer-stays (Ok None) e = refl
+  answer-stays (Err x) e = refl
+  answer-stays (Ok (Some r)) e =
+      let a = says limit l r e in
+      rw (a.record-is, part-front l m 16 (kept_of l) a.whole)
 
 -- a record uses its header at least
 whole-used : (limit : ℕ) (l : List ℕ) (g : Got) (n : ℕ) (r : Read) → read_record limit l ≡ r → answer_of l r ≡ message g n → (n ≡ used_of r) × (0 < n)
 unfolding answer_of used_of
-whole-used limit l g n Waiting e f = let z : ◌≡◌ {A = ℕ} 0 1 = cc in absurd (omega arith)
-whole-used limit l g n InvalidLength e f = let z : ◌≡◌ {A = ℕ} 0 1 = cc in absurd (omega arith)
-whole-used limit l g n (Whole t k used) e f =
-    let s = says limit l t k used e in
-    let i : n ≡ used = cc in
-    (i, omega (arith, s.used-is))
+whole-used limit l g n (Ok None) e f = let z : ◌≡◌ {A = ℕ} 0 1 = cc in absurd (omega arith)
+whole-used limit l g n (Err x) e f = let z : ◌≡◌ {A = ℕ} 0 1 = cc in absurd (omega arith)
+whole-used limit l g n (Ok (Some r)) e f =
+    let s = says limit l r e in
+    let u = ap (λ (x : Record). x.used) s.record-is in
+    let i : n ≡ r.used = cc in
+    (i, omega arith)
 
 refusal-used : (l : List ℕ) (number n : ℕ) (r : Read) → answer_of l r ≡ refused number n → n ≡ used_of r
 unfolding answer_of
-refusal-used l number n Waiting f = cc
-refusal-used l number n InvalidLength f = cc
-refusal-used l number n (Whole t k used) f = cc
+refusal-used l number n (Ok None) f = cc
+refusal-used l number n (Err x) f = cc
+refusal-used l number n (Ok (Some r)) f = cc
 
 pub stable : (limit : ℕ) → Stable (receives limit)
 unfolding receives read_record answer_of
@@ -96,19 +95,19 @@ records-behind limit l c =
     ap (λ (r : Reading Got). feed (receives limit) r c) (sym one) ∙ two
 
 -- a header that is here or another
-header-long : (l : List ℕ) (h : Header) → read_header l ≡ h → (h ≡ HeaderWaiting → ⊥) → 24 ≤ length l
+header-long : (l : List ℕ) (h : HeaderRead) → read_header l ≡ h → (h ≡ Ok None → ⊥) → 24 ≤ length l
 unfolding read_header
 header-long l h e f =
     by-test (ltb (length l) 24) (λ t. absurd (f (sym e ∙ rw t))) (λ t. ltb-false (length l) 24 t)
 
-behind-at : (limit : ℕ) (l c : List ℕ) (h : Header) → read_header l ≡ h → feed_file limit (head_on limit l h) c ≡ read_file limit (l ++ c)
+behind-at : (limit : ℕ) (l c : List ℕ) (h : HeaderRead) → read_header l ≡ h → feed_file limit (head_on limit l h) c ≡ read_file limit (l ++ c)
 unfolding feed_file head_on head_fed read_file
-behind-at limit l c HeaderWaiting e = refl
-behind-at limit l c Invalid e =
-    let n = header-long l Invalid e (λ f. let z : ◌≡◌ {A = ℕ} 0 1 = cc in omega arith) in
+behind-at limit l c (Ok None) e = refl
+behind-at limit l c (Err x) e =
+    let n = header-long l (Err x) e (λ f. let z : ◌≡◌ {A = ℕ} 0 1 = cc in omega arith) in
     rw (header-stays l c n, e)
-behind-at limit l c HeaderWhole e =
-    let n = header-long l HeaderWhole e (λ f. let z : ◌≡◌ {A = ℕ} 0 1 = cc in omega arith) in
+behind-at limit l c (Ok (Some h)) e =
+    let n = header-long l (Ok (Some h)) e (λ f. let z : ◌≡◌ {A = ℕ} 0 1 = cc in omega arith) in
     rw (header-stays l c n, e, drop-append-le 24 l c n) (ap (λ (r : Reading Got). record { headed = true; reading = r }) (records-behind limit (drop 24 l) c))
 
 behind : (limit : ℕ) (l c : List ℕ) → feed_file limit (read_file limit l) c ≡ read_file limit (l ++ c)

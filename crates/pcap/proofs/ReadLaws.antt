@@ -1,56 +1,24 @@
 -- Laws of the readers: their answers case by case, what an accepted record's bytes say, and that an answer does not change by what
 -- arrives behind. Assumes nothing.
-use mathlib.Core.Path.{◌≡◌, refl, sym, subst}
-use mathlib.Core.Bool.{Bool, true, false, not}
+use Rattle.std.proofs.Common.{Some, None, Ok, Err}
+use mathlib.Core.Path.{◌≡◌, refl, sym, ap, subst}
+use mathlib.Core.Bool.{false, not}
 use mathlib.Core.List.{List, ◌++◌}
 use Prim.Native.Nat.{ℕ, ◌+◌, ◌≤◌, ◌<◌}
 use native.Mathlib.Omega.{arith}
 use lib.Dec.{T, ltb, eqb}
 use lib.ListN.{length, length-append}
 use borrow.Author.Tests.{ltb-false, lt-ltb, le-ltb, eqb-true, not-false}
-use Rattle.le.specs.Le.{num_of, part}
 use Rattle.le.proofs.Parts.{by-test, part-front}
-use Rattle.pcap.specs.declared.Time.{Time}
-use Rattle.pcap.specs.declared.Read.{Read}
-use Rattle.pcap.specs.declared.Read.TheVariants.{Waiting, InvalidLength, Whole}
+use Rattle.pcap.specs.declared.Record.{Record}
+use Rattle.pcap.specs.declared.ReadError.TheVariants.{InvalidLength}
 use Rattle.pcap.specs.Header.{has_other, is_other, read_header}
-use Rattle.pcap.specs.Record.{snap_length, time_of, kept_of, original_of, is_refused, read_record, used_of}
-
--- ---- the answers, by the tests that lead to them
-
-module _ (limit : ℕ) (s : List ℕ) where
-  pub read_short : length s < 16 → Waiting ≡ read_record limit s
-  unfolding read_record
-  read_short h = rw (lt-ltb (length s) 16 h)
-
-  module _ (kept original : ℕ) (b : Bool) (here : 16 ≤ length s) (ek : kept ≡ num_of (part s 8 4)) (eo : original ≡ num_of (part s 12 4))
-      (eb : b ≡ is_refused limit kept original) where
-    refused-is : is_refused limit (kept_of s) (original_of s) ≡ b
-    unfolding kept_of original_of
-    refused-is = rw (← ek, ← eo) (sym eb)
-
-    kept-is : kept_of s ≡ kept
-    unfolding kept_of
-    kept-is = sym ek
-
-    pub read-refused : b ≡ true → InvalidLength ≡ read_record limit s
-    unfolding read_record
-    read-refused t = rw (le-ltb (length s) 16 here, refused-is, t)
-
-    pub read-part : b ≡ false → length s < 16 + kept → Waiting ≡ read_record limit s
-    unfolding read_record
-    read-part t h = rw (le-ltb (length s) 16 here, refused-is, t, kept-is, lt-ltb (length s) (16 + kept) h)
-
-    pub read_whole : (time : Time) → b ≡ false → 16 + kept ≤ length s → time ≡ time_of s → Whole time kept (16 + kept) ≡ read_record limit s
-    unfolding read_record
-    read_whole time t h e = rw (le-ltb (length s) 16 here, refused-is, t, kept-is, le-ltb (length s) (16 + kept) h, e)
+use Rattle.pcap.specs.Record.{snap_length, time_of, kept_of, original_of, is_refused, Read, record_in, read_record, used_of}
 
 -- ---- what an accepted record's bytes say
 
-pub record Says (limit : ℕ) (s : List ℕ) (time : Time) (n used : ℕ) : Type 0 where
-  pub time-is : time ≡ time_of s
-  pub length-is : n ≡ kept_of s
-  pub used-is : used ≡ 16 + kept_of s
+pub record Says (limit : ℕ) (s : List ℕ) (r : Record) : Type 0 where
+  pub record-is : r ≡ record_in (time_of s) (kept_of s)
   pub same : original_of s ≡ kept_of s
   pub within : kept_of s ≤ limit
   pub small : kept_of s ≤ snap_length
@@ -65,9 +33,9 @@ taken-says limit kept original e =
     (λ t. let f = rw (t₁, t) at e in absurd (subst T f tt))
     (λ t₂. let f = rw (t₁, t₂) at e in (sym (eqb-true kept original (not-false _ t₁)), ltb-false limit kept t₂, ltb-false snap_length kept f)))
 
-pub says : (limit : ℕ) (s : List ℕ) (time : Time) (n used : ℕ) → read_record limit s ≡ Whole time n used → Says limit s time n used
+pub says : (limit : ℕ) (s : List ℕ) (r : Record) → read_record limit s ≡ Ok (Some r) → Says limit s r
 unfolding read_record
-says limit s time n used e =
+says limit s r e =
     by-test (ltb (length s) 16)
     (λ t. let f = rw t at e in let z : ◌≡◌ {A = ℕ} 0 1 = cc in absurd (omega arith))
     (λ t₁. by-test (is_refused limit (kept_of s) (original_of s))
@@ -77,9 +45,7 @@ says limit s time n used e =
     (λ t₃. let f = rw (t₁, t₂, t₃) at e in
     let y = taken-says limit (kept_of s) (original_of s) t₂ in
     record {
-      time-is = cc;
-      length-is = cc;
-      used-is = cc;
+      record-is = cc;
       same = y.0;
       within = y.1;
       small = y.2;
@@ -89,9 +55,9 @@ says limit s time n used e =
 -- what is used is here
 used-of : (limit : ℕ) (s : List ℕ) (r : Read) → read_record limit s ≡ r → used_of r ≤ length s
 unfolding used_of
-used-of limit s Waiting e = omega arith
-used-of limit s InvalidLength e = omega arith
-used-of limit s (Whole t n used) e = let a = says limit s t n used e in omega (arith, a.used-is, a.whole)
+used-of limit s (Ok None) e = omega arith
+used-of limit s (Err x) e = omega arith
+used-of limit s (Ok (Some r)) e = let a = says limit s r e in let u = ap (λ (x : Record). x.used) a.record-is in omega (arith, a.whole)
 
 pub used-within : (limit : ℕ) (s : List ℕ) → used_of (read_record limit s) ≤ length s
 used-within limit s = used-of limit s (read_record limit s) refl
@@ -104,7 +70,7 @@ unfolding read_record is_refused
 same-limit a b s h g = rw (le-ltb a (kept_of s) h, le-ltb b (kept_of s) g)
 
 -- one over a limit is refused once its header is here
-pub over-limit : (limit : ℕ) (s : List ℕ) → 16 ≤ length s → limit < kept_of s → read_record limit s ≡ InvalidLength
+pub over-limit : (limit : ℕ) (s : List ℕ) → 16 ≤ length s → limit < kept_of s → read_record limit s ≡ Err InvalidLength
 unfolding read_record is_refused
 over-limit limit s h g =
     by-test (not (eqb (kept_of s) (original_of s)))

@@ -4,30 +4,34 @@
 --     write_read                 what `write_record` makes, `read_record` gives back, whatever follows
 --     read-write                 what `read_record` accepts, `write_record` makes byte for byte
 --     over-read                  what the writer refuses by 23, the reader does
+use Rattle.std.proofs.Common.{Some, Ok, Err, Bool, cond}
+use Rattle.std.specs.List.{starts_with}
+use Rattle.std.proofs.lemmas.Slice.Eq.{starts_is}
+use Rattle.std.proofs.lemmas.Bool.Decides.{Decides-eqb}
 use mathlib.Core.Path.{◌≡◌, refl, sym, ap, subst, ◌∙◌}
 use mathlib.Core.Bool.{false}
 use mathlib.Core.List.{List, ◌++◌, append_assoc}
 use Prim.Native.Nat.{ℕ, ◌+◌, ◌≤◌, ◌<◌, ◌^◌}
 use native.Mathlib.Omega.{arith}
-use lib.Dec.{T, ltb}
-use lib.ListN.{length, take, drop, length-append}
+use lib.Dec.{T, ltb, eqb}
+use lib.ListN.{length, take, drop, length-append, take-append-drop}
 use lib.Seq.{drop_at, take-append_seam}
 use borrow.Author.Tests.{ltb-false, lt-ltb, le-ltb, eq-eqb, eqb-true, not-false}
 use Rattle.le.specs.Le.{num_of, bytes_of, part, put, Bytes}
 use Rattle.le.proofs.Laws.{write_read as bytes_back, read-write-part}
 use Rattle.le.proofs.Parts.{by-test, part_join, length_part}
 use Rattle.pcap.specs.declared.Time.{Time}
-use Rattle.pcap.specs.declared.Header.TheVariants.{Whole as HeaderWhole}
-use Rattle.pcap.specs.declared.Read.TheVariants.{InvalidLength, Whole}
-use Rattle.pcap.specs.declared.Written.TheVariants.{Bytes as Written-as-Bytes}
+use Rattle.pcap.specs.declared.Record.{Record}
+use Rattle.pcap.specs.declared.HeaderError.TheVariants.{Invalid}
+use Rattle.pcap.specs.declared.ReadError.TheVariants.{InvalidLength}
 use Rattle.pcap.specs.Header.{file_header, has_other, is_other, read_header}
-use Rattle.pcap.specs.Record.{snap_length, time_of, kept_of, original_of, is_refused, read_record, record_head, record_bytes, Words, write_record}
+use Rattle.pcap.specs.Record.{snap_length, time_of, kept_of, original_of, is_refused, record_in, read_record, record_head, record_bytes, Words, write_record}
 use Rattle.pcap.proofs.WriteLaws.{length-head, length-record}
 use Rattle.pcap.proofs.ReadLaws.{says}
 
 -- ---- the file's header
 
-pub header_read : (rest : List ℕ) → read_header (file_header ++ rest) ≡ HeaderWhole
+pub header_read : (rest : List ℕ) → read_header (file_header ++ rest) ≡ Ok (Some (record {}))
 unfolding read_header is_other has_other file_header bytes_of part num_of
 header_read rest = rw (le-ltb (length (file_header ++ rest)) 24 (omega (arith, length-append file_header rest)))
 
@@ -63,7 +67,7 @@ own-bytes s h n e =
       word-is s 20 147 h (omega arith) t₅,
     ))))))
 
-pub read-header : (s : List ℕ) → Bytes s → read_header s ≡ HeaderWhole → take 24 s ≡ file_header
+pub read-header : (s : List ℕ) → Bytes s → read_header s ≡ Ok (Some (record {})) → take 24 s ≡ file_header
 unfolding read_header part
 read-header s h e =
     by-test (ltb (length s) 24)
@@ -71,6 +75,19 @@ read-header s h e =
     (λ t₁. by-test (is_other s)
     (λ t. let f = rw (t₁, t) at e in let z : ◌≡◌ {A = ℕ} 0 1 = cc in absurd (omega arith))
     (λ t₂. own-bytes s h (ltb-false _ _ t₁) t₂))
+
+-- bytes are that header exactly where they begin with its bytes
+pub header-compared : (s : List ℕ) (r : Bool) → Bytes s → 24 ≤ length s → r ≡ starts_with eqb s file_header
+    → cond r (Ok (Some (record {}))) (Err Invalid) ≡ read_header s
+unfolding read_header part
+header-compared s r b h e =
+    let p = starts_is Decides-eqb s file_header r e in
+    by-test r
+    (λ t. rw t (sym (ap read_header (p.0 t) ∙ header_read (drop (length file_header) s))))
+    (λ t. by-test (is_other s)
+    (λ o. rw (t, le-ltb (length s) 24 h, o))
+    (λ o. let is : file_header ++ drop 24 s ≡ s = ap (λ (l : List ℕ). l ++ drop 24 s) (sym (own-bytes s b h o)) ∙ take-append-drop 24 s in
+    absurd (subst T (sym (p.1 (drop 24 s) (sym is)) ∙ t) tt)))
 
 -- ---- writing, then reading
 
@@ -108,7 +125,7 @@ module _ (t : Time) (frame rest : List ℕ) where
 
   -- they are read as that record
   pub not-refused : (limit : ℕ) → Words t → length frame ≤ limit → length frame ≤ snap_length
-      → read_record limit (record_bytes t frame ++ rest) ≡ Whole t (length frame) (16 + length frame)
+      → read_record limit (record_bytes t frame ++ rest) ≡ Ok (Some (record_in t (length frame)))
   unfolding read_record
   not-refused limit w h g =
       let s = record_bytes t frame ++ rest in
@@ -119,7 +136,7 @@ module _ (t : Time) (frame rest : List ℕ) where
       rw (le-ltb (length s) 16 (omega arith), ek, eo, taken limit (length frame) h g, le-ltb (length s) (16 + length frame) (omega arith), et)
 
   -- what the writer refuses by 23, the reader does
-  pub over-read : (limit : ℕ) → snap_length < length frame → length frame < 2 ^ 32 → read_record limit (record_bytes t frame ++ rest) ≡ InvalidLength
+  pub over-read : (limit : ℕ) → snap_length < length frame → length frame < 2 ^ 32 → read_record limit (record_bytes t frame ++ rest) ≡ Err InvalidLength
   unfolding read_record is_refused
   over-read limit h g =
       let s = record_bytes t frame ++ rest in
@@ -136,7 +153,7 @@ pub record WrittenSays (t : Time) (frame out : List ℕ) (n : ℕ) : Type 0 wher
   pub count-is : n ≡ 16 + length frame
   pub out-is : (write_record t frame out).out ≡ put out 0 (record_bytes t frame)
 
-pub written-says : (t : Time) (frame out : List ℕ) (n : ℕ) → (write_record t frame out).result ≡ Written-as-Bytes n → WrittenSays t frame out n
+pub written-says : (t : Time) (frame out : List ℕ) (n : ℕ) → (write_record t frame out).result ≡ Ok n → WrittenSays t frame out n
 unfolding write_record
 written-says t frame out n e =
     by-test (ltb snap_length (length frame))
@@ -146,10 +163,10 @@ written-says t frame out n e =
     (λ u₂. let f = rw (u₁, u₂) at e in record { small = ltb-false _ _ u₁; count-is = cc; out-is = rw (u₁, u₂) }))
 
 pub record FrameComesBack (t : Time) (frame : List ℕ) (limit n : ℕ) (s : List ℕ) : Type 0 where
-  pub read_is : read_record limit s ≡ Whole t (length frame) n
+  pub read_is : read_record limit s ≡ Ok (Some (record { time = t; length = length frame; used = n }))
   pub frame_is : part s 16 (length frame) ≡ frame
 
-pub write_read : (t : Time) (frame out rest : List ℕ) (limit n : ℕ) → Words t → length frame ≤ limit → (write_record t frame out).result ≡ Written-as-Bytes n
+pub write_read : (t : Time) (frame out rest : List ℕ) (limit n : ℕ) → Words t → length frame ≤ limit → (write_record t frame out).result ≡ Ok n
     → FrameComesBack t frame limit n ((write_record t frame out).out ++ rest)
 unfolding put
 write_read t frame out rest limit n w h e =
@@ -158,7 +175,7 @@ write_read t frame out rest limit n w h e =
     let o : (write_record t frame out).out ++ rest ≡ record_bytes t frame ++ more =
     ap (λ (l : List ℕ). l ++ rest) y.out-is ∙ append_assoc (record_bytes t frame) (drop (0 + length (record_bytes t frame)) out) rest in
     rw o (record {
-      read_is = not-refused t frame more limit w h y.small ∙ ap (Whole t (length frame)) (sym y.count-is);
+      read_is = not-refused t frame more limit w h y.small ∙ ap (λ (k : ℕ). Ok (Some (record { time = t; length = length frame; used = k }))) (sym y.count-is);
       frame_is = frame_here t frame more;
     })
 
@@ -184,21 +201,23 @@ unfolding part
 front-part s n = refl
 
 -- what is accepted has the bytes of that record
-pub accepted-bytes : (limit : ℕ) (s : List ℕ) (t : Time) (n used : ℕ) → Bytes s → read_record limit s ≡ Whole t n used → take used s ≡ record_bytes t (part s 16 n)
+pub accepted-bytes : (limit : ℕ) (s : List ℕ) (r : Record) → Bytes s → read_record limit s ≡ Ok (Some r) → take r.used s ≡ record_bytes r.time (part s 16 r.length)
 unfolding record_bytes
-accepted-bytes limit s t n used h e =
-    let y = says limit s t n used e in
-    let l : length (part s 16 n) ≡ n = length_part s 16 n (omega (arith, y.length-is, y.whole)) in
-    let d : record_head t n ≡ part s 0 16 = rw (y.time-is, y.length-is) (head-again s h (omega (arith, y.whole)) y.same) in
-    let u : used ≡ 16 + n = omega (arith, y.used-is, y.length-is) in
-    rw (l, d, part_join s 0 16 n, u) (sym (front-part s (16 + n)))
+accepted-bytes limit s r h e =
+    let y = says limit s r e in
+    let n = kept_of s in
+    let l : length (part s 16 n) ≡ n = length_part s 16 n (omega (arith, y.whole)) in
+    let d : record_head (time_of s) n ≡ part s 0 16 = head-again s h (omega (arith, y.whole)) y.same in
+    rw (y.record-is, l, d, part_join s 0 16 n) (sym (front-part s (16 + n)))
 
-pub read-write : (limit : ℕ) (s : List ℕ) (t : Time) (n used : ℕ) (out : List ℕ) → Bytes s → read_record limit s ≡ Whole t n used → used ≤ length out
-    → write_record t (part s 16 n) out ≡ record { result = Written-as-Bytes used; out = put out 0 (take used s) }
+pub read-write : (limit : ℕ) (s : List ℕ) (r : Record) (out : List ℕ) → Bytes s → read_record limit s ≡ Ok (Some r) → r.used ≤ length out
+    → write_record r.time (part s 16 r.length) out ≡ record { result = Ok r.used; out = put out 0 (take r.used s) }
 unfolding write_record
-read-write limit s t n used out h e room =
-    let y = says limit s t n used e in
-    let b = accepted-bytes limit s t n used h e in
-    let l : length (part s 16 n) ≡ n = length_part s 16 n (omega (arith, y.length-is, y.whole)) in
-    let u : used ≡ 16 + n = omega (arith, y.used-is, y.length-is) in
-    rw (l, le-ltb snap_length n (omega (arith, y.small, y.length-is)), le-ltb (length out) (16 + n) (omega arith), ← b, ← u)
+read-write limit s r out h e room =
+    let y = says limit s r e in
+    let b = accepted-bytes limit s r h e in
+    let n = ap (λ (x : Record). x.length) y.record-is in
+    let u = ap (λ (x : Record). x.used) y.record-is in
+    let u' : 16 + r.length ≡ r.used = omega (arith, n, u) in
+    let l : length (part s 16 r.length) ≡ r.length = length_part s 16 r.length (omega (arith, n, y.whole)) in
+    rw (l, le-ltb snap_length r.length (omega (arith, y.small, n)), le-ltb (length out) (16 + r.length) (omega arith), ← b, u')

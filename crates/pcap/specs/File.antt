@@ -1,15 +1,10 @@
 -- A pcap file as bytes that arrive in pieces: a header, then records. Assumes nothing.
-use Rattle.std.specs.Prelude.{ℕ, ◌≤◌, ◌≡◌, Bool, true, false, cond, List, [], ◌∷◌, ◌++◌, length, drop}
+use Rattle.std.specs.Prelude.{ℕ, ◌≤◌, ◌≡◌, Bool, true, false, cond, List, [], ◌∷◌, ◌++◌, Some, None, Ok, Err, length, drop}
 use Rattle.le.specs.Le.{part}
 use Rattle.stream.specs.Stream.{Answer, waiting, message, refused, End, more, stopped, Reading, read_all, begun, feed, written}
 use Rattle.pcap.specs.declared.Time.{Time}
-use Rattle.pcap.specs.declared.Header.{Header}
-use Rattle.pcap.specs.declared.Header.TheVariants.{Waiting as HeaderWaiting, Invalid, Whole as HeaderWhole}
-use Rattle.pcap.specs.declared.Read.{Read}
-use Rattle.pcap.specs.declared.Read.TheVariants.{Waiting, InvalidLength, Whole}
-use Rattle.pcap.specs.declared.Written.TheVariants.{Bytes}
-use Rattle.pcap.specs.Header.{file_header, read_header, header_number}
-use Rattle.pcap.specs.Record.{read_record, read_number, used_of, record_bytes, Words, write_record}
+use Rattle.pcap.specs.Header.{file_header, HeaderRead, read_header, header_number}
+use Rattle.pcap.specs.Record.{Read, read_record, read_number, used_of, record_bytes, Words, write_record}
 
 -- a frame with its time
 pub record Got : Type 0 where
@@ -17,9 +12,9 @@ pub record Got : Type 0 where
   pub frame : List ℕ
 
 unfoldable pub answer_of : List ℕ → Read → Answer Got
-answer_of s Waiting = waiting
-answer_of s InvalidLength = refused (read_number InvalidLength) (used_of InvalidLength)
-answer_of s (Whole t n used) = message (record { time = t; frame = part s 16 n }) (used_of (Whole t n used))
+answer_of s (Ok None) = waiting
+answer_of s (Err e) = refused (read_number (Err e)) (used_of (Err e))
+answer_of s (Ok (Some r)) = message (record { time = r.time; frame = part s 16 r.length }) (used_of (Ok (Some r)))
 
 -- the reader of records, with frames up to a limit
 unfoldable pub receives : ℕ → List ℕ → Answer Got
@@ -31,10 +26,10 @@ pub record FileReading : Type 0 where
   pub reading : Reading Got
 
 -- what bytes l come to, by what they begin with
-unfoldable pub head_on : ℕ → List ℕ → Header → FileReading
-head_on limit l HeaderWaiting = record { headed = false; reading = record { messages = []; ending = more; rest = l } }
-head_on limit l Invalid = record { headed = false; reading = record { messages = []; ending = stopped (header_number Invalid); rest = l } }
-head_on limit l HeaderWhole = record { headed = true; reading = read_all (receives limit) (drop 24 l) }
+unfoldable pub head_on : ℕ → List ℕ → HeaderRead → FileReading
+head_on limit l (Ok None) = record { headed = false; reading = record { messages = []; ending = more; rest = l } }
+head_on limit l (Err e) = record { headed = false; reading = record { messages = []; ending = stopped (header_number (Err e)); rest = l } }
+head_on limit l (Ok (Some h)) = record { headed = true; reading = read_all (receives limit) (drop 24 l) }
 
 -- all that is read of a file's bytes l
 unfoldable pub read_file : ℕ → List ℕ → FileReading
@@ -74,4 +69,4 @@ pub record Sent (limit : ℕ) (g : Got) : Type 0 where
   pub words : Words g.time
   pub buffer : List ℕ
   pub count : ℕ
-  pub was-written : (write_record g.time g.frame buffer).result ≡ Bytes count
+  pub was-written : (write_record g.time g.frame buffer).result ≡ Ok count

@@ -1,11 +1,13 @@
 -- The records of a pcap file (docs/SCOPE.md, 12). Assumes nothing.
-use Rattle.std.specs.Prelude.{ℕ, ◌+◌, ◌≤◌, ◌<◌, ◌^◌, ◌≡◌, Bool, true, cond, not, List, ◌++◌, ltb, eqb, length}
+use Rattle.std.specs.Prelude.{ℕ, ◌+◌, ◌≤◌, ◌<◌, ◌^◌, ◌≡◌, Bool, true, cond, not, List, ◌++◌, ltb, eqb, Option, Some, None, Result, Ok, Err, length}
+use Rattle.refusal.specs.Refusal.{number_of, read_number_of}
 use Rattle.le.specs.Le.{num_of, bytes_of, part, put}
 use Rattle.pcap.specs.declared.Time.{Time}
-use Rattle.pcap.specs.declared.Read.{Read}
-use Rattle.pcap.specs.declared.Read.TheVariants.{Waiting, InvalidLength, Whole}
-use Rattle.pcap.specs.declared.Written.{Written}
-use Rattle.pcap.specs.declared.Written.TheVariants.{Bytes, OutShort, InvalidLength as NotWritten}
+use Rattle.pcap.specs.declared.Record.{Record}
+use Rattle.pcap.specs.declared.ReadError.{ReadError}
+use Rattle.pcap.specs.declared.ReadError.TheVariants.{InvalidLength}
+use Rattle.pcap.specs.declared.WriteError.{WriteError}
+use Rattle.pcap.specs.declared.WriteError.TheVariants.{OutShort, InvalidLength as NotWritten}
 
 -- the longest frame of a record: a frame's header of 24 bytes and a payload of 1,048,576
 abbrev pub snap_length : ℕ
@@ -28,25 +30,35 @@ original_of s = num_of (part s 12 4)
 unfoldable pub is_refused : ℕ → ℕ → ℕ → Bool
 is_refused limit kept original = cond (not (eqb kept original)) true (cond (ltb limit kept) true (ltb snap_length kept))
 
+-- what received bytes begin with
+abbrev pub Read : Type 0
+Read = Result (Option Record) ReadError
+
+-- a record with a frame of n bytes, and its header ahead of them
+abbrev pub record_in : Time → ℕ → Record
+record_in t n = record { time = t; length = n; used = 16 + n }
+
 -- under 16 bytes: waiting; then 23; then waiting for the frame
 unfoldable pub read_record : ℕ → List ℕ → Read
 read_record limit s =
-    cond (ltb (length s) 16) Waiting
-    (cond (is_refused limit (kept_of s) (original_of s)) InvalidLength
-    (cond (ltb (length s) (16 + kept_of s)) Waiting
-    (Whole (time_of s) (kept_of s) (16 + kept_of s))))
+    cond (ltb (length s) 16) (Ok None)
+    (cond (is_refused limit (kept_of s) (original_of s)) (Err InvalidLength)
+    (cond (ltb (length s) (16 + kept_of s)) (Ok None)
+    (Ok (Some (record_in (time_of s) (kept_of s))))))
+
+-- a refusal's number
+abbrev pub read_refusal : ReadError → ℕ
+read_refusal InvalidLength = 23
 
 -- the number of an answer: a refusal's own, 100 for waiting, 0 for a record
-unfoldable pub read_number : Read → ℕ
-read_number Waiting = 100
-read_number InvalidLength = 23
-read_number (Whole t n used) = 0
+abbrev pub read_number : Read → ℕ
+read_number = read_number_of read_refusal
 
 -- bytes used: those of a record, none otherwise
 unfoldable pub used_of : Read → ℕ
-used_of Waiting = 0
-used_of InvalidLength = 0
-used_of (Whole t n used) = used
+used_of (Ok None) = 0
+used_of (Ok (Some r)) = r.used
+used_of (Err e) = 0
 
 -- ---- writing
 
@@ -68,6 +80,10 @@ pub record Room (out frame : List ℕ) : Type 0 where
   pub small : length frame ≤ snap_length
   pub fits : 16 + length frame ≤ length out
 
+-- what became of what was to be written: its length, or why it was not
+abbrev pub Written : Type 0
+Written = Result ℕ WriteError
+
 -- what writing gives: its answer, and the outgoing bytes after it
 pub record Composed : Type 0 where
   pub result : Written
@@ -76,24 +92,27 @@ pub record Composed : Type 0 where
 -- a record's header alone: a frame over the snap length is refused by 23, a short buffer by 9
 unfoldable pub write_head : Time → ℕ → List ℕ → Composed
 write_head t n out =
-    cond (ltb snap_length n) (record { result = NotWritten; out = out })
-    (cond (ltb (length out) 16) (record { result = OutShort; out = out })
-    (record { result = Bytes 16; out = put out 0 (record_head t n) }))
+    cond (ltb snap_length n) (record { result = Err NotWritten; out = out })
+    (cond (ltb (length out) 16) (record { result = Err OutShort; out = out })
+    (record { result = Ok 16; out = put out 0 (record_head t n) }))
 
 -- a record: the same refusals, with room for the frame
 unfoldable pub write_record : Time → List ℕ → List ℕ → Composed
 write_record t frame out =
-    cond (ltb snap_length (length frame)) (record { result = NotWritten; out = out })
-    (cond (ltb (length out) (16 + length frame)) (record { result = OutShort; out = out })
-    (record { result = Bytes (16 + length frame); out = put out 0 (record_bytes t frame) }))
+    cond (ltb snap_length (length frame)) (record { result = Err NotWritten; out = out })
+    (cond (ltb (length out) (16 + length frame)) (record { result = Err OutShort; out = out })
+    (record { result = Ok (16 + length frame); out = put out 0 (record_bytes t frame) }))
 
 -- what a writer promises: the definition's answer, and every byte of out
 pub record Writes (o : Composed) (r : Written) (out : List ℕ) : Type 0 where
   pub result-is : r ≡ o.result
   pub out-is : out ≡ o.out
 
+-- a refusal's number
+abbrev pub write_refusal : WriteError → ℕ
+write_refusal NotWritten = 23
+write_refusal OutShort = 9
+
 -- the number of its answer: a refusal's own, 0 for what was written
-unfoldable pub written_number : Written → ℕ
-written_number (Bytes n) = 0
-written_number NotWritten = 23
-written_number OutShort = 9
+abbrev pub written_number : Written → ℕ
+written_number = number_of write_refusal

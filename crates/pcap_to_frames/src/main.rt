@@ -4,7 +4,7 @@
 
 ghost use Rattle.std.specs.Prelude.{◌≡◌, length};
 
-use convert::Way;
+use convert::ToFrames;
 use std::io;
 
 type Buffer = [u8; 65552];
@@ -18,12 +18,11 @@ fn room() -> Buffer
 
 fn main(rt: HostRuntime) -> io::Result<()> {
     let mut input = rt.stdin();
-    let mut header = [0u8; 24];
+    let mut header = [0u8; pcap::HEADER_SIZE];
     let n = intake::read_full(&mut input, &mut header)?;
-    if pcap::read_header(&header[..n]).number() != 0 {
-        return Ok(());
+    if let Ok(Some(_)) = pcap::read_header(&header[..n]) {
+        let mut buf = room();
+        convert::convert(&mut input, &mut rt.stdout(), ToFrames, &mut buf);
     }
-    let mut buf = room();
-    convert::convert(&mut input, &mut rt.stdout(), Way::ToFrames, &mut buf);
     Ok(())
 }

@@ -10,14 +10,14 @@ use Rattle.le.specs.Le.{put}
 use Rattle.le.proofs.Parts.{lent-part, put-put}
 use Rattle.checksum.specs.declared.Checksum.{Checksum}
 use Rattle.protocol.specs.declared.command.Command.{Command}
-use Rattle.protocol.specs.declared.command.CommandWord.{CommandWord}
 use Rattle.protocol.specs.declared.message.Message.{Message}
-use Rattle.protocol.specs.declared.packet.Encoded.TheVariants.{Written}
 use Rattle.checksum.specs.Checksum.{check_for}
 use Rattle.protocol.specs.Command.{word_of, magic_of, command_of}
 use Rattle.protocol.specs.Message.{message_of, header_bytes}
 use Rattle.protocol.specs.Packet.{payload_limit, payload_of, check_passes, named_of, decode_of, message_for, packet_bytes, frame_for, Puts, encode_of, Encodes}
 use Rattle.protocol.proofs.MessageLaws.{length-header}
+use Rattle.std.specs.Prelude.{Result, Ok}
+use Rattle.protocol.specs.declared.command.UnknownCommand.{UnknownCommand}
 
 -- the check of the part that the code lends is the check of the payload
 pub lent-check : (s : List ℕ) (n check : ℕ) (r t : Bool) → r ≡ check_passes check (take (24 + n - 24) (drop 24 s)) → r ≡ t
@@ -44,16 +44,16 @@ unfolding packet_bytes
 frame-length c a b payload check = rw (length-append, length-header)
 
 -- with the header here, what its command gives is the answer
-pub named-decode : (s : List ℕ) (limit : ℕ) (m : Message) (w : CommandWord) → 24 ≤ length s → m ≡ message_of s → w ≡ command_of m.command
+pub named-decode : (s : List ℕ) (limit : ℕ) (m : Message) (w : Result Command UnknownCommand) → 24 ≤ length s → m ≡ message_of s → w ≡ command_of m.command
     → named_of s limit m w ≡ decode_of s limit
 unfolding decode_of
 named-decode s limit m w h e f = rw (le-ltb (length s) 24 h) (cc)
 
 -- a frame at the start of out, where it fits, is what encoding gives
 pub encoded : (c : Command) (a b : ℕ) (payload : List ℕ) (k : Checksum) (d out : List ℕ) (r : ℕ) → length payload ≤ payload_limit
-    → 24 + length payload ≤ length d → Puts d 0 (frame_for c a b payload k) r out → Encodes (encode_of c a b payload k d) (Written r) out
+    → 24 + length payload ≤ length d → Puts d 0 (frame_for c a b payload k) r out → Encodes (encode_of c a b payload k d) (Ok r) out
 unfolding encode_of
 encoded c a b payload k d out r h g p =
     let n = frame-length c a b payload (check_for k payload) in
     let e : r ≡ 24 + length payload = omega (arith, p.end_is) in
-    rw (le-ltb payload_limit (length payload) h, le-ltb (length d) (24 + length payload) g) (record { result-is = ap Written e; out-is = p.out-is })
+    rw (le-ltb payload_limit (length payload) h, le-ltb (length d) (24 + length payload) g) (record { result-is = ap Ok e; out-is = p.out-is })

@@ -17,12 +17,8 @@ use Rattle.le.proofs.Parts.{by-test, length_part}
 use Rattle.checksum.specs.declared.Checksum.{Checksum}
 use Rattle.checksum.specs.declared.Checksum.TheVariants.{Compute, Skip}
 use Rattle.protocol.specs.declared.command.Command.{Command}
-use Rattle.protocol.specs.declared.command.CommandWord.{CommandWord}
-use Rattle.protocol.specs.declared.command.CommandWord.TheVariants.{Known, Invalid}
 use Rattle.protocol.specs.declared.message.Message.{Message}
 use Rattle.protocol.specs.declared.packet.Packet.{Packet}
-use Rattle.protocol.specs.declared.packet.Decoded.TheVariants.{Accepted}
-use Rattle.protocol.specs.declared.packet.Encoded.TheVariants.{Written}
 use Rattle.checksum.specs.Checksum.{sum_of, check_for}
 use Rattle.protocol.specs.Command.{word_of, magic_of, command_of}
 use Rattle.protocol.specs.Message.{message_of, header_bytes}
@@ -31,6 +27,8 @@ use Rattle.checksum.proofs.ChecksumLaws.{check-small}
 use Rattle.protocol.proofs.CommandLaws.{word-names, named-word, word_small, magic-small}
 use Rattle.protocol.proofs.MessageLaws.{Words, length-header, read-header, write-header}
 use Rattle.protocol.proofs.PacketLaws.{frame-length}
+use Rattle.std.specs.Prelude.{Some, Result, Ok, Err}
+use Rattle.protocol.specs.declared.command.UnknownCommand.{UnknownCommand}
 
 -- ---- what an accepted frame's header says
 
@@ -41,7 +39,7 @@ pub record KnownSays (s : List ℕ) (limit : ℕ) (c : Command) (m : Message) (p
   pub passes : check_passes m.data_check (payload_of s m.data_length) ≡ true
   pub packet-is : p ≡ packet_of c m
 
-known-says : (s : List ℕ) (limit : ℕ) (c : Command) (m : Message) (p : Packet) → known_of s limit c m ≡ Accepted p → KnownSays s limit c m p
+known-says : (s : List ℕ) (limit : ℕ) (c : Command) (m : Message) (p : Packet) → known_of s limit c m ≡ Ok (Some p) → KnownSays s limit c m p
 unfolding known_of
 known-says s limit c m p e =
     by-test (not (eqb m.magic (magic_of c)))
@@ -67,11 +65,11 @@ pub record Says (s : List ℕ) (limit : ℕ) (p : Packet) : Type 0 where
   pub word-is : (message_of s).command ≡ word_of p.command
   pub known : KnownSays s limit p.command (message_of s) p
 
-named-says : (s : List ℕ) (limit : ℕ) (p : Packet) (w : CommandWord) → 24 ≤ length s → command_of (message_of s).command ≡ w
-    → named_of s limit (message_of s) w ≡ Accepted p → Says s limit p
+named-says : (s : List ℕ) (limit : ℕ) (p : Packet) (w : Result Command UnknownCommand) → 24 ≤ length s → command_of (message_of s).command ≡ w
+    → named_of s limit (message_of s) w ≡ Ok (Some p) → Says s limit p
 unfolding named_of packet_of
-named-says s limit p (Invalid word) h n e = let z : ◌≡◌ {A = ℕ} 0 1 = cc in absurd (omega arith)
-named-says s limit p (Known c) h n e =
+named-says s limit p (Err unknown) h n e = let z : ◌≡◌ {A = ℕ} 0 1 = cc in absurd (omega arith)
+named-says s limit p (Ok c) h n e =
     let k = known-says s limit c (message_of s) p e in
     let same : c ≡ p.command = sym (ap (λ (q : Packet). q.command) k.packet-is) in
     record {
@@ -80,7 +78,7 @@ named-says s limit p (Known c) h n e =
       known = rw same at k;
     }
 
-pub says : (s : List ℕ) (limit : ℕ) (p : Packet) → decode_of s limit ≡ Accepted p → Says s limit p
+pub says : (s : List ℕ) (limit : ℕ) (p : Packet) → decode_of s limit ≡ Ok (Some p) → Says s limit p
 unfolding decode_of
 says s limit p e =
     by-test (ltb (length s) 24)
@@ -131,7 +129,7 @@ accepted-of s limit c h n w k =
       bytes-are = rw (e, write-header s h n) (sym (in_three s m.data_length));
     }
 
-pub accepted-bytes : (s : List ℕ) (limit : ℕ) (p : Packet) → Bytes s → decode_of s limit ≡ Accepted p → HasBytes s limit p
+pub accepted-bytes : (s : List ℕ) (limit : ℕ) (p : Packet) → Bytes s → decode_of s limit ≡ Ok (Some p) → HasBytes s limit p
 unfolding packet_of
 accepted-bytes s limit p h e =
     let f = says s limit p e in
@@ -154,7 +152,7 @@ module _ (c : Command) (a b : ℕ) (payload rest : List ℕ) (check : ℕ) where
 
   pub not-refused : (limit : ℕ) → a < 2 ^ 32 → b < 2 ^ 32 → check < 2 ^ 32 → length payload ≤ min limit payload_limit
       → check_passes check payload ≡ true
-      → decode_of (packet_bytes c a b payload check ++ rest) limit ≡ Accepted (record { command = c; arg0 = a; arg1 = b; data_length = length payload })
+      → decode_of (packet_bytes c a b payload check ++ rest) limit ≡ Ok (Some (record { command = c; arg0 = a; arg1 = b; data_length = length payload }))
   unfolding decode_of named_of known_of packet_of message_for
   not-refused limit ha hb hk hl ok =
       let m = message_for c a b payload check in
@@ -191,11 +189,11 @@ own-check Compute payload =
 
 pub record FrameComesBack (c : Command) (a b : ℕ) (payload : List ℕ) (limit n : ℕ) (s : List ℕ) : Type 0 where
   pub length-is : n ≡ 24 + length payload
-  pub frame_is : decode_of s limit ≡ Accepted (record { command = c; arg0 = a; arg1 = b; data_length = length payload })
+  pub frame_is : decode_of s limit ≡ Ok (Some (record { command = c; arg0 = a; arg1 = b; data_length = length payload }))
   pub payload-is : payload_of s (length payload) ≡ payload
 
 pub encode-decode : (c : Command) (a b : ℕ) (payload : List ℕ) (k : Checksum) (out : List ℕ) (limit n : ℕ) → a < 2 ^ 32 → b < 2 ^ 32
-    → length payload ≤ limit → (encode_of c a b payload k out).result ≡ Written n → FrameComesBack c a b payload limit n (encode_of c a b payload k out).out
+    → length payload ≤ limit → (encode_of c a b payload k out).result ≡ Ok n → FrameComesBack c a b payload limit n (encode_of c a b payload k out).out
 unfolding encode_of put
 encode-decode c a b payload k out limit n ha hb hl e =
     by-test (ltb payload_limit (length payload))
@@ -213,10 +211,10 @@ encode-decode c a b payload k out limit n ha hb hl e =
 
 -- ---- decoding, then encoding
 
-pub decode-encode : (s : List ℕ) (limit : ℕ) (p : Packet) (k : Checksum) (out : List ℕ) → Bytes s → decode_of s limit ≡ Accepted p
+pub decode-encode : (s : List ℕ) (limit : ℕ) (p : Packet) (k : Checksum) (out : List ℕ) → Bytes s → decode_of s limit ≡ Ok (Some p)
     → (message_of s).data_check ≡ check_for k (payload_of s p.data_length) → 24 + p.data_length ≤ length out
     → encode_of p.command p.arg0 p.arg1 (payload_of s p.data_length) k out
-    ≡ record { result = Written (24 + p.data_length); out = put out 0 (take (24 + p.data_length) s) }
+    ≡ record { result = Ok (24 + p.data_length); out = put out 0 (take (24 + p.data_length) s) }
 unfolding encode_of
 decode-encode s limit p k out h e right room =
     let payload = payload_of s p.data_length in

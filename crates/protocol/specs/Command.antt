@@ -4,8 +4,8 @@ use Rattle.std.specs.Int.Bits.{bit_xor}
 use Rattle.le.specs.Le.{num_of}
 use Rattle.protocol.specs.declared.command.Command.{Command}
 use Rattle.protocol.specs.declared.command.Command.TheVariants.{Sync, Connect, Open, Ready, Close, Write, Auth, StartTls}
-use Rattle.protocol.specs.declared.command.CommandWord.{CommandWord}
-use Rattle.protocol.specs.declared.command.CommandWord.TheVariants.{Known, Invalid}
+use Rattle.protocol.specs.declared.command.UnknownCommand.{UnknownCommand}
+use Rattle.std.specs.Prelude.{Result, Ok, Err}
 
 -- a command's four letters in ASCII: SYNC, CNXN, OPEN, OKAY, CLSE, WRTE, AUTH, STLS
 unfoldable pub letters_of : Command → List ℕ
@@ -31,12 +31,12 @@ unfoldable pub commands : List Command
 commands = Sync ∷ Connect ∷ Open ∷ Ready ∷ Close ∷ Write ∷ Auth ∷ StartTls ∷ []
 
 -- the first of some commands that has this word
-unfoldable pub among_of : List Command → ℕ → CommandWord
-among_of [] word = Invalid word
-among_of (c ∷ cs) word = cond (eqb word (word_of c)) (Known c) (among_of cs word)
+unfoldable pub among_of : List Command → ℕ → Result Command UnknownCommand
+among_of [] word = Err (record { 0 = word })
+among_of (c ∷ cs) word = cond (eqb word (word_of c)) (Ok c) (among_of cs word)
 
 -- the command that a word names
-unfoldable pub command_of : ℕ → CommandWord
+unfoldable pub command_of : ℕ → Result Command UnknownCommand
 command_of word = among_of commands word
 
 -- the command d, told by its word

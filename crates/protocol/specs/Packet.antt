@@ -3,17 +3,18 @@ use Rattle.std.specs.Prelude.{ℕ, ◌+◌, ◌-◌, ◌≤◌, min, ◌≡◌, 
 use Rattle.le.specs.Le.{num_of, part, put}
 use Rattle.checksum.specs.declared.Checksum.{Checksum}
 use Rattle.protocol.specs.declared.command.Command.{Command}
-use Rattle.protocol.specs.declared.command.CommandWord.{CommandWord}
-use Rattle.protocol.specs.declared.command.CommandWord.TheVariants.{Known, Invalid}
 use Rattle.protocol.specs.declared.message.Message.{Message}
 use Rattle.protocol.specs.declared.packet.Packet.{Packet}
-use Rattle.protocol.specs.declared.packet.Decoded.{Decoded}
-use Rattle.protocol.specs.declared.packet.Decoded.TheVariants.{Waiting, InvalidCommand, InvalidMagic, PayloadTooLarge, InvalidChecksum, Accepted}
-use Rattle.protocol.specs.declared.packet.Encoded.{Encoded}
-use Rattle.protocol.specs.declared.packet.Encoded.TheVariants.{Written, OutShort, PayloadTooLarge as TooLarge}
+use Rattle.refusal.specs.Refusal.{number_of, read_number_of}
 use Rattle.checksum.specs.Checksum.{sum_of, check_for}
 use Rattle.protocol.specs.Command.{word_of, magic_of, command_of}
 use Rattle.protocol.specs.Message.{message_size, message_of, header_bytes}
+use Rattle.protocol.specs.declared.packet.DecodeError.TheVariants.{InvalidCommand, InvalidMagic, PayloadTooLarge, InvalidChecksum}
+use Rattle.protocol.specs.declared.packet.DecodeError.{DecodeError}
+use Rattle.std.specs.Prelude.{Option, Some, None, Result, Ok, Err}
+use Rattle.protocol.specs.declared.packet.EncodeError.TheVariants.{OutShort, PayloadTooLarge as TooLarge}
+use Rattle.protocol.specs.declared.packet.EncodeError.{EncodeError}
+use Rattle.protocol.specs.declared.command.UnknownCommand.{UnknownCommand}
 
 -- the longest payload of a frame
 abbrev pub payload_limit : ℕ
@@ -36,41 +37,43 @@ unfoldable pub packet_of : Command → Message → Packet
 packet_of c m = record { command = c; arg0 = m.arg0; arg1 = m.arg1; data_length = m.data_length }
 
 -- once the command is known: 2, 3, waiting for the whole frame, 4
-unfoldable pub known_of : List ℕ → ℕ → Command → Message → Decoded
+unfoldable pub known_of : List ℕ → ℕ → Command → Message → Result (Option Packet) DecodeError
 known_of s limit c m =
-    cond (not (eqb m.magic (magic_of c))) InvalidMagic
-    (cond (ltb (min limit payload_limit) m.data_length) PayloadTooLarge
-    (cond (ltb (length s) (message_size + m.data_length)) Waiting
-    (cond (check_passes m.data_check (payload_of s m.data_length)) (Accepted (packet_of c m))
-    (InvalidChecksum (message_size + m.data_length)))))
+    cond (not (eqb m.magic (magic_of c))) (Err InvalidMagic)
+    (cond (ltb (min limit payload_limit) m.data_length) (Err PayloadTooLarge)
+    (cond (ltb (length s) (message_size + m.data_length)) (Ok None)
+    (cond (check_passes m.data_check (payload_of s m.data_length)) (Ok (Some (packet_of c m)))
+    (Err (InvalidChecksum (message_size + m.data_length))))))
 
 -- 1, with the word, or what the known command gives
-unfoldable pub named_of : List ℕ → ℕ → Message → CommandWord → Decoded
-named_of s limit m (Known c) = known_of s limit c m
-named_of s limit m (Invalid word) = InvalidCommand word
+unfoldable pub named_of : List ℕ → ℕ → Message → Result Command UnknownCommand → Result (Option Packet) DecodeError
+named_of s limit m (Ok c) = known_of s limit c m
+named_of s limit m (Err e) = Err (InvalidCommand e.0)
 
 -- under 24 bytes: waiting; then the header decides
-unfoldable pub decode_of : List ℕ → ℕ → Decoded
+unfoldable pub decode_of : List ℕ → ℕ → Result (Option Packet) DecodeError
 decode_of s limit =
-    cond (ltb (length s) message_size) Waiting (named_of s limit (message_of s) (command_of (message_of s).command))
+    cond (ltb (length s) message_size) (Ok None) (named_of s limit (message_of s) (command_of (message_of s).command))
 
--- the number of an answer (docs/SCOPE.md, 6): a refusal's own, 100 for waiting, 0 for a frame
-unfoldable pub decoded_number : Decoded → ℕ
-decoded_number Waiting = 100
-decoded_number (InvalidCommand word) = 1
-decoded_number InvalidMagic = 2
-decoded_number PayloadTooLarge = 3
-decoded_number (InvalidChecksum used) = 4
-decoded_number (Accepted p) = 0
+-- the number of a refusal (docs/SCOPE.md, 6)
+abbrev pub decode_error_number : DecodeError → ℕ
+decode_error_number (InvalidCommand word) = 1
+decode_error_number InvalidMagic = 2
+decode_error_number PayloadTooLarge = 3
+decode_error_number (InvalidChecksum used) = 4
+
+-- the number of an answer: a refusal's own, 100 for waiting, 0 for a frame
+abbrev pub decoded_number : Result (Option Packet) DecodeError → ℕ
+decoded_number = read_number_of decode_error_number
 
 -- bytes used: the whole frame where it is accepted or refused by 4, none otherwise
-unfoldable pub used_of : Decoded → ℕ
-used_of Waiting = 0
-used_of (InvalidCommand word) = 0
-used_of InvalidMagic = 0
-used_of PayloadTooLarge = 0
-used_of (InvalidChecksum used) = used
-used_of (Accepted p) = message_size + p.data_length
+unfoldable pub used_of : Result (Option Packet) DecodeError → ℕ
+used_of (Ok None) = 0
+used_of (Err (InvalidCommand word)) = 0
+used_of (Err InvalidMagic) = 0
+used_of (Err PayloadTooLarge) = 0
+used_of (Err (InvalidChecksum used)) = used
+used_of (Ok (Some p)) = message_size + p.data_length
 
 -- bytes that are missing: the rest of the header, or of the payload that it declares
 unfoldable pub missing_of : List ℕ → ℕ
@@ -101,23 +104,26 @@ pub record Puts (d : List ℕ) (at : ℕ) (frame : List ℕ) (r : ℕ) (out : Li
 
 -- what encoding gives: its answer, and the outgoing bytes after it
 pub record Encoding : Type 0 where
-  pub result : Encoded
+  pub result : Result ℕ EncodeError
   pub out : List ℕ
 
 -- a payload over the maximum is refused by 3, a short buffer by 9; else the frame stands at the start of out
 unfoldable pub encode_of : Command → ℕ → ℕ → List ℕ → Checksum → List ℕ → Encoding
 encode_of c a b payload k out =
-    cond (ltb payload_limit (length payload)) (record { result = TooLarge; out = out })
-    (cond (ltb (length out) (message_size + length payload)) (record { result = OutShort; out = out })
-    (record { result = Written (message_size + length payload); out = put out 0 (frame_for c a b payload k) }))
+    cond (ltb payload_limit (length payload)) (record { result = Err TooLarge; out = out })
+    (cond (ltb (length out) (message_size + length payload)) (record { result = Err OutShort; out = out })
+    (record { result = Ok (message_size + length payload); out = put out 0 (frame_for c a b payload k) }))
 
 -- what `encode` promises: the definition's answer, and every byte of out
-pub record Encodes (o : Encoding) (r : Encoded) (out : List ℕ) : Type 0 where
+pub record Encodes (o : Encoding) (r : Result ℕ EncodeError) (out : List ℕ) : Type 0 where
   pub result-is : r ≡ o.result
   pub out-is : out ≡ o.out
 
+-- the number of a refusal (docs/SCOPE.md, 6)
+abbrev pub encode_error_number : EncodeError → ℕ
+encode_error_number TooLarge = 3
+encode_error_number OutShort = 9
+
 -- the number of its answer: a refusal's own, 0 for a frame
-unfoldable pub encoded_number : Encoded → ℕ
-encoded_number (Written n) = 0
-encoded_number TooLarge = 3
-encoded_number OutShort = 9
+abbrev pub encoded_number : Result ℕ EncodeError → ℕ
+encoded_number = number_of encode_error_number

@@ -19,7 +19,7 @@ pub const CMD_AUTH: u32 = 0x4854_5541;
 
 pub const CMD_STLS: u32 = 0x534c_5453;
 
-#[derive(Clone, Copy)]
+#[derive(Clone, Copy, Debug, PartialEq, Eq)]
 pub enum Command {
     // Obsolete, and never valid between two ends.
     Sync,
@@ -39,12 +39,9 @@ pub enum Command {
     StartTls,
 }
 
-// What a word of 32 bits names: a command, or none, with the word.
-#[derive(Clone, Copy)]
-pub enum CommandWord {
-    Known(Command),
-    Invalid(u32),
-}
+// A word of 32 bits that names no command.
+#[derive(Clone, Copy, Debug, PartialEq, Eq)]
+pub struct UnknownCommand(pub u32);
 
 impl Command {
     pub fn word(self) -> u32
@@ -71,34 +68,38 @@ impl Command {
     pub fn is_ready(self) -> bool
         ensures { result ≡ is_ready self }
     {
-        self.word() == CMD_OKAY
+        self == Command::Ready
     }
 
     pub fn is_close(self) -> bool
         ensures { result ≡ is_close self }
     {
-        self.word() == CMD_CLSE
+        self == Command::Close
     }
 
     pub fn is_write(self) -> bool
         ensures { result ≡ is_write self }
     {
-        self.word() == CMD_WRTE
+        self == Command::Write
     }
+}
 
-    pub fn from_word(word: u32) -> CommandWord
-        ensures { result ≡ command_of word }
-    {
+impl TryFrom<u32> for Command {
+    type Error = UnknownCommand;
+
+    ghost try_from_gives = { λ word named. named ≡ command_of word };
+
+    fn try_from(word: u32) -> Result<Command, UnknownCommand> {
         match word {
-            CMD_SYNC => CommandWord::Known(Command::Sync),
-            CMD_CNXN => CommandWord::Known(Command::Connect),
-            CMD_OPEN => CommandWord::Known(Command::Open),
-            CMD_OKAY => CommandWord::Known(Command::Ready),
-            CMD_CLSE => CommandWord::Known(Command::Close),
-            CMD_WRTE => CommandWord::Known(Command::Write),
-            CMD_AUTH => CommandWord::Known(Command::Auth),
-            CMD_STLS => CommandWord::Known(Command::StartTls),
-            _ => CommandWord::Invalid(word),
+            CMD_SYNC => Ok(Command::Sync),
+            CMD_CNXN => Ok(Command::Connect),
+            CMD_OPEN => Ok(Command::Open),
+            CMD_OKAY => Ok(Command::Ready),
+            CMD_CLSE => Ok(Command::Close),
+            CMD_WRTE => Ok(Command::Write),
+            CMD_AUTH => Ok(Command::Auth),
+            CMD_STLS => Ok(Command::StartTls),
+            _ => Err(UnknownCommand(word)),
         }
     }
 }

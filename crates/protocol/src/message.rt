@@ -25,12 +25,12 @@ impl Message {
         ensures { result ≡ message_of s.now }
     {
         Message {
-            command: le::get_u32(s, 0),
-            arg0: le::get_u32(s, 4),
-            arg1: le::get_u32(s, 8),
-            data_length: le::get_u32(s, 12),
-            data_check: le::get_u32(s, 16),
-            magic: le::get_u32(s, 20),
+            command: le::get(s, 0),
+            arg0: le::get(s, 4),
+            arg1: le::get(s, 8),
+            data_length: le::get(s, 12),
+            data_check: le::get(s, 16),
+            magic: le::get(s, 20),
         }
     }
 
@@ -39,11 +39,11 @@ impl Message {
         requires { at + message_size ≤ length out.old }
         ensures { out.new ≡ put out.old at (header_bytes self) }
     {
-        le::put_u32(out, at, self.command);
-        le::put_u32(out, at + 4, self.arg0);
-        le::put_u32(out, at + 8, self.arg1);
-        le::put_u32(out, at + 12, self.data_length);
-        le::put_u32(out, at + 16, self.data_check);
-        le::put_u32(out, at + 20, self.magic);
+        le::put(out, at, self.command);
+        le::put(out, at + 4, self.arg0);
+        le::put(out, at + 8, self.arg1);
+        le::put(out, at + 12, self.data_length);
+        le::put(out, at + 16, self.data_check);
+        le::put(out, at + 20, self.magic);
     }
 }

@@ -2,12 +2,14 @@
 ghost use Rattle.std.specs.Prelude.{◌≡◌, ◌+◌, ◌≤◌, min, length};
 ghost use Rattle.le.specs.Le.{part};
 ghost use Rattle.protocol.specs.Packet.{empty_packet, payload_of, check_passes, known_of, decode_of, missing_of, frame_for, FrameRoom, Puts};
-ghost use Rattle.protocol.specs.Packet.{encode_of, Encodes, encoded_number, decoded_number, used_of};
+ghost use Rattle.protocol.specs.Packet.{encode_of, Encodes, decode_error_number, encode_error_number};
+ghost use Rattle.protocol.specs.declared.packet.DecodeError.TheVariants.{InvalidCommand};
 ghost use Rattle.protocol.specs.Message.{message_size};
 
-use crate::command::{Command, CommandWord};
+use crate::command::{Command, UnknownCommand};
 use crate::message::Message;
 use checksum::{Checksum, payload_checksum};
+use refusal::Numbered;
 
 // A decoded header. The payload is the data_length bytes that follow it.
 #[derive(Clone, Copy)]
@@ -18,11 +20,9 @@ pub struct Packet {
     pub data_length: usize,
 }
 
-// What received bytes begin with.
-#[derive(Clone, Copy)]
-pub enum Decoded {
-    // The frame is not all there.
-    Waiting,
+// Why received bytes begin with no frame that is taken.
+#[derive(Clone, Copy, Debug, PartialEq, Eq)]
+pub enum DecodeError {
     // Refusal 1, with the word.
     InvalidCommand(u32),
     // Refusal 2.
@@ -31,46 +31,45 @@ pub enum Decoded {
     PayloadTooLarge,
     // Refusal 4: the frame is used.
     InvalidChecksum { used: usize },
-    // A whole frame.
-    Accepted(Packet),
 }
 
-impl Decoded {
-    // The number of the answer (docs/SCOPE.md, 6): a refusal's own, 100 for waiting, 0 for a frame.
-    pub fn number(self) -> u32
-        ensures { result ≡ decoded_number self }
-    {
+impl Numbered for DecodeError {
+    ghost number = { decode_error_number };
+
+    fn number(self) -> u32 {
         match self {
-            Decoded::Waiting => 100,
-            Decoded::InvalidCommand(_) => 1,
-            Decoded::InvalidMagic => 2,
-            Decoded::PayloadTooLarge => 3,
-            Decoded::InvalidChecksum { used: _ } => 4,
-            Decoded::Accepted(_) => 0,
+            DecodeError::InvalidCommand(_) => 1,
+            DecodeError::InvalidMagic => 2,
+            DecodeError::PayloadTooLarge => 3,
+            DecodeError::InvalidChecksum { used: _ } => 4,
         }
     }
 }
 
-// What became of a frame that was to be written.
-#[derive(Clone, Copy)]
-pub enum Encoded {
-    // Its length.
-    Written(usize),
+impl From<UnknownCommand> for DecodeError {
+    ghost from_gives = { λ unknown error. error ≡ InvalidCommand unknown.0 };
+
+    fn from(unknown: UnknownCommand) -> DecodeError {
+        DecodeError::InvalidCommand(unknown.0)
+    }
+}
+
+// Why a frame was not written.
+#[derive(Clone, Copy, Debug, PartialEq, Eq)]
+pub enum EncodeError {
     // Refusal 3.
     PayloadTooLarge,
     // Refusal 9: the buffer is too short.
     OutShort,
 }
 
-impl Encoded {
-    // The number of the answer (docs/SCOPE.md, 6): a refusal's own, 0 for a frame.
-    pub fn number(self) -> u32
-        ensures { result ≡ encoded_number self }
-    {
+impl Numbered for EncodeError {
+    ghost number = { encode_error_number };
+
+    fn number(self) -> u32 {
         match self {
-            Encoded::Written(_) => 0,
-            Encoded::PayloadTooLarge => 3,
-            Encoded::OutShort => 9,
+            EncodeError::PayloadTooLarge => 3,
+            EncodeError::OutShort => 9,
         }
     }
 }
@@ -79,37 +78,39 @@ impl Encoded {
 fn check_passes(check: u32, payload: &[u8]) -> bool
     ensures { result ≡ check_passes check payload.now }
 {
-    if check == 0 {
-        return true;
-    }
-    payload_checksum(payload) == check
+    check == 0 || payload_checksum(payload) == check
 }
 
 // The answer once the header names a command.
-fn decode_known(received: &[u8], max_payload: u32, command: Command, message: Message) -> Decoded
+fn decode_known(
+    received: &[u8],
+    max_payload: u32,
+    command: Command,
+    message: Message,
+) -> Result<Option<Packet>, DecodeError>
     requires { message_size ≤ length received.now }
     ensures { result ≡ known_of received.now max_payload command message }
 {
     if message.magic != command.magic() {
-        return Decoded::InvalidMagic;
+        return Err(DecodeError::InvalidMagic);
     }
-    if message.data_length > saturate::least_u32(max_payload, Packet::MAX_PAYLOAD) {
-        return Decoded::PayloadTooLarge;
+    if message.data_length > max_payload.min(Packet::MAX_PAYLOAD) {
+        return Err(DecodeError::PayloadTooLarge);
     }
     let len = message.data_length as usize;
     let end = Packet::MESSAGE_SIZE + len;
     if received.len() < end {
-        return Decoded::Waiting;
+        return Ok(None);
     }
     if check_passes(message.data_check, &received[Packet::MESSAGE_SIZE..end]) {
-        return Decoded::Accepted(Packet {
+        return Ok(Some(Packet {
             command,
             arg0: message.arg0,
             arg1: message.arg1,
             data_length: len,
-        });
+        }));
     }
-    Decoded::InvalidChecksum { used: end }
+    Err(DecodeError::InvalidChecksum { used: end })
 }
 
 impl Packet {
@@ -138,19 +139,16 @@ impl Packet {
         Packet::MESSAGE_SIZE + data_length
     }
 
-    // The frame that received bytes begin with, or why there is none.
-    pub fn decode(received: &[u8], max_payload: u32) -> Decoded
+    // The frame that received bytes begin with, none until it is all there, or why there is none.
+    pub fn decode(received: &[u8], max_payload: u32) -> Result<Option<Packet>, DecodeError>
         ensures { result ≡ decode_of received.now max_payload }
     {
         if received.len() < Packet::MESSAGE_SIZE {
-            return Decoded::Waiting;
+            return Ok(None);
         }
         let message = Message::read(received);
-        let named = Command::from_word(message.command);
-        match named {
-            CommandWord::Invalid(word) => Decoded::InvalidCommand(word),
-            CommandWord::Known(command) => decode_known(received, max_payload, command, message),
-        }
+        let command = Command::try_from(message.command)?;
+        decode_known(received, max_payload, command, message)
     }
 
     // The payload of a frame, where it was received.
@@ -171,11 +169,7 @@ impl Packet {
             return Packet::MESSAGE_SIZE - received.len();
         }
         let here = received.len() - Packet::MESSAGE_SIZE;
-        let data_length = le::get_u32(received, 12) as usize;
-        if data_length < here {
-            return 0;
-        }
-        data_length - here
+        (le::get::<u32>(received, 12) as usize).saturating_sub(here)
     }
 
     // A frame, written at a place of out. Answers with the place past it.
@@ -215,17 +209,17 @@ impl Packet {
         payload: &[u8],
         checksum: Checksum,
         out: &mut [u8],
-    ) -> Encoded
+    ) -> Result<usize, EncodeError>
         ensures { Encodes (encode_of command arg0 arg1 payload.now checksum out.old) result out.new }
     {
         let len = payload.len();
         if len > Packet::MAX_PAYLOAD as usize {
-            return Encoded::PayloadTooLarge;
+            return Err(EncodeError::PayloadTooLarge);
         }
         if out.len() < Packet::MESSAGE_SIZE + len {
-            return Encoded::OutShort;
+            return Err(EncodeError::OutShort);
         }
         let end = Packet::put_at(out, 0, command, arg0, arg1, payload, checksum);
-        Encoded::Written(end)
+        Ok(end)
     }
 }

@@ -7,12 +7,14 @@ use native.Mathlib.Numerals.{add-one}
 use native.Mathlib.Omega.{arith}
 use lib.Dec.{ltb}
 use lib.IntN.{ℤ, pos, negsuc}
+use lib.Signed.{lt_z}
+use mathlib.Core.Bool.{true, false}
+use Rattle.std.specs.Prelude.{unsigned_abs}
 use lib.ListN.{length, take, get_or, length-append, length-take}
 use lib.Seq.{take_all, take-nil, take-append-le, take-append-add, take-suc}
-use lib.Signed.{mag}
 use borrow.Author.Tests.{ltb-true, ltb-false, lt-ltb, le-ltb}
 use Rattle.io.specs.Digits.{last_digits, IsDigitCount}
-use Rattle.le.specs.Le.{put, unsigned}
+use Rattle.le.specs.Le.{put}
 use Rattle.le.proofs.Parts.{by-test, put-none, put-put, length-put}
 use Rattle.replay.specs.Text.{fitting, Puts, places, decimal_of, signed_text, hex_of, hex_text}
 
@@ -120,18 +122,16 @@ pub decimal-digits : (n k : ℕ) → IsDigitCount 10 1 n k → decimal_of n ≡ 
 unfolding decimal_of
 decimal-digits n k w = rw (places-fewest n n k (omega arith) w)
 
--- the digits of a number with its sign, by its 64 bits
-pub signed-plain : (z : ℤ) → mag z < 2 ^ 63 → unsigned 63 z < 2 ^ 63 → signed_text z ≡ decimal_of (unsigned 63 z)
-unfolding signed_text unsigned
-signed-plain (pos n) f h = refl
-signed-plain (negsuc n) f h = absurd (omega arith)
+-- the digits of a number with its sign
+pub signed-plain : (z : ℤ) → lt_z z (pos 0) ≡ false → signed_text z ≡ decimal_of (unsigned_abs z)
+unfolding signed_text
+signed-plain (pos n) h = refl
+signed-plain (negsuc n) h = cc
 
-pub signed-minus : (z : ℤ) → mag z < 2 ^ 63 → 2 ^ 63 ≤ unsigned 63 z → signed_text z ≡ (45 ∷ []) ++ decimal_of (0xffff_ffff_ffff_ffff - unsigned 63 z + 1)
-unfolding signed_text unsigned
-signed-minus (pos n) f h = absurd (omega arith)
-signed-minus (negsuc n) f h =
-    let e : 0xffff_ffff_ffff_ffff - (2 * 2 ^ 63 - 1 - n) + 1 ≡ suc n = omega arith in
-    rw e
+pub signed-minus : (z : ℤ) → lt_z z (pos 0) ≡ true → signed_text z ≡ (45 ∷ []) ++ decimal_of (unsigned_abs z)
+unfolding signed_text
+signed-minus (pos n) h = absurd (omega (arith, ltb-true n 0 h))
+signed-minus (negsuc n) h = refl
 
 -- the digits of one byte more
 pub hex-append : (a b : List ℕ) → hex_of (a ++ b) ≡ hex_of a ++ hex_of b

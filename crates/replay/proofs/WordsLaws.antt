@@ -5,75 +5,88 @@ use mathlib.Core.List.{List, [], ◌∷◌}
 use Prim.Native.Nat.{ℕ, zero, suc, ◌+◌, ◌-◌, ◌*◌, ◌^◌, ◌≤◌, ◌<◌, min}
 use native.Mathlib.Numerals.{add-one}
 use native.Mathlib.Omega.{arith}
+use Rattle.std.proofs.Common.{Option, Some, None, Bor, option_map, unwrap_or, slice_get}
+use Rattle.std.specs.List.{position, position_or_len, slice_split}
 use lib.Dec.{T, eqb, ltb}
 use lib.IntN.{pos, negsuc, neg_ℤ}
 use lib.ListN.{length, take, drop, get_or, set, length-take, length-drop, drop_of_length-le}
 use lib.Signed.{mag}
-use lib.Seq.{drop-cons, drop-drop, drop-nil, take-length, paste, paste-suc}
+use lib.Seq.{drop-cons, take_all, paste, paste-suc}
 use borrow.Author.Tests.{ltb-true, ltb-false, lt-ltb, le-ltb}
-use Rattle.replay.specs.Words.{index_of}
-use Rattle.std.proofs.lemmas.Bool.{eq-eqb, ne_eqb}
 use Rattle.le.specs.Le.{put, part, signed}
 use Rattle.le.proofs.Parts.{by-test}
 use Rattle.saturate.specs.Saturate.{clamp}
 use Rattle.saturate.proofs.Laws.{held_fits}
 use Rattle.replay.specs.Text.{Puts}
-use Rattle.replay.specs.Words.{from_word, word_of, is_digit, grown, spelled, is_negative, signed_of, nibble_of, unhexed}
+use Rattle.replay.specs.Words.{index_of, from_word, word_of, is_digit, grown, spelled, is_negative, signed_of, nibble_of, unhexed}
 use Rattle.replay.proofs.TextLaws.{puts-take}
 
--- what the search for a space sees
-pub to_the_end : (l : List ℕ) (at : ℕ) → part l at (length l - at) ≡ drop at l
+-- the first place of a byte, by std's words
+place-is : (b : ℕ) (l : List ℕ) → position_or_len (λ x. eqb x b) l ≡ index_of b l
+unfolding index_of
+place-is b [] = refl
+place-is b (x ∷ l) = by-test (eqb x b) (λ t. rw t) (λ t. let i = place-is b l in rw t (omega arith))
+
+index-fits : (b : ℕ) (l : List ℕ) → index_of b l ≤ length l
+unfolding index_of
+index-fits b [] = omega arith
+index-fits b (x ∷ l) = let i = index-fits b l in by-test (eqb x b) (λ t. rw t (omega arith)) (λ t. rw t (omega arith))
+
+-- that place, or the length
+pub find-is : (b : ℕ) (l : List ℕ) (r : Option ℕ) → r ≡ position (λ x. eqb x b) l → (unwrap_or r (length l) ≡ index_of b l) × (index_of b l ≤ length l)
+find-is b l r e = (rw e (by-test (ltb (position_or_len (λ x. eqb x b) l) (length l)) (λ t. rw t (place-is b l)) (λ t. rw t (last t))), index-fits b l)
+  where
+    last : ltb (position_or_len (λ x. eqb x b) l) (length l) ≡ false → length l ≡ index_of b l
+    last t = let p = place-is b l in let f = index-fits b l in omega (arith, ltb-false)
+
+-- the same from place `at` to `end`, where u is what a search of that part answers
+pub find-in : (s : List ℕ) (at end b : ℕ) (r : Option ℕ) (u : ℕ) → at ≤ end → end ≤ length s → r ≡ position (λ x. eqb x b) (take (end - at) (drop at s))
+    → u ≡ unwrap_or r (end - at) → (at + u ≡ at + index_of b (part s at (end - at))) × (at + u ≤ end)
 unfolding part
-to_the_end l at = ap (λ (n : ℕ). take n (drop at l)) (sym (length-drop at l)) ∙ take-length (drop at l)
+find-in s at end b r u h k e v =
+    let n : length (take (end - at) (drop at s)) ≡ end - at = simp (length-take, length-drop) (omega arith) in
+    let f = find-is b (take (end - at) (drop at s)) r e in
+    let g = rw n at f.0 in
+    (omega arith, omega arith)
 
--- a search stops at the byte, goes past another one, and ends where there is none
-pub found : (l : List ℕ) (at end b : ℕ) → at < end → end ≤ length l → get_or l at 0 ≡ b → index_of b (part l at (end - at)) ≡ 0
-unfolding part index_of
-found l at end b h i e =
-    let n : end - at ≡ suc (end - suc at) = omega arith in
-    rw (n, drop-cons l at 0 (omega arith), eq-eqb (get_or l at 0) b e)
-
-pub passed : (l : List ℕ) (at end b : ℕ) → at < end → end ≤ length l → (get_or l at 0 ≡ b → ⊥)
-    → index_of b (part l at (end - at)) ≡ suc (index_of b (part l (at + 1) (end - (at + 1))))
-unfolding part index_of
-passed l at end b h i e =
-    let n : end - at ≡ suc (end - suc at) = omega arith in
-    rw (n, add-one, drop-cons l at 0 (omega arith), ne_eqb (get_or l at 0) b e)
-
-pub passed_all : (l : List ℕ) (at b : ℕ) → index_of b (part l at (at - at)) ≡ 0
-unfolding part index_of
-passed_all l at b =
-    let n : at - at ≡ 0 = omega arith in
-    rw n
-
--- an empty line has no words
+-- words past the end of a line are empty
 from-nil : (k : ℕ) → from_word k [] ≡ []
 unfolding from_word
 from-nil zero = refl
-from-nil (suc k) = rw drop-nil (from-nil k)
+from-nil (suc k) = from-nil k
 
--- past one space more
-pub from_step : (l : List ℕ) (at left end : ℕ) → 0 < left → end ≡ at + index_of 32 (drop at l) → from_word left (drop at l) ≡ from_word (left - 1) (drop (end + 1) l)
-unfolding from_word
-from_step l at zero end h e = absurd (omega arith)
-from_step l at (suc n) end h e =
-    let f : at + suc (index_of 32 (drop at l)) ≡ end + 1 = omega arith in
-    let g : suc n - 1 ≡ n = omega arith in
-    rw (drop-drop, f, g)
+-- a line with no space is one word
+no-space : (l : List ℕ) → length l ≤ index_of 32 l → slice_split (λ b. eqb b 32) l ≡ l ∷ []
+unfolding index_of
+no-space [] h = refl
+no-space (x ∷ l) h = by-test (eqb x 32) (λ t. absurd (let z = rw t at h in omega arith)) (λ t. let z = rw t at h in rw (t, no-space l (omega arith)))
 
--- there is none
-pub from_last : (l : List ℕ) (at left end : ℕ) → 0 < left → end ≡ at + index_of 32 (drop at l) → end ≡ length l → from_word left (drop at l) ≡ drop end l
-from_last l at left end h e z =
-    from_step l at left end h e
-    ∙ rw (drop_of_length-le l {i = end + 1} (omega arith), drop_of_length-le l {i = end} (omega arith)) (from-nil (left - 1))
+-- one that has some is a word, and what stands behind the space
+a-space : (l : List ℕ) → index_of 32 l < length l
+    → slice_split (λ b. eqb b 32) l ≡ take (index_of 32 l) l ∷ slice_split (λ b. eqb b 32) (drop (suc (index_of 32 l)) l)
+unfolding index_of
+a-space [] h = absurd (omega arith)
+a-space (x ∷ l) h = by-test (eqb x 32) (λ t. rw t) (λ t. let z = rw t at h in rw (t, a-space l (omega arith)))
 
--- the word between two places
-pub word-between : (l : List ℕ) (k start end : ℕ) → drop start l ≡ from_word k l → end ≡ start + index_of 32 (drop start l)
-    → take (end - start) (drop start l) ≡ word_of l k
-unfolding word_of
-word-between l k start end f e =
-    let n : end - start ≡ index_of 32 (drop start l) = omega arith in
-    rw (n, f)
+-- word k is part k of std's split
+pub word-is : (l : List ℕ) (k : ℕ) → unwrap_or (slice_get (slice_split (λ b. eqb b 32) l) k) [] ≡ word_of l k
+unfolding word_of from_word index_of
+word-is l zero =
+    by-test (ltb (index_of 32 l) (length l))
+    (λ t. rw (a-space l (ltb-true _ _ t)))
+    (λ t. rw (no-space l (ltb-false _ _ t)) (sym (take_all (index_of 32 l) l (ltb-false _ _ t))))
+word-is l (suc k) =
+    by-test (ltb (index_of 32 l) (length l))
+    (λ t. rw (a-space l (ltb-true _ _ t)) (word-is (drop (suc (index_of 32 l)) l) k))
+    (λ t.
+    let h = ltb-false (index_of 32 l) (length l) t in
+    let z = drop_of_length-le l {i = suc (index_of 32 l)} (omega arith) in
+    rw (no-space l h, z, from-nil k))
+
+-- what a part is read through, as a list
+pub read-now : (r : Option (Bor (List ℕ))) (d : Bor (List ℕ)) → (unwrap_or r d).now ≡ unwrap_or (option_map (λ x. x.now) r) d.now
+read-now None d = refl
+read-now (Some x) d = refl
 
 grown-up : (n b : ℕ) → n ≤ grown n b
 unfolding grown
@@ -176,17 +189,6 @@ stored d u n e =
 pub digit_low : (b : ℕ) → is_digit b ≡ true → 48 ≤ b
 unfolding is_digit
 digit_low b h = by-test (ltb b 48) (λ t. absurd (subst T (sym (rw t at h)) tt)) (λ t. ltb-false b 48 t)
-
--- a sign is looked for in the first byte
-pub no_minus : (s : List ℕ) → length s ≡ 0 → false ≡ is_negative s
-unfolding is_negative
-no_minus [] h = refl
-no_minus (b ∷ s) h = absurd (omega arith)
-
-pub minus-first : (s : List ℕ) → 0 < length s → eqb (get_or s 0 0) 45 ≡ is_negative s
-unfolding is_negative
-minus-first [] h = absurd (omega arith)
-minus-first (b ∷ s) h = refl
 
 -- -0
 pub below-zero : (n : ℕ) → n ≡ 0 → pos 0 ≡ clamp (neg_ℤ (pos n))

@@ -1,4 +1,5 @@
-// A line, built in lent bytes. Each writer puts as much of its text as fits from `at` on, and answers where it ends.
+// A line, built in lent bytes, as replay_sync and replay_shell write theirs. Each writer puts as much of its text as fits from `at` on,
+// and answers where it ends.
 ghost use Rattle.std.specs.Prelude.{◌≡◌, ◌++◌, ◌<◌, take};
 ghost use Rattle.io.specs.Digits.{last_digits, hex_digit_ascii};
 ghost use Rattle.replay.specs.Text.{Puts, decimal_of, signed_text, hex_of, hex_text};
@@ -7,11 +8,12 @@ pub fn put(line: &mut [u8], at: usize, s: &[u8]) -> usize
     ensures { Puts line.old at s.now line.new result }
 {
     if at > line.len() {
-        return at;
+        at
+    } else {
+        let n = s.len().min(line.len() - at);
+        le::copy_at(line, at, &s[..n]);
+        at + n
     }
-    let n = saturate::least(line.len() - at, s.len());
-    le::copy_at(line, at, &s[0..n]);
-    at + n
 }
 
 // A number in decimal.
@@ -35,22 +37,20 @@ pub fn put_field(line: &mut [u8], at: usize, name: &[u8], n: u64) -> usize
 pub fn put_signed(line: &mut [u8], at: usize, z: i64) -> usize
     ensures { Puts line.old at (signed_text z) line.new result }
 {
-    let bits = le::bits_of_i64(z);
-    if bits < 0x8000_0000_0000_0000 {
-        return put_number(line, at, bits);
+    if z < 0 {
+        let end = put(line, at, b"-");
+        put_number(line, end, z.unsigned_abs())
+    } else {
+        put_number(line, at, z.unsigned_abs())
     }
-    let end = put(line, at, b"-");
-    put_number(line, end, 0xffff_ffff_ffff_ffff - bits + 1)
 }
 
+// By hand: the kit's hex makes a String or fills a buffer of exactly its size, and a line here takes what fits.
 fn glyph(d: u8) -> u8
     requires { d < 16 }
     ensures { result ≡ hex_digit_ascii d }
 {
-    if d < 10 {
-        return 48 + d;
-    }
-    87 + d
+    if d < 10 { b'0' + d } else { b'a' + (d - 10) }
 }
 
 fn put_byte(line: &mut [u8], at: usize, b: u8) -> usize
@@ -64,10 +64,8 @@ fn put_bytes(line: &mut [u8], at: usize, s: &[u8]) -> usize
     ensures { Puts line.old at (hex_of s.now) line.new result }
 {
     let mut end = at;
-    let mut i = 0;
-    while i < s.len() {
-        end = put_byte(line, end, s[i]);
-        i += 1;
+    for b in s {
+        end = put_byte(line, end, *b);
     }
     end
 }
@@ -76,16 +74,16 @@ fn put_bytes(line: &mut [u8], at: usize, s: &[u8]) -> usize
 pub fn put_hex(line: &mut [u8], at: usize, s: &[u8]) -> usize
     ensures { Puts line.old at (hex_text s.now) line.new result }
 {
-    if s.len() == 0 {
-        return put(line, at, b"-");
+    if s.is_empty() {
+        put(line, at, b"-")
+    } else {
+        put_bytes(line, at, s)
     }
-    put_bytes(line, at, s)
 }
 
 // What was put before `end`.
 pub fn written(line: &[u8], end: usize) -> &[u8]
     ensures { result.now ≡ take end line.now }
 {
-    let n = saturate::least(end, line.len());
-    &line[0..n]
+    &line[..end.min(line.len())]
 }

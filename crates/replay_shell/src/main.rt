@@ -8,11 +8,11 @@ ghost use Rattle.replay_shell.specs.Bounds.{Room};
 
 use console::Gathered;
 use intake::read_full;
+use refusal::{Numbered, number_of};
 use replay::scan::find;
 use replay::text::{put, put_field, put_hex, written};
 use replay::words::{bytes_at, number_at, size_at};
-use shell::{ERRORS, EXIT, OUTPUT, Read};
-use shell_write::Written;
+use shell::{Frame, Kind};
 use std::io;
 use std::io::Write;
 
@@ -41,80 +41,39 @@ fn data_of(received: &[u8], at: usize, length: usize) -> &[u8] {
     &received[0..0]
 }
 
-fn count(w: Written) -> usize {
-    match w {
-        Written::Bytes(n) => n,
-        Written::InvalidKind => 0,
-        Written::EmptyExit => 0,
-        Written::OutShort => 0,
-    }
-}
-
-fn put_frame(out: &mut [u8], kind: u32, payload: &[u8], code: u32) -> usize {
-    let end = put_field(out, 0, b"frame kind=", kind as u64);
+fn put_frame(out: &mut [u8], frame: Frame, payload: &[u8]) -> usize {
+    let end = put_field(out, 0, b"frame kind=", u64::from(u8::from(frame.kind)));
     let end = put(out, end, b" data=");
     let end = put_hex(out, end, payload);
-    put_field(out, end, b" code=", code as u64)
+    put_field(out, end, b" code=", u64::from(frame.code.unwrap_or(0)))
 }
 
 // A frame that was read, and its bytes as the writer makes them.
-fn whole(
-    out: &mut [u8],
-    kind: u32,
-    payload: &[u8],
-    code: u32,
-    used: usize,
-    back: &mut [u8],
-) -> usize {
-    let end = put_frame(out, kind, payload, code);
-    let n = count(shell_write::write_frame(kind, payload, back));
+fn whole(out: &mut [u8], frame: Frame, payload: &[u8], back: &mut [u8]) -> usize {
+    let end = put_frame(out, frame, payload);
+    let kind = u32::from(u8::from(frame.kind));
+    let n = shell_write::write_frame(kind, payload, back).unwrap_or(0);
     let end = put(out, end, b" back=");
     let end = put_hex(out, end, written(back, n));
-    put_used(out, end, used)
+    put_used(out, end, frame.used)
 }
 
 fn read(out: &mut [u8], received: &[u8], back: &mut [u8]) -> usize {
-    let answer = shell::read_frame(received);
-    let number = answer.number();
-    match answer {
-        Read::Waiting => waiting(out),
-        Read::InvalidKind => refused(out, number),
-        Read::EmptyExit => refused(out, number),
-        Read::Whole {
-            kind,
-            at,
-            length,
-            used,
-            code,
-        } => whole(out, kind, data_of(received, at, length), code, used, back),
+    match shell::read_frame(received) {
+        Ok(None) => waiting(out),
+        Ok(Some(frame)) => whole(out, frame, data_of(received, frame.at, frame.length), back),
+        Err(refusal) => refused(out, refusal.number()),
     }
 }
 
 // The answer of a write, and all bytes that it was lent.
 fn write(out: &mut [u8], kind: u32, payload: &[u8], back: &mut [u8]) -> usize {
     let answer = shell_write::write_frame(kind, payload, back);
-    let end = put_field(out, 0, b"written ", answer.number() as u64);
-    let end = put_field(out, end, b" n=", count(answer) as u64);
+    let end = put_field(out, 0, b"written ", u64::from(number_of(answer)));
+    let end = put_field(out, end, b" n=", answer.unwrap_or(0) as u64);
     let end = put(out, end, b" out=");
     let end = put_hex(out, end, back);
     put(out, end, b"\n")
-}
-
-fn at_most(n: usize, max: usize) -> usize
-    ensures { result ≤ max }
-{
-    if n < max {
-        return n;
-    }
-    max
-}
-
-// What pieces of a session came to: how much was used and gathered, and why it ended.
-#[derive(Clone, Copy)]
-struct Shown {
-    used: usize,
-    length: usize,
-    number: u32,
 }
 
 // The end of the next piece: a byte further at least, within `all`.
@@ -132,15 +91,15 @@ fn next_end(end: usize, piece: usize, all: usize) -> usize
 }
 
 // A piece with the rest before it, gathered behind what is there.
-fn show_piece(kind: u32, received: &[u8], out: &mut [u8], end: usize) -> Gathered
+fn show_piece(kind: Kind, received: &[u8], out: &mut [u8], end: usize) -> Gathered
     requires { end + length received.now ≤ length out.old }
     ensures { Room (length received.now) result }
 {
-    console::gather(kind, received, &mut out[end..])
+    console::gather(u32::from(u8::from(kind)), received, &mut out[end..])
 }
 
-// One kind's data of a session whose bytes arrive in pieces.
-fn show(kind: u32, received: &[u8], piece: usize, out: &mut [u8]) -> Shown
+// One kind's data of a session whose bytes arrive in pieces: all that was used and gathered, and why it ended.
+fn show(kind: Kind, received: &[u8], piece: usize, out: &mut [u8]) -> Gathered
     requires { length received.now ≤ length out.old }
 {
     let mut used = 0;
@@ -149,20 +108,20 @@ fn show(kind: u32, received: &[u8], piece: usize, out: &mut [u8]) -> Shown
     while end < received.len() {
         end = next_end(end, piece, received.len());
         let g = show_piece(kind, &received[used..end], out, gathered);
-        used = used + g.used;
-        gathered = gathered + g.length;
-        if g.number != 100 {
-            return Shown {
+        used += g.used;
+        gathered += g.length;
+        if g.refusal.is_some() {
+            return Gathered {
                 used,
                 length: gathered,
-                number: g.number,
+                refusal: g.refusal,
             };
         }
     }
-    Shown {
+    Gathered {
         used,
         length: gathered,
-        number: 100,
+        refusal: None,
     }
 }
 
@@ -170,7 +129,7 @@ fn show(kind: u32, received: &[u8], piece: usize, out: &mut [u8]) -> Shown
 fn put_kind(
     out: &mut [u8],
     at: usize,
-    kind: u32,
+    kind: Kind,
     received: &[u8],
     piece: usize,
     back: &mut [u8],
@@ -185,10 +144,11 @@ fn put_kind(
 fn put_exit(out: &mut [u8], at: usize, received: &[u8], piece: usize, back: &mut [u8]) -> usize
     requires { length received.now ≤ length back.old }
 {
-    let shown = show(EXIT, received, piece, back);
+    let shown = show(Kind::Exit, received, piece, back);
     let end = put(out, at, b" exit=");
     let end = put_hex(out, end, written(back, shown.length));
-    let end = put_field(out, end, b" ending=", shown.number as u64);
+    let number = shown.refusal.map_or(100, |refusal| refusal.number());
+    let end = put_field(out, end, b" ending=", u64::from(number));
     put_used(out, end, shown.used)
 }
 
@@ -197,9 +157,9 @@ fn session(out: &mut [u8], received: &[u8], piece: usize, back: &mut [u8]) -> us
         return 0;
     }
     let end = put(out, 0, b"session output=");
-    let end = put_kind(out, end, OUTPUT, received, piece, back);
+    let end = put_kind(out, end, Kind::Output, received, piece, back);
     let end = put(out, end, b" errors=");
-    let end = put_kind(out, end, ERRORS, received, piece, back);
+    let end = put_kind(out, end, Kind::Errors, received, piece, back);
     put_exit(out, end, received, piece, back)
 }
 
@@ -210,12 +170,12 @@ fn data_length(line: &[u8], kind: u8, first: &mut [u8]) -> usize
     if kind == b'w' {
         return bytes_at(line, 2, first);
     }
-    at_most(size_at(line, 2), first.len())
+    size_at(line, 2).min(first.len())
 }
 
 fn write_call(line: &[u8], payload: &[u8], back: &mut [u8], out: &mut [u8]) -> usize {
-    let k = at_most(size_at(line, 3), back.len());
-    write(out, number_at(line, 1), payload, &mut back[0..k])
+    let k = size_at(line, 3).min(back.len());
+    write(out, number_at(line, 1), payload, &mut back[..k])
 }
 
 // One call: `read` and bytes; `session`, a piece's length and bytes; `write` or `zeros`, a kind, data in hexadecimal or a count of

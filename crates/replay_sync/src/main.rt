@@ -8,33 +8,15 @@ ghost use Rattle.std.specs.Prelude.{◌≤◌, length};
 
 use exchange::{Exchange, SyncId};
 use intake::read_full;
+use refusal::{Numbered, number_of};
 use replay::scan::find;
 use replay::text::{put, put_field, put_hex, written};
 use replay::words::{bytes_at, number_at, size_at};
 use std::io;
 use std::io::Write;
-use sync::{Fields, FileMode, Message, Read, StatV1};
-use sync_write::Written;
+use sync::{Fields, FileMode, Message, StatV1};
 
-fn put_id(out: &mut [u8], at: usize, id: SyncId) -> usize {
-    match id {
-        SyncId::List => put(out, at, b"LIST"),
-        SyncId::Recv => put(out, at, b"RECV"),
-        SyncId::Send => put(out, at, b"SEND"),
-        SyncId::Stat => put(out, at, b"STAT"),
-        SyncId::Data => put(out, at, b"DATA"),
-        SyncId::Done => put(out, at, b"DONE"),
-        SyncId::Quit => put(out, at, b"QUIT"),
-        SyncId::Dent => put(out, at, b"DENT"),
-        SyncId::Okay => put(out, at, b"OKAY"),
-        SyncId::Fail => put(out, at, b"FAIL"),
-        SyncId::Lis2 => put(out, at, b"LIS2"),
-        SyncId::Sta2 => put(out, at, b"STA2"),
-        SyncId::Dnt2 => put(out, at, b"DNT2"),
-    }
-}
-
-// The id that stands in this place of the list above.
+// The id that a number of a line names.
 fn id_of(n: u32) -> SyncId {
     match n {
         0 => SyncId::List,
@@ -120,20 +102,11 @@ fn text_of(received: &[u8], at: usize, length: usize) -> &[u8] {
     &received[0..0]
 }
 
-fn count(w: Written) -> usize {
-    match w {
-        Written::Bytes(n) => n,
-        Written::InvalidId => 0,
-        Written::DataTooLarge => 0,
-        Written::OutShort => 0,
-    }
-}
-
 fn put_message(out: &mut [u8], m: Message, text: &[u8]) -> usize {
     let id = m.id;
     let fields = m.fields;
     let end = put(out, 0, b"message id=");
-    let end = put_id(out, end, id);
+    let end = put(out, end, id.letters());
     let end = put_fields(out, end, fields);
     let end = put(out, end, b" text=");
     put_hex(out, end, text)
@@ -148,7 +121,7 @@ fn whole(
     back: &mut [u8],
 ) -> usize {
     let end = put_message(out, m, text);
-    let n = count(sync_write::write(m, x, text, back));
+    let n = sync_write::write(m, x, text, back).unwrap_or(0);
     let end = put(out, end, b" back=");
     let end = put_hex(out, end, written(back, n));
     put_used(out, end, used)
@@ -156,25 +129,25 @@ fn whole(
 
 fn read(out: &mut [u8], x: Exchange, received: &[u8], back: &mut [u8]) -> usize {
     let answer = Message::read(x, received);
-    let number = answer.number();
     match answer {
-        Read::Waiting => waiting(out),
-        Read::InvalidId => refused(out, number),
-        Read::DataTooLarge => refused(out, number),
-        Read::Whole {
-            message,
-            at,
-            length,
-            used,
-        } => whole(out, x, message, text_of(received, at, length), used, back),
+        Ok(None) => waiting(out),
+        Err(refusal) => refused(out, refusal.number()),
+        Ok(Some(w)) => whole(
+            out,
+            x,
+            w.message,
+            text_of(received, w.at, w.length),
+            w.used,
+            back,
+        ),
     }
 }
 
 // The answer of a write, and all bytes that it was lent.
 fn write(out: &mut [u8], x: Exchange, m: Message, text: &[u8], back: &mut [u8]) -> usize {
     let answer = sync_write::write(m, x, text, back);
-    let end = put_field(out, 0, b"written ", answer.number() as u64);
-    let end = put_field(out, end, b" n=", count(answer) as u64);
+    let end = put_field(out, 0, b"written ", number_of(answer) as u64);
+    let end = put_field(out, end, b" n=", answer.unwrap_or(0) as u64);
     let end = put(out, end, b" out=");
     let end = put_hex(out, end, back);
     put(out, end, b"\n")

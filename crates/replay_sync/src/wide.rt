@@ -1,7 +1,8 @@
 // The second stat layout in a line, and the calls of the conversion.
+use refusal::number_of;
 use replay::text::{put, put_field, put_signed};
 use replay::words::{number_at, signed_at, size_at};
-use stat_convert::Narrowed;
+use stat_convert::NarrowError;
 use sync::{Fields, FileMode, StatV1, StatV2};
 
 fn put_time(out: &mut [u8], at: usize, name: &[u8], time: i64) -> usize {
@@ -65,17 +66,15 @@ pub fn fields_at(line: &[u8]) -> Fields {
     }
 }
 
-fn put_narrowed(out: &mut [u8], n: Narrowed) -> usize {
-    let end = put_field(out, 0, b"narrowed ", n.number() as u64);
+fn put_narrowed(out: &mut [u8], n: Result<StatV1, NarrowError>) -> usize {
+    let end = put_field(out, 0, b"narrowed ", number_of(n) as u64);
     match n {
-        Narrowed::Stat(s) => {
-            let mode = s.mode;
-            let end = put_field(out, end, b" mode=", mode.0 as u64);
+        Ok(s) => {
+            let end = put_field(out, end, b" mode=", s.mode.0 as u64);
             let end = put_field(out, end, b" size=", s.size as u64);
             put_field(out, end, b" mtime=", s.mtime as u64)
         }
-        Narrowed::OutOfRange => end,
-        Narrowed::Failed => end,
+        Err(_) => end,
     }
 }
 

@@ -1,72 +1,28 @@
 -- Laws of a share of the receive store: what an append and a take leave buffered, and that other shares stay.
 -- Assumes nothing.
-use mathlib.Core.Path.{◌≡◌, refl, sym, ap, ◌∙◌}
+use mathlib.Core.Path.{◌≡◌, sym, ap, ◌∙◌}
 use mathlib.Core.List.{List, ◌++◌}
 use Prim.Native.Nat.{ℕ, suc, ◌+◌, ◌-◌, ◌*◌, ◌≤◌, ◌<◌}
 use native.Mathlib.Nat.{zero-add, suc-mul, mul-le-mul_right}
-use native.Mathlib.Numerals.{add-one}
 use native.Mathlib.Omega.{arith}
 use lib.Dec.{leb, eqb, ltb}
-use lib.ListN.{length, take, drop, get_or, set, length-append, length-take, length-drop, drop_of_length-le}
-use lib.Seq.{take_at, drop-drop, take-take, get_or-drop, drop-cons, append_snoc, set_at, take-suc, get_or-append-add}
-use borrow.Author.Tests.{leb-true, le-leb, lt-leb, eqb-true, eq-eqb, ne_eqb, ltb-true, ltb-false}
+use lib.ListN.{length, take, drop, length-append, length-take, length-drop, drop_of_length-le}
+use lib.Seq.{take_at, drop-drop, take-take}
+use borrow.Author.Tests.{leb-true, eqb-true, ltb-true, ltb-false}
+use Rattle.std.specs.List.{copy_within}
 use Rattle.le.specs.Le.{part, put}
 use Rattle.le.proofs.Parts.{by-test, drop-take, length_part, length-put, part_join, part-put-same, part-put-below, part-put-above}
-use Rattle.rx_store.specs.RxStore.{Room, slid, fits_behind, appended_head, appended, taken_head, Appends}
+use Rattle.rx_store.specs.RxStore.{Room, slid, fits_behind, appended_head, appended, taken_head}
 
--- the loop that moves the run down: nothing is moved yet
-pub slid-none : (share : List ℕ) (head : ℕ) → share ≡ slid share head 0
+-- moving the run down is std's `copy_within`
+pub slid_is : (share : List ℕ) (head n : ℕ) → copy_within share head (head + n) 0 ≡ slid share head n
 unfolding slid part
-slid-none share head = refl
-
--- the same loop: one byte more is moved
-pub slid-step : (share : List ℕ) (head i : ℕ) → head + i < length share
-    → set (slid share head i) i (get_or (slid share head i) (head + i) 0) ≡ slid share head (i + 1)
-unfolding slid part
-slid-step share head i h =
-    let a : List ℕ = take i (drop head share) in
-    let n : length a ≡ i = simp (length-take, length-drop) (omega arith) in
-    let k : i < length share = omega arith in
-    let m : i < length (drop head share) = simp length-drop (omega arith) in
-    let v : get_or (a ++ drop i share) (head + i) 0 ≡ get_or share (head + i) 0 =
-    let e : head + i ≡ length a + head = omega arith in
-    rw (e, get_or-append-add a (drop i share) head 0, get_or-drop i share head 0, n) in
-    ap (λ (x : ℕ). set (a ++ drop i share) i x) v
-    ∙ ap (λ (t : List ℕ). set (a ++ t) i (get_or share (head + i) 0)) (drop-cons share i 0 k)
-    ∙ set_at a (get_or share i 0) (drop (suc i) share) (get_or share (head + i) 0) i n
-    ∙ sym (append_snoc a (get_or share (head + i) 0) (drop (suc i) share))
-    ∙ sym (rw (add-one, take-suc (drop head share) i 0, get_or-drop head share i 0))
+slid_is share head n = let e : head + n - head ≡ n = omega arith in rw (e, zero-add)
 
 -- moving down leaves the share's length
 pub length-slid : (share : List ℕ) (head n : ℕ) → head + n ≤ length share → length (slid share head n) ≡ length share
 unfolding slid
 length-slid share head n h = let e = length_part share head n h in simp (length-append, length-drop) (omega arith)
-
--- an append where the payload fits behind the run
-pub appends-behind : (share : List ℕ) (head b : ℕ) (p : List ℕ) → head + b + length p ≤ length share
-    → Appends share head b p head (put share (head + b) p)
-unfolding appended_head appended fits_behind
-appends-behind share head b p h =
-    let t = le-leb (head + b + length p) (length share) h in
-    record { head-is = rw t; share-is = rw t }
-
--- an append where it does not: the run moves down first
-pub appends-moved : (share : List ℕ) (head b : ℕ) (p : List ℕ) → length share < head + b + length p
-    → Appends share head b p 0 (put (slid share head b) b p)
-unfolding appended_head appended fits_behind
-appends-moved share head b p h =
-    let t = lt-leb (head + b + length p) (length share) h in
-    record { head-is = rw t; share-is = rw t }
-
--- a take of the whole run starts it again at 0
-pub taken-all : (head b n : ℕ) → n ≡ b → 0 ≡ taken_head head b n
-unfolding taken_head
-taken-all head b n h = rw (eq-eqb n b h)
-
--- a take of less moves its head
-pub taken-some : (head b n : ℕ) → (n ≡ b → ⊥) → head + n ≡ taken_head head b n
-unfolding taken_head
-taken-some head b n h = rw (ne_eqb n b h)
 
 -- bytes put behind a run are its last ones
 part-behind : (share : List ℕ) (head b : ℕ) (p : List ℕ) → head + b + length p ≤ length share

@@ -19,12 +19,12 @@ share_in i n w len h k =
     omega arith
 
 -- what `append` does to the share that it is lent is what it does to the store
-pub buffered-is : (rx : List ℕ) (cap i : ℕ) (head buffered : ℕ) (payload after : List ℕ) → ShareFits i cap (length rx)
+pub buffered_is : (rx : List ℕ) (cap i : ℕ) (head buffered : ℕ) (payload after : List ℕ) → ShareFits i cap (length rx)
     → Room (2 * cap) head buffered (length payload)
     → after ≡ appended (take (i * (2 * cap) + 2 * cap - i * (2 * cap)) (drop (i * (2 * cap)) rx)) head buffered payload
     → put_mid (i * (2 * cap)) (i * (2 * cap) + 2 * cap - i * (2 * cap)) rx after ≡ buffered_in rx cap i head buffered payload
 unfolding buffered_in share_of
-buffered-is rx cap i head buffered payload after h r e =
+buffered_is rx cap i head buffered payload after h r e =
     let at = i * (2 * cap) in
     let share = part rx at (2 * cap) in
     let n : length share ≡ 2 * cap = length_part rx at (2 * cap) h in
@@ -34,10 +34,10 @@ buffered-is rx cap i head buffered payload after h r e =
     lent_back rx at (2 * cap) after m ∙ ap (put rx at) f
 
 -- what is handed over from the share that was lent is what the store has there
-pub handed-is : (rx buf after : List ℕ) (cap i head n : ℕ)
+pub handed_is : (rx buf after : List ℕ) (cap i head n : ℕ)
     → after ≡ put buf 0 (part (take (i * (2 * cap) + 2 * cap - i * (2 * cap)) (drop (i * (2 * cap)) rx)) head n) → after ≡ put buf 0 (front_of rx cap i head n)
 unfolding front_of share_of
-handed-is rx buf after cap i head n e = e ∙ ap (λ (l : List ℕ). put buf 0 (part l head n)) (lent-part rx (i * (2 * cap)) (2 * cap))
+handed_is rx buf after cap i head n e = e ∙ ap (λ (l : List ℕ). put buf 0 (part l head n)) (lent-part rx (i * (2 * cap)) (2 * cap))
 
 pub front-short : (rx : List ℕ) (cap i head n : ℕ) → length (front_of rx cap i head n) ≤ n
 unfolding front_of part

@@ -3,30 +3,26 @@
 --     stable        what the reader answers, but waiting, it answers whatever arrives behind
 --     pieces        pieces read one after the other give what the whole gives
 --     same-pieces   so two lists of pieces that make up the same bytes give the same
-use mathlib.Core.Path.{◌≡◌, refl, ap, subst, ◌∙◌}
-use mathlib.Core.Bool.{false}
-use mathlib.Core.List.{List, ◌++◌}
-use Prim.Native.Nat.{ℕ, ◌+◌, ◌≤◌, ◌<◌}
-use native.Mathlib.Omega.{arith}
+use Rattle.std.proofs.Common.{◌≡◌, refl, ap, subst, ◌∙◌, false, List, ◌++◌, ℕ, ◌+◌, ◌≤◌, ◌<◌, length, length-append, arith, Some, None, Ok, Err}
 use lib.Dec.{T, ltb}
-use lib.ListN.{length, length-append}
 use borrow.Author.Tests.{ltb-false, le-ltb}
 use Rattle.le.proofs.Parts.{by-test, part-front}
 use Rattle.stream.specs.Stream.{message, refused, is_waiting, joined, read_all, begun, feed_all, Stable}
 use Rattle.stream.proofs.Cut.{cut, same-cut}
-use Rattle.shell.specs.declared.Read.{Read}
-use Rattle.shell.specs.declared.Read.TheVariants.{Waiting, InvalidKind, EmptyExit, Whole}
-use Rattle.shell.specs.Frame.{is_unknown, is_empty_exit, kind_of, length_of, headed_of, read_frame, used_of}
+use Rattle.shell.specs.declared.Kind.{Kind}
+use Rattle.shell.specs.declared.Frame.{Frame as Found}
+use Rattle.shell.specs.Kind.{kind_number, kind_from, is_empty_exit}
+use Rattle.shell.specs.Frame.{Read, kind_of, length_of, headed_of, kinded, read_frame, used_of}
 use Rattle.shell.specs.Pieces.{Frame, answer_of, receives}
-use Rattle.shell.proofs.ReadLaws.{kind-front, length_front, payload-front, says, used-within}
+use Rattle.shell.proofs.ReadLaws.{by-kind, kind-front, length_front, payload-front, says, used-within}
 
 module _ (l m : List ℕ) where
-  headed-stays : (kind : ℕ) → 5 ≤ length l → is_waiting (answer_of l (headed_of kind l)) ≡ false → headed_of kind (l ++ m) ≡ headed_of kind l
+  headed-stays : (kind : Kind) → 5 ≤ length l → is_waiting (answer_of l (headed_of kind l)) ≡ false → headed_of kind (l ++ m) ≡ headed_of kind l
   unfolding headed_of answer_of is_waiting
   headed-stays kind h e =
       let la = length-append l m in
       let fl = length_front l m h in
-      by-test (is_empty_exit kind (length_of l))
+      by-test (is_empty_exit (kind_number kind) (length_of l))
       (λ t. rw (fl, t))
       (λ t₁. by-test (ltb (length l) (5 + length_of l))
       (λ t. let f = rw (t₁, t) at e in absurd (subst T f tt))
@@ -34,7 +30,7 @@ module _ (l m : List ℕ) where
       rw (fl, t₁, t₂, le-ltb (length (l ++ m)) (5 + length_of l) (omega arith), payload-front l m w)))
 
   read_stays : is_waiting (answer_of l (read_frame l)) ≡ false → read_frame (l ++ m) ≡ read_frame l
-  unfolding read_frame answer_of is_waiting
+  unfolding read_frame kinded answer_of is_waiting
   read_stays e =
       let la = length-append l m in
       by-test (ltb (length l) 1)
@@ -42,39 +38,37 @@ module _ (l m : List ℕ) where
       (λ t₁. let h = ltb-false (length l) 1 t₁ in
       let fk = kind-front l m h in
       let g = le-ltb (length (l ++ m)) 1 (omega arith) in
-      by-test (is_unknown (kind_of l))
-      (λ t. rw (g, t₁, fk, t))
-      (λ t₂. by-test (ltb (length l) 5)
+      by-kind (kind_from (kind_of l))
+      (λ kind t₂. by-test (ltb (length l) 5)
       (λ t. let f = rw (t₁, t₂, t) at e in absurd (subst T f tt))
       (λ t₃. let i = ltb-false (length l) 5 t₃ in
-      rw (g, t₁, fk, t₂, le-ltb (length (l ++ m)) 5 (omega arith), t₃) (headed-stays (kind_of l) i (rw (t₁, t₂, t₃) at e)))))
+      rw (g, t₁, fk, t₂, le-ltb (length (l ++ m)) 5 (omega arith), t₃) (headed-stays kind i (rw (t₁, t₂, t₃) at e))))
+      (λ u t. rw (g, t₁, fk, t)))
 
   answer-stays : (r : Read) → read_frame l ≡ r → answer_of (l ++ m) r ≡ answer_of l r
   unfolding answer_of
-  answer-stays Waiting e = refl
-  answer-stays InvalidKind e = refl
-  answer-stays EmptyExit e = refl
-  answer-stays (Whole kind at n used code) e =
-      let a = says l kind at n used code e in
-      rw (part-front l m at n (omega arith))
+  answer-stays (Ok None) e = refl
+  answer-stays (Err x) e = refl
+  answer-stays (Ok (Some f)) e =
+      let y = says l f e in
+      rw (y.frame-is, part-front l m 5 (length_of l) y.whole)
 
 -- a frame uses its header at least
 whole-used : (l : List ℕ) (g : Frame) (n : ℕ) (r : Read) → read_frame l ≡ r → answer_of l r ≡ message g n → (n ≡ used_of r) × (0 < n)
 unfolding answer_of used_of
-whole-used l g n Waiting e f = let z : ◌≡◌ {A = ℕ} 0 1 = cc in absurd (omega arith)
-whole-used l g n InvalidKind e f = let z : ◌≡◌ {A = ℕ} 0 1 = cc in absurd (omega arith)
-whole-used l g n EmptyExit e f = let z : ◌≡◌ {A = ℕ} 0 1 = cc in absurd (omega arith)
-whole-used l g n (Whole kind at k used code) e f =
-    let s = says l kind at k used code e in
-    let i : n ≡ used = cc in
+whole-used l g n (Ok None) e f = let z : ◌≡◌ {A = ℕ} 0 1 = cc in absurd (omega arith)
+whole-used l g n (Err x) e f = let z : ◌≡◌ {A = ℕ} 0 1 = cc in absurd (omega arith)
+whole-used l g n (Ok (Some x)) e f =
+    let y = says l x e in
+    let u = ap (λ (k : Found). k.used) y.frame-is in
+    let i : n ≡ x.used = cc in
     (i, omega arith)
 
 refusal-used : (l : List ℕ) (number n : ℕ) (r : Read) → answer_of l r ≡ refused number n → n ≡ used_of r
 unfolding answer_of
-refusal-used l number n Waiting f = cc
-refusal-used l number n InvalidKind f = cc
-refusal-used l number n EmptyExit f = cc
-refusal-used l number n (Whole kind at k used code) f = cc
+refusal-used l number n (Ok None) f = cc
+refusal-used l number n (Err x) f = cc
+refusal-used l number n (Ok (Some x)) f = cc
 
 pub stable : Stable receives
 unfolding receives read_frame answer_of

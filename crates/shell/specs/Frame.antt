@@ -1,16 +1,17 @@
 -- The frames of the shell protocol from bytes (docs/SCOPE.md, 11). Assumes nothing.
-use Rattle.std.specs.Prelude.{ℕ, ◌+◌, Bool, false, cond, List, ltb, eqb, length, get_or}
+use Rattle.std.specs.Prelude.{ℕ, ◌+◌, cond, List, ltb, Option, Some, None, Result, Ok, Err, length, get_or}
 use Rattle.le.specs.Le.{num_of, part}
-use Rattle.shell.specs.declared.Read.{Read}
-use Rattle.shell.specs.declared.Read.TheVariants.{Waiting, InvalidKind, EmptyExit, Whole}
+use Rattle.refusal.specs.Refusal.{read_number_of}
+use Rattle.shell.specs.declared.Kind.{Kind}
+use Rattle.shell.specs.declared.UnknownKind.{UnknownKind}
+use Rattle.shell.specs.declared.Frame.{Frame}
+use Rattle.shell.specs.declared.ReadError.{ReadError}
+use Rattle.shell.specs.declared.ReadError.TheVariants.{InvalidKind, EmptyExit}
+use Rattle.shell.specs.Kind.{kind_number, kind_from, is_empty_exit, exit_code}
 
--- a kind that is none: above 5
-unfoldable pub is_unknown : ℕ → Bool
-is_unknown kind = ltb 5 kind
-
--- an exit, kind 3, with no byte for its code
-unfoldable pub is_empty_exit : ℕ → ℕ → Bool
-is_empty_exit kind n = cond (eqb kind 3) (eqb n 0) false
+-- what received bytes begin with
+abbrev pub Read : Type 0
+Read = Result (Option Frame) ReadError
 
 -- the first byte is the kind
 unfoldable pub kind_of : List ℕ → ℕ
@@ -24,35 +25,37 @@ length_of s = num_of (part s 1 4)
 unfoldable pub payload_of : List ℕ → List ℕ
 payload_of s = part s 5 (length_of s)
 
--- an exit's code is its first data byte; other kinds have none
-unfoldable pub code_of : ℕ → List ℕ → ℕ
-code_of kind payload = cond (eqb kind 3) (get_or payload 0 0) 0
+-- a frame of n bytes of data, and its header ahead of them
+abbrev pub frame_in : Kind → ℕ → Option ℕ → Frame
+frame_in kind n code = record { kind = kind; at = 5; length = n; used = 5 + n; code = code }
 
 -- once the header is here: 19, waiting for the data, a frame
-unfoldable pub headed_of : ℕ → List ℕ → Read
+unfoldable pub headed_of : Kind → List ℕ → Read
 headed_of kind s =
-    cond (is_empty_exit kind (length_of s)) EmptyExit
-    (cond (ltb (length s) (5 + length_of s)) Waiting
-    (Whole kind 5 (length_of s) (5 + length_of s) (code_of kind (payload_of s))))
+    cond (is_empty_exit (kind_number kind) (length_of s)) (Err EmptyExit)
+    (cond (ltb (length s) (5 + length_of s)) (Ok None)
+    (Ok (Some (frame_in kind (length_of s) (exit_code kind (payload_of s))))))
 
--- no byte: waiting; 18 from the first; waiting for the header
+-- once the first byte is here: 18 from it, waiting for the header
+unfoldable pub kinded : List ℕ → Result Kind UnknownKind → Read
+kinded s (Err e) = Err InvalidKind
+kinded s (Ok kind) = cond (ltb (length s) 5) (Ok None) (headed_of kind s)
+
+-- no byte: waiting
 unfoldable pub read_frame : List ℕ → Read
-read_frame s =
-    cond (ltb (length s) 1) Waiting
-    (cond (is_unknown (kind_of s)) InvalidKind
-    (cond (ltb (length s) 5) Waiting
-    (headed_of (kind_of s) s)))
+read_frame s = cond (ltb (length s) 1) (Ok None) (kinded s (kind_from (kind_of s)))
+
+-- a refusal's number
+abbrev pub refusal_number : ReadError → ℕ
+refusal_number InvalidKind = 18
+refusal_number EmptyExit = 19
 
 -- the number of an answer: a refusal's own, 100 for waiting, 0 for a frame
-unfoldable pub read_number : Read → ℕ
-read_number Waiting = 100
-read_number InvalidKind = 18
-read_number EmptyExit = 19
-read_number (Whole kind at n used code) = 0
+abbrev pub read_number : Read → ℕ
+read_number = read_number_of refusal_number
 
 -- bytes used: those of a frame with its data, none otherwise
 unfoldable pub used_of : Read → ℕ
-used_of Waiting = 0
-used_of InvalidKind = 0
-used_of EmptyExit = 0
-used_of (Whole kind at n used code) = used
+used_of (Ok None) = 0
+used_of (Ok (Some f)) = f.used
+used_of (Err e) = 0

@@ -1,2 +1,3 @@
+pub mod Kind
 pub mod Frame
 pub mod Pieces

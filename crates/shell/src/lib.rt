@@ -2,141 +2,167 @@
 // stays where it was received.
 #![tactic(auto)]
 
-ghost use Rattle.std.specs.Prelude.{◌≡◌, ◌≤◌, ◌<◌, length};
-ghost use Rattle.shell.specs.Frame.{is_unknown, is_empty_exit, code_of, headed_of, read_frame, read_number};
+ghost use Rattle.std.specs.Prelude.{◌≡◌, ◌≤◌, length};
+ghost use Rattle.shell.specs.declared.ReadError.TheVariants.{InvalidKind};
+ghost use Rattle.shell.specs.Kind.{kind_number, kind_from, is_empty_exit, exit_code};
+ghost use Rattle.shell.specs.Frame.{headed_of, read_frame, refusal_number};
 
-// To the program's standard input.
-pub const INPUT: u32 = 0;
-
-// Of its standard output.
-pub const OUTPUT: u32 = 1;
-
-// Of its standard error.
-pub const ERRORS: u32 = 2;
-
-// The program has ended; the first data byte is its exit code.
-pub const EXIT: u32 = 3;
-
-// Its standard input is to be closed.
-pub const CLOSE_INPUT: u32 = 4;
-
-// The size of the window that it runs in.
-pub const WINDOW_SIZE: u32 = 5;
+use refusal::Numbered;
 
 // Bytes ahead of the data.
 pub const HEAD_LEN: usize = 5;
 
-// What received bytes begin with.
-#[derive(Clone, Copy)]
-pub enum Read {
-    // The frame is not all there.
-    Waiting,
-    // Refusal 18: a kind above 5.
-    InvalidKind,
-    // Refusal 19: an exit frame of length 0.
-    EmptyExit,
-    // A frame. Its data is the `length` bytes from `at` on; with them it uses `used` bytes. `code` is an exit's, 0 of other kinds.
-    Whole {
-        kind: u32,
-        at: usize,
-        length: usize,
-        used: usize,
-        code: u32,
-    },
+// What a frame is for.
+#[derive(Clone, Copy, Debug, PartialEq, Eq)]
+pub enum Kind {
+    // To the program's standard input.
+    Input,
+    // Of its standard output.
+    Output,
+    // Of its standard error.
+    Errors,
+    // The program has ended; the first data byte is its exit code.
+    Exit,
+    // Its standard input is to be closed.
+    CloseInput,
+    // The size of the window that it runs in.
+    WindowSize,
 }
 
-impl Read {
-    // The number of the answer: a refusal's own, 100 for waiting, 0 for a frame.
-    pub fn number(self) -> u32
-        ensures { result ≡ read_number self }
-    {
-        match self {
-            Read::Waiting => 100,
-            Read::InvalidKind => 18,
-            Read::EmptyExit => 19,
-            Read::Whole {
-                kind: _,
-                at: _,
-                length: _,
-                used: _,
-                code: _,
-            } => 0,
+// A number that names no kind.
+#[derive(Clone, Copy, Debug, PartialEq, Eq)]
+pub struct UnknownKind(pub u32);
+
+impl TryFrom<u32> for Kind {
+    type Error = UnknownKind;
+
+    ghost try_from_gives = { λ number answer. answer ≡ kind_from number };
+
+    #[tactic(auto, unfolding(crate::specs::Kind::kind_from))]
+    fn try_from(number: u32) -> Result<Self, UnknownKind> {
+        match number {
+            0 => Ok(Kind::Input),
+            1 => Ok(Kind::Output),
+            2 => Ok(Kind::Errors),
+            3 => Ok(Kind::Exit),
+            4 => Ok(Kind::CloseInput),
+            5 => Ok(Kind::WindowSize),
+            _ => Err(UnknownKind(number)),
         }
     }
 }
 
-fn wide(b: u8) -> u32
-    ensures { (result ≡ b) × (result < 256) }
-{
-    b as u32
+impl From<Kind> for u8 {
+    ghost from_gives = { λ kind byte. byte ≡ kind_number kind };
+
+    fn from(kind: Kind) -> u8 {
+        match kind {
+            Kind::Input => 0,
+            Kind::Output => 1,
+            Kind::Errors => 2,
+            Kind::Exit => 3,
+            Kind::CloseInput => 4,
+            Kind::WindowSize => 5,
+        }
+    }
 }
 
-// Whether a kind is none of those above.
-pub fn is_unknown(kind: u32) -> bool
-    ensures { result ≡ is_unknown kind }
-{
-    kind > WINDOW_SIZE
+impl Kind {
+    // Whether a frame with so much data is an exit with no byte for its code.
+    #[tactic(auto, unfolding(crate::specs::Kind::is_empty_exit))]
+    pub fn is_empty_exit(self, length: usize) -> bool
+        ensures { result ≡ is_empty_exit (kind_number self) length }
+    {
+        self == Kind::Exit && length == 0
+    }
+
+    // The code of an exit frame with this data.
+    #[tactic(auto, unfolding(crate::specs::Kind::exit_code))]
+    fn code(self, payload: &[u8]) -> Option<u8>
+        ensures { result ≡ exit_code self payload.now }
+    {
+        if self == Kind::Exit {
+            payload.first().copied()
+        } else {
+            None
+        }
+    }
 }
 
-// Whether a frame is an exit with no byte for its code.
-pub fn is_empty_exit(kind: u32, length: usize) -> bool
-    ensures { result ≡ is_empty_exit kind length }
-{
-    if kind == EXIT {
-        return length == 0;
-    }
-    false
+// A frame that received bytes begin with. Its data is the `length` bytes from `at` on; with them it uses `used` bytes. An exit has a
+// code.
+#[derive(Clone, Copy, Debug, PartialEq, Eq)]
+pub struct Frame {
+    pub kind: Kind,
+    pub at: usize,
+    pub length: usize,
+    pub used: usize,
+    pub code: Option<u8>,
 }
 
-// The code of an exit frame with this data, 0 of other kinds.
-fn code_of(kind: u32, payload: &[u8]) -> u32
-    ensures { result ≡ code_of kind payload.now }
-{
-    if kind != EXIT {
-        return 0;
+// Why received bytes are no frame.
+#[derive(Clone, Copy, Debug, PartialEq, Eq)]
+pub enum ReadError {
+    // 18: a kind above 5.
+    InvalidKind,
+    // 19: an exit frame of length 0.
+    EmptyExit,
+}
+
+impl From<UnknownKind> for ReadError {
+    ghost from_gives = { λ _ e. e ≡ InvalidKind };
+
+    fn from(_kind: UnknownKind) -> ReadError {
+        ReadError::InvalidKind
     }
-    if payload.len() == 0 {
-        return 0;
+}
+
+impl Numbered for ReadError {
+    ghost number = { refusal_number };
+
+    fn number(self) -> u32 {
+        match self {
+            ReadError::InvalidKind => 18,
+            ReadError::EmptyExit => 19,
+        }
     }
-    wide(payload[0])
 }
 
 // The answer once the header is here.
-fn read_headed(kind: u32, received: &[u8]) -> Read
+#[tactic(auto, unfolding(crate::specs::Frame::headed_of, crate::specs::Frame::length_of, crate::specs::Frame::payload_of))]
+fn read_headed(kind: Kind, received: &[u8]) -> Result<Option<Frame>, ReadError>
     requires { 5 ≤ length received.now }
     ensures { result ≡ headed_of kind received.now }
 {
-    let length = le::get_u32(received, 1) as usize;
-    if is_empty_exit(kind, length) {
-        return Read::EmptyExit;
+    let length = le::get::<u32>(received, 1) as usize;
+    if kind.is_empty_exit(length) {
+        return Err(ReadError::EmptyExit);
     }
     if received.len() - HEAD_LEN < length {
-        return Read::Waiting;
+        return Ok(None);
     }
     let used = HEAD_LEN + length;
-    let code = code_of(kind, &received[HEAD_LEN..used]);
-    Read::Whole {
+    let code = kind.code(&received[HEAD_LEN..used]);
+    Ok(Some(Frame {
         kind,
         at: HEAD_LEN,
         length,
         used,
         code,
-    }
+    }))
 }
 
-// The frame that received bytes begin with, or why there is none.
-pub fn read_frame(received: &[u8]) -> Read
+// The frame that received bytes begin with, none while more bytes are waited for, or why there is none.
+#[tactic(auto, unfolding(crate::specs::Frame::read_frame, crate::specs::Frame::kind_of, crate::specs::Frame::kinded))]
+pub fn read_frame(received: &[u8]) -> Result<Option<Frame>, ReadError>
     ensures { result ≡ read_frame received.now }
 {
-    if received.len() < 1 {
-        return Read::Waiting;
-    }
-    let kind = wide(received[0]);
-    if is_unknown(kind) {
-        return Read::InvalidKind;
-    }
+    let Some(&first) = received.first() else {
+        return Ok(None);
+    };
+    let kind = Kind::try_from(u32::from(first))?;
     if received.len() < HEAD_LEN {
-        return Read::Waiting;
+        return Ok(None);
     }
     read_headed(kind, received)
 }

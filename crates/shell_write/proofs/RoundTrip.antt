@@ -2,7 +2,7 @@
 --     write_read                 what `write_frame` makes, `read_frame` gives back, whatever follows
 --     read-write                 what `read_frame` accepts, `write_frame` makes byte for byte
 --     unknown-read, empty-read   what the writer refuses by 18 or 19, the reader does
-use mathlib.Core.Path.{◌≡◌, sym, ap, ◌∙◌}
+use mathlib.Core.Path.{◌≡◌, refl, sym, ap, ◌∙◌}
 use mathlib.Core.Bool.{true, false}
 use mathlib.Core.List.{List, ◌++◌, append_assoc}
 use Prim.Native.Nat.{ℕ, ◌+◌, ◌%◌, ◌≤◌, ◌<◌}
@@ -14,11 +14,14 @@ use borrow.Author.Tests.{ltb-false, le-ltb}
 use Rattle.le.specs.Le.{bytes_of, part, put, Bytes}
 use Rattle.le.proofs.Laws.{num_of-part, write_read as number-back, read-write-part}
 use Rattle.le.proofs.Parts.{by-test, length_part, part-put-same, part_join}
-use Rattle.shell.specs.declared.Read.TheVariants.{InvalidKind as Unknown, EmptyExit as NoCode, Whole}
-use Rattle.shell.specs.Frame.{is_unknown, is_empty_exit, kind_of, length_of, payload_of, code_of, headed_of, read_frame}
-use Rattle.shell_write.specs.declared.Written.TheVariants.{Bytes as Written-as-Bytes}
+use Rattle.std.proofs.Common.{Some, Ok, Err}
+use Rattle.shell.specs.declared.Kind.{Kind}
+use Rattle.shell.specs.declared.Frame.{Frame}
+use Rattle.shell.specs.declared.ReadError.TheVariants.{InvalidKind, EmptyExit}
+use Rattle.shell.specs.Kind.{kind_number, kind_from, is_unknown, is_empty_exit, exit_code}
+use Rattle.shell.specs.Frame.{kind_of, length_of, payload_of, frame_in, kinded, headed_of, read_frame}
 use Rattle.shell_write.specs.Write.{head_bytes, frame_bytes, write_frame}
-use Rattle.shell.proofs.ReadLaws.{says}
+use Rattle.shell.proofs.ReadLaws.{known, unknown, known-of, number-of, says}
 use Rattle.shell_write.proofs.WriteLaws.{length-head, length-frame, known_small}
 
 -- ---- writing, then reading
@@ -31,7 +34,7 @@ pub record WrittenSays (kind : ℕ) (payload out : List ℕ) (n : ℕ) : Type 0 
   pub count-is : n ≡ 5 + length payload
   pub out-is : (write_frame kind payload out).out ≡ put out 0 (frame_bytes kind payload)
 
-pub written-says : (kind : ℕ) (payload out : List ℕ) (n : ℕ) → (write_frame kind payload out).result ≡ Written-as-Bytes n → WrittenSays kind payload out n
+pub written-says : (kind : ℕ) (payload out : List ℕ) (n : ℕ) → (write_frame kind payload out).result ≡ Ok n → WrittenSays kind payload out n
 unfolding write_frame
 written-says kind payload out n e =
     by-test (is_unknown kind)
@@ -75,57 +78,64 @@ module _ (kind : ℕ) (payload rest : List ℕ) where
       rw (head-rest, drop_at (head_bytes kind (length payload)) (payload ++ rest) 5 (length-head kind (length payload)), take-append_seam)
 
   -- they are read as that frame
-  pub not-refused : is_unknown kind ≡ false → is_empty_exit kind (length payload) ≡ false → length payload ≤ 0xffff_ffff
-      → read_frame (frame_bytes kind payload ++ rest) ≡ Whole kind 5 (length payload) (5 + length payload) (code_of kind payload)
-  unfolding read_frame headed_of payload_of
-  not-refused known full long =
+  pub not-refused : (k : Kind) → kind_from kind ≡ Ok k → is_empty_exit kind (length payload) ≡ false → length payload ≤ 0xffff_ffff
+      → read_frame (frame_bytes kind payload ++ rest) ≡ Ok (Some (frame_in k (length payload) (exit_code k payload)))
+  unfolding read_frame kinded headed_of payload_of
+  not-refused k from full long =
       let s = frame_bytes kind payload ++ rest in
       let a = all_here in
-      let k = known_small kind known in
+      let small = known_small kind (known-of kind k from) in
       rw (
         le-ltb (length s) 1 (omega arith),
         kind-here (omega arith),
-        known,
+        from,
         le-ltb (length s) 5 (omega arith),
         length-here long,
+        number-of kind k from,
         full,
         le-ltb (length s) (5 + length payload) (omega arith),
         payload-here,
       )
 
   -- what the writer refuses by 18, the reader does, for a kind that has a byte
-  pub unknown-read : kind < 256 → is_unknown kind ≡ true → read_frame (frame_bytes kind payload ++ rest) ≡ Unknown
-  unfolding read_frame
-  unknown-read h unknown =
+  pub unknown-read : kind < 256 → is_unknown kind ≡ true → read_frame (frame_bytes kind payload ++ rest) ≡ Err InvalidKind
+  unfolding read_frame kinded
+  unknown-read h t =
       let s = frame_bytes kind payload ++ rest in
       let a = all_here in
-      rw (le-ltb (length s) 1 (omega arith), kind-here h, unknown)
+      rw (le-ltb (length s) 1 (omega arith), kind-here h, unknown kind t)
 
   -- what the writer refuses by 19, the reader does
   pub empty-read : is_unknown kind ≡ false → is_empty_exit kind (length payload) ≡ true → length payload ≤ 0xffff_ffff
-      → read_frame (frame_bytes kind payload ++ rest) ≡ NoCode
-  unfolding read_frame headed_of
-  empty-read known empty long =
+      → read_frame (frame_bytes kind payload ++ rest) ≡ Err EmptyExit
+  unfolding read_frame kinded headed_of
+  empty-read t empty long =
       let s = frame_bytes kind payload ++ rest in
       let a = all_here in
-      let k = known_small kind known in
+      let small = known_small kind t in
+      let k = known kind t in
       rw (
         le-ltb (length s) 1 (omega arith),
         kind-here (omega arith),
-        known,
+        k.from_is,
         le-ltb (length s) 5 (omega arith),
         length-here long,
+        k.number_is,
         empty,
       )
 
 -- a frame that is read at the start of bytes, its data with it
 pub record FrameComesBack (kind : ℕ) (payload : List ℕ) (n : ℕ) (s : List ℕ) : Type 0 where
-  pub at : ℕ
-  pub read_is : read_frame s ≡ Whole kind at (length payload) n (code_of kind payload)
-  pub payload-is : part s at (length payload) ≡ payload
+  pub frame : Frame
+  pub read_is : read_frame s ≡ Ok (Some frame)
+  pub kind-is : kind_number frame.kind ≡ kind
+  pub length-is : frame.length ≡ length payload
+  pub used-is : frame.used ≡ n
+  pub code_is : frame.code ≡ exit_code frame.kind payload
+  pub payload-is : part s frame.at frame.length ≡ payload
 
 -- what the writer made, with anything behind it, is read as the frame that was written
-pub write_read : (kind : ℕ) (payload out : List ℕ) (n : ℕ) (rest : List ℕ) → (write_frame kind payload out).result ≡ Written-as-Bytes n
+pub write_read : (kind : ℕ) (payload out : List ℕ) (n : ℕ) (rest : List ℕ) → (write_frame kind payload out).result ≡ Ok n
     → FrameComesBack kind payload n (take n (write_frame kind payload out).out ++ rest)
 unfolding part
 write_read kind payload out n rest e =
@@ -135,8 +145,16 @@ write_read kind payload out n rest e =
     let r = w.room in
     let t : take n (write_frame kind payload out).out ≡ b =
     ap (take n) w.out-is ∙ ap (λ (j : ℕ). take j (put out 0 b)) (sym l) ∙ part-put-same out 0 b (omega (arith, w.count-is)) in
-    let i = not-refused kind payload rest w.known w.full w.long in
-    rw t (record { at = 5; read_is = rw w.count-is i; payload-is = payload-here kind payload rest })
+    let k = known kind w.known in
+    rw t (record {
+      frame = frame_in k.kind (length payload) (exit_code k.kind payload);
+      read_is = not-refused kind payload rest k.kind k.from_is w.full w.long;
+      kind-is = k.number_is;
+      length-is = refl;
+      used-is = sym w.count-is;
+      code_is = refl;
+      payload-is = payload-here kind payload rest;
+    })
 
 -- ---- reading, then writing
 
@@ -158,23 +176,28 @@ unfolding head_bytes length_of
 head-written s h n =
     rw (kind-written s h (omega arith), read-write-part s 1 4 h n) (part_join s 0 1 4)
 
-pub read-write : (s : List ℕ) (kind at n used code : ℕ) (out : List ℕ) → Bytes s → read_frame s ≡ Whole kind at n used code → used ≤ length out
-    → write_frame kind (part s at n) out ≡ record { result = Written-as-Bytes used; out = put out 0 (take used s) }
+pub read-write : (s : List ℕ) (f : Frame) (out : List ℕ) → Bytes s → read_frame s ≡ Ok (Some f) → f.used ≤ length out
+    → write_frame (kind_number f.kind) (part s f.at f.length) out ≡ record { result = Ok f.used; out = put out 0 (take f.used s) }
 unfolding write_frame frame_bytes part
-read-write s kind at n used code out h e room =
-    let a = says s kind at n used code e in
-    let l : length (part s at n) ≡ n = length_part s at n (omega arith) in
+read-write s f out h e room =
+    let a = says s f e in
+    let n = length_of s in
+    let kind-is = number-of (kind_of s) f.kind a.kind-is in
+    let at-is = ap (λ (x : Frame). x.at) a.frame-is in
+    let length-is = ap (λ (x : Frame). x.length) a.frame-is in
+    let used-is = ap (λ (x : Frame). x.used) a.frame-is in
+    let l : length (part s 5 n) ≡ n = length_part s 5 n a.whole in
     let fit = length-fits s h in
-    let head : head_bytes kind n ≡ part s 0 5 = rw (a.kind-is, a.length-is) (head-written s h (omega arith)) in
     rw (
-      a.known,
+      at-is,
+      length-is,
+      used-is,
       l,
       a.full,
-      le-ltb 0xffff_ffff n (omega arith),
-      ← a.used-is,
-      le-ltb (length out) used room,
-      head,
-      a.at-is,
+      le-ltb 0xffff_ffff n fit,
+      le-ltb (length out) (5 + n) (omega arith),
+      kind-is,
+      known-of (kind_of s) f.kind a.kind-is,
+      head-written s h (omega (arith, a.whole)),
       part_join s 0 5 n,
-      ← a.used-is,
     )

@@ -1,17 +1,17 @@
 -- Laws of the writer: the bytes that it puts, and what its tests leave. Assumes nothing.
-use mathlib.Core.Path.{◌≡◌, refl}
-use mathlib.Core.Bool.{true, false}
+use mathlib.Core.Path.{◌≡◌}
+use mathlib.Core.Bool.{false}
 use mathlib.Core.List.{List, ◌++◌}
-use Prim.Native.Nat.{ℕ, ◌+◌, ◌≤◌, ◌<◌}
+use Prim.Native.Nat.{ℕ, ◌+◌, ◌≤◌}
 use native.Mathlib.Omega.{arith}
 use lib.ListN.{length, length-append}
-use borrow.Author.Tests.{ltb-false, lt-ltb, le-ltb}
+use borrow.Author.Tests.{ltb-false}
 use Rattle.le.specs.Le.{bytes_of, put}
 use Rattle.le.proofs.Laws.{length-bytes_of}
 use Rattle.le.proofs.Parts.{put-put}
-use Rattle.shell.specs.Frame.{is_unknown, is_empty_exit}
-use Rattle.shell_write.specs.declared.Written.TheVariants.{Bytes, InvalidKind, EmptyExit, OutShort}
-use Rattle.shell_write.specs.Write.{head_bytes, frame_bytes, write_frame, Writes}
+use Rattle.shell.specs.Kind.{is_unknown}
+use Rattle.shell.proofs.ReadLaws.{known-of, unknown-of, number-of}
+use Rattle.shell_write.specs.Write.{head_bytes, frame_bytes}
 
 pub length-head : (kind n : ℕ) → length (head_bytes kind n) ≡ 5
 unfolding head_bytes
@@ -35,34 +35,10 @@ put-frame d d₁ d₂ d₃ kind payload h e₁ e₂ e₃ =
     let q = put-put d 0 (a ++ b) 5 payload (omega arith) h in
     cc
 
+-- what a kind's number says of it
+pub ruleset kinds = (known-of, unknown-of, number-of)
+
 -- a kind that is not unknown is at most 5
 pub known_small : (kind : ℕ) → is_unknown kind ≡ false → kind ≤ 5
 unfolding is_unknown
 known_small kind e = ltb-false 5 kind e
-
--- what writing gives, test by test
-module _ (kind : ℕ) (payload d : List ℕ) where
-  pub write-unknown : is_unknown kind ≡ true → Writes (write_frame kind payload d) InvalidKind d
-  unfolding write_frame
-  write-unknown e = rw e (record { result-is = refl; out-is = refl })
-
-  module _ (known : is_unknown kind ≡ false) where
-    pub write-empty : is_empty_exit kind (length payload) ≡ true → Writes (write_frame kind payload d) EmptyExit d
-    unfolding write_frame
-    write-empty e = rw (known, e) (record { result-is = refl; out-is = refl })
-
-    module _ (full : is_empty_exit kind (length payload) ≡ false) where
-      pub write-long : 0xffff_ffff < length payload → Writes (write_frame kind payload d) OutShort d
-      unfolding write_frame
-      write-long h = rw (known, full, lt-ltb 0xffff_ffff (length payload) h) (record { result-is = refl; out-is = refl })
-
-      pub write-short : length payload ≤ 0xffff_ffff → length d < 5 + length payload → Writes (write_frame kind payload d) OutShort d
-      unfolding write_frame
-      write-short h g =
-          rw (known, full, le-ltb 0xffff_ffff (length payload) h, lt-ltb (length d) (5 + length payload) g) (record { result-is = refl; out-is = refl })
-
-      pub write_done : (out : List ℕ) → length payload ≤ 0xffff_ffff → 5 + length payload ≤ length d → out ≡ put d 0 (frame_bytes kind payload)
-          → Writes (write_frame kind payload d) (Bytes (5 + length payload)) out
-      unfolding write_frame
-      write_done out h g e =
-          rw (known, full, le-ltb 0xffff_ffff (length payload) h, le-ltb (length d) (5 + length payload) g) (record { result-is = refl; out-is = e })

@@ -16,23 +16,14 @@ use Rattle.slot.specs.declared.ids.RemoteId.{RemoteId}
 use Rattle.slot.specs.declared.ids.ChannelIds.{ChannelIds}
 use Rattle.slot.specs.declared.ChannelSlot.{ChannelSlot}
 use Rattle.slot.specs.declared.ChannelFault.{ChannelFault}
-use Rattle.credit.specs.declared.Credit.{Credit}
-use Rattle.credit.specs.declared.Credit.TheVariants.{Of, Bad}
-use Rattle.slot.specs.declared.Readied.{Readied}
-use Rattle.slot.specs.declared.Readied.TheVariants.{Slot, Bad as ReadyBad}
-use Rattle.slot.specs.declared.PendingAck.{PendingAck}
-use Rattle.slot.specs.declared.PendingAck.TheVariants.{Len, Nothing}
-use Rattle.slot.specs.declared.Taken.{Taken}
-use Rattle.slot.specs.declared.Taken.TheVariants.{Data, Nothing as NothingTaken, Closed as ClosedTaken}
-use Rattle.slot.specs.declared.Reserved.{Reserved}
-use Rattle.slot.specs.declared.Reserved.TheVariants.{Bytes as ReservedBytes, Nothing as NothingReserved}
-use Rattle.slot.specs.declared.Budget.{Budget}
-use Rattle.slot.specs.declared.Budget.TheVariants.{Bytes, Nothing as NoBudget}
 use Rattle.slot.specs.declared.Settled.{Settled}
 use Rattle.slot.specs.declared.Wrote.{Wrote}
 use Rattle.slot.specs.Slot.{opening_slot, accepted_slot, opened_of, opened_by, ready_of, ready_by, held_of, is_opening, acks_now, buffered_with, wrote_of, delivered_of, ack_len_of, settled_by, settled_some, settled_of, take_len, took_of, taken_of, has_data, is_closed, budget_of, reserved_by, reserved_of, spent_of, refunded_of, closed_slot, failed_slot, slot_ok, SlotOk}
 use Rattle.credit.specs.Credit.{credit_of}
 use Rattle.slot.proofs.Laws.{take-held, take-room}
+use Rattle.credit.specs.declared.CreditFault.{CreditFault}
+use Rattle.std.specs.Prelude.{ℤ, Option, Some, None, Result, Ok, Err}
+use Rattle.slot.specs.declared.ChannelError.{ChannelError}
 
 -- what holds of both ways of a choice holds of the choice
 module _ {A : Type 0} where
@@ -94,24 +85,24 @@ accepted-sound ids credit p cap h =
 -- ---- OKAY
 
 -- the slot of an answer, if it has one, is sound
-abbrev pub ReadiedSound : ℕ → Readied → Type 0
-ReadiedSound cap (Slot t) = SlotOk t cap
-ReadiedSound cap (ReadyBad f) = Unit {0}
+abbrev pub ReadiedSound : ℕ → Result ChannelSlot CreditFault → Type 0
+ReadiedSound cap (Ok t) = SlotOk t cap
+ReadiedSound cap (Err f) = Unit {0}
 
-opened-by : (s : ChannelSlot) (id : RemoteId) (cap : ℕ) → SlotOk s cap → (c : Credit) → ReadiedSound cap (opened_by s id c)
+opened-by : (s : ChannelSlot) (id : RemoteId) (cap : ℕ) → SlotOk s cap → (c : Result ℤ CreditFault) → ReadiedSound cap (opened_by s id c)
 unfolding opened_by
-opened-by s id cap ok (Of z) = same-sound s _ cap refl refl refl ok
-opened-by s id cap ok (Bad f) = tt
+opened-by s id cap ok (Ok z) = same-sound s _ cap refl refl refl ok
+opened-by s id cap ok (Err f) = tt
 
 pub opened-sound : (s : ChannelSlot) (id : RemoteId) (payload : List ℕ) (p : RxPolicy) (cap : ℕ) → SlotOk s cap → ReadiedSound cap (opened_of s id payload p)
 unfolding opened_of
 opened-sound s id payload p cap ok =
     pick (ReadiedSound cap) p.delayed (λ d. opened-by s id cap ok (credit_of payload)) (λ d. same-sound s _ cap refl refl refl ok)
 
-ready-by : (s : ChannelSlot) (cap : ℕ) → SlotOk s cap → (c : Credit) → ReadiedSound cap (ready_by s c)
+ready-by : (s : ChannelSlot) (cap : ℕ) → SlotOk s cap → (c : Result ℤ CreditFault) → ReadiedSound cap (ready_by s c)
 unfolding ready_by
-ready-by s cap ok (Of z) = same-sound s _ cap refl refl refl ok
-ready-by s cap ok (Bad f) = tt
+ready-by s cap ok (Ok z) = same-sound s _ cap refl refl refl ok
+ready-by s cap ok (Err f) = tt
 
 pub ready-sound : (s : ChannelSlot) (payload : List ℕ) (p : RxPolicy) (cap : ℕ) → SlotOk s cap → ReadiedSound cap (ready_of s payload p)
 unfolding ready_of
@@ -152,10 +143,10 @@ delivered-sound s p n cap ok =
     (λ d. pick P (leb p.watermark s.buffered) (λ w. ok)
     (λ w. pick P s.has_remote (λ r. same-sound s _ cap refl refl refl ok) (λ r. ok)))
 
-settled-by : (s : ChannelSlot) (p : RxPolicy) (n cap : ℕ) → n ≤ s.buffered → s.settled ≡ 0 → SlotOk s cap → (a : PendingAck) → SlotOk (settled_by s p n a).slot cap
+settled-by : (s : ChannelSlot) (p : RxPolicy) (n cap : ℕ) → n ≤ s.buffered → s.settled ≡ 0 → SlotOk s cap → (a : Option ℕ) → SlotOk (settled_by s p n a).slot cap
 unfolding settled_by
-settled-by s p n cap h z ok Nothing = ok
-settled-by s p n cap h z ok (Len k) =
+settled-by s p n cap h z ok None = ok
+settled-by s p n cap h z ok (Some k) =
     record {
       settled-buffered = h;
       settled-cap = omega arith;
@@ -201,10 +192,10 @@ took-sound s room cap ok =
     }))
 
 -- data is within the reader's room and within what is buffered, and leaves a sound slot
-abbrev pub TakenSound : ChannelSlot → ℕ → ℕ → Taken → Type 0
-TakenSound s room cap (Data t n) = SlotOk t cap × (n ≤ room) × (n ≤ s.buffered)
-TakenSound s room cap NothingTaken = Unit {0}
-TakenSound s room cap (ClosedTaken e) = Unit {0}
+abbrev pub TakenSound : ChannelSlot → ℕ → ℕ → Result (Option (ChannelSlot × ℕ)) ChannelError → Type 0
+TakenSound s room cap (Ok (Some (t, n))) = SlotOk t cap × (n ≤ room) × (n ≤ s.buffered)
+TakenSound s room cap (Ok None) = Unit {0}
+TakenSound s room cap (Err e) = Unit {0}
 
 pub taken-sound : (s : ChannelSlot) (room cap : ℕ) → SlotOk s cap → TakenSound s room cap (taken_of s room)
 unfolding taken_of
@@ -225,14 +216,14 @@ unfolding refunded_of
 refunded-sound s p n cap ok =
     pick (λ (t : ChannelSlot). SlotOk t cap) p.delayed (λ d. same-sound s _ cap refl refl refl ok) (λ d. same-sound s _ cap refl refl refl ok)
 
-abbrev pub ReservedSound : ℕ → Reserved → Type 0
-ReservedSound cap (ReservedBytes t n) = SlotOk t cap
-ReservedSound cap NothingReserved = Unit {0}
+abbrev pub ReservedSound : ℕ → Option (ChannelSlot × ℕ) → Type 0
+ReservedSound cap (Some (t, n)) = SlotOk t cap
+ReservedSound cap None = Unit {0}
 
-reserved-by : (s : ChannelSlot) (p : RxPolicy) (want cap : ℕ) → SlotOk s cap → (b : Budget) → ReservedSound cap (reserved_by s p want b)
+reserved-by : (s : ChannelSlot) (p : RxPolicy) (want cap : ℕ) → SlotOk s cap → (b : Option ℕ) → ReservedSound cap (reserved_by s p want b)
 unfolding reserved_by
-reserved-by s p want cap ok (Bytes most) = spent-sound s p (min most want) cap ok
-reserved-by s p want cap ok NoBudget = tt
+reserved-by s p want cap ok (Some most) = spent-sound s p (min most want) cap ok
+reserved-by s p want cap ok None = tt
 
 pub reserved-sound : (s : ChannelSlot) (p : RxPolicy) (want cap : ℕ) → SlotOk s cap → ReservedSound cap (reserved_of s p want)
 unfolding reserved_of

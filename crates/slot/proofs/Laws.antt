@@ -1,5 +1,5 @@
 -- Laws of a slot's numbers. Assumes nothing.
-use mathlib.Core.Path.{◌≡◌, sym, ap, ◌∙◌}
+use mathlib.Core.Path.{◌≡◌, refl, sym, ap, ◌∙◌}
 use mathlib.Core.List.{List}
 use mathlib.Core.Bool.{Bool, true, false, cond}
 use Prim.Native.Nat.{ℕ, ◌+◌, ◌*◌, ◌≤◌, min}
@@ -18,13 +18,11 @@ use Rattle.saturate.proofs.Laws.{held_fits, zero-sub, neg-fits}
 use Rattle.slot.specs.declared.ids.RemoteId.{RemoteId}
 use Rattle.slot.specs.declared.ChannelSlot.{ChannelSlot}
 use Rattle.slot.specs.declared.ChannelState.TheVariants.{Open}
-use Rattle.credit.specs.declared.Credit.TheVariants.{Of}
-use Rattle.slot.specs.declared.Readied.TheVariants.{Slot}
-use Rattle.slot.specs.declared.AckDecision.{AckDecision}
-use Rattle.slot.specs.declared.AckDecision.TheVariants.{Now, Hold, Overflow, Early}
-use Rattle.slot.specs.declared.PendingAck.TheVariants.{Len}
-use Rattle.slot.specs.Slot.{with_state, with_remote, with_sending, with_numbers, opened_by, opened_of, ready_by, ready_of, held_of, acks_now, buffered_with, decided, wrote_of, some_len, ack_len_of, take_len, spent_of, refunded_of, is_opening}
+use Rattle.slot.specs.Slot.{with_state, with_remote, with_sending, with_numbers, opened_by, opened_of, ready_by, ready_of, held_of, acks_now, buffered_with, decided, wrote_of, some_len, ack_len_of, take_len, spent_of, refunded_of, is_opening, is_ack}
 use Rattle.credit.specs.Credit.{credit_of}
+use Rattle.std.specs.Prelude.{Option, Some, None, Result, Ok, Err, is_some}
+use Rattle.slot.specs.declared.ChannelFault.TheVariants.{RxOverflow, UnexpectedCommand}
+use Rattle.slot.specs.declared.ChannelFault.{ChannelFault}
 
 -- a choice by a test that is known
 module _ {A : Type 0} where
@@ -57,7 +55,7 @@ negated z n e =
 -- ---- acknowledgements
 
 -- never more than is unacknowledged
-pub ack-small : (s : ChannelSlot) (p : RxPolicy) (n remaining k : ℕ) → ack_len_of s p n remaining ≡ Len k → k ≤ s.unacked
+pub ack-small : (s : ChannelSlot) (p : RxPolicy) (n remaining k : ℕ) → ack_len_of s p n remaining ≡ Some k → k ≤ s.unacked
 unfolding ack_len_of some_len
 ack-small s p n remaining k e =
     by-test (eqb s.unacked 0)
@@ -93,31 +91,31 @@ unfolding refunded_of
 refunded-is s p n b r d e f = f ∙ ap (with_sending s s.wrte_acked) e ∙ sym (cond-true p.delayed _ _ d)
 
 -- an OKAY whose credit is read, in delayed mode
-pub readied-is : (s : ChannelSlot) (p : RxPolicy) (payload : List ℕ) (z b : ℤ) (r : ChannelSlot) → p.delayed ≡ true → credit_of payload ≡ Of z
-    → b ≡ clamp (s.send_budget +ℤ z) → r ≡ with_sending s s.wrte_acked b → Slot r ≡ ready_of s payload p
+pub readied-is : (s : ChannelSlot) (p : RxPolicy) (payload : List ℕ) (z b : ℤ) (r : ChannelSlot) → p.delayed ≡ true → credit_of payload ≡ Ok z
+    → b ≡ clamp (s.send_budget +ℤ z) → r ≡ with_sending s s.wrte_acked b → (Ok r) ≡ ready_of s payload p
 unfolding ready_of ready_by
 readied-is s p payload z b r d k e f =
-    ap Slot (f ∙ ap (with_sending s s.wrte_acked) e) ∙ sym (ap (ready_by s) k) ∙ sym (cond-true p.delayed _ _ d)
+    ap Ok (f ∙ ap (with_sending s s.wrte_acked) e) ∙ sym (ap (ready_by s) k) ∙ sym (cond-true p.delayed _ _ d)
 
 -- the OKAY that answers our OPEN
-pub opened-is : (s : ChannelSlot) (id : RemoteId) (p : RxPolicy) (payload : List ℕ) (z b : ℤ) (t r : ChannelSlot) → p.delayed ≡ true → credit_of payload ≡ Of z
-    → b ≡ z → t ≡ with_state (with_remote s id) Open → r ≡ with_sending t s.wrte_acked b → Slot r ≡ opened_of s id payload p
+pub opened-is : (s : ChannelSlot) (id : RemoteId) (p : RxPolicy) (payload : List ℕ) (z b : ℤ) (t r : ChannelSlot) → p.delayed ≡ true → credit_of payload ≡ Ok z
+    → b ≡ z → t ≡ with_state (with_remote s id) Open → r ≡ with_sending t s.wrte_acked b → (Ok r) ≡ opened_of s id payload p
 unfolding opened_of opened_by
 opened-is s id p payload z b t r d k e g f =
-    ap Slot (f ∙ ap (with_sending t s.wrte_acked) e ∙ ap (λ (x : ChannelSlot). with_sending x s.wrte_acked z) g)
+    ap Ok (f ∙ ap (with_sending t s.wrte_acked) e ∙ ap (λ (x : ChannelSlot). with_sending x s.wrte_acked z) g)
     ∙ sym (ap (opened_by s id) k) ∙ sym (cond-true p.delayed _ _ d)
 
 -- a WRTE that fits, acknowledged at once or held
 module _ (s : ChannelSlot) (p : RxPolicy) (n : ℕ) (r : ChannelSlot) (head held : ℕ) (a : Bool)
     (o : is_opening s.state ≡ false) (fits : held_of s + n ≤ p.rx_cap) (held-is : held ≡ held_of s)
     (acks : a ≡ acks_now s p (held + n)) (head-is : head ≡ appended_head (2 * p.rx_cap) s.head s.buffered n) where
-  fits-is : (w : ChannelSlot) (d : AckDecision)
-      → cond (acks_now s p (held_of s + n)) (decided (buffered_with s p n 0) (Now n)) (decided (buffered_with s p n (sat_sum s.unacked n)) Hold) ≡ decided w d
+  fits-is : (w : ChannelSlot) (d : Result (Option ℕ) ChannelFault)
+      → cond (acks_now s p (held_of s + n)) (decided (buffered_with s p n 0) (Ok (Some n))) (decided (buffered_with s p n (sat_sum s.unacked n)) (Ok None)) ≡ decided w d
       → wrote_of s p n ≡ decided w d
   unfolding wrote_of
   fits-is w d e =
-      cond-false (is_opening s.state) (decided s Early) _ o
-      ∙ cond-false (ltb p.rx_cap (held_of s + n)) (decided s Overflow) _ (le-ltb p.rx_cap (held_of s + n) fits)
+      cond-false (is_opening s.state) (decided s (Err UnexpectedCommand)) _ o
+      ∙ cond-false (ltb p.rx_cap (held_of s + n)) (decided s (Err RxOverflow)) _ (le-ltb p.rx_cap (held_of s + n) fits)
       ∙ e
 
   now-is : acks_now s p (held_of s + n) ≡ a
@@ -127,13 +125,19 @@ module _ (s : ChannelSlot) (p : RxPolicy) (n : ℕ) (r : ChannelSlot) (head held
   unfolding buffered_with
   buffered-is u e = sym (e ∙ ap (λ (h : ℕ). with_numbers s u s.settled h (s.buffered + n)) head-is)
 
-  pub wrote-now : a ≡ true → r ≡ with_numbers s 0 s.settled head (s.buffered + n) → decided r (Now n) ≡ wrote_of s p n
+  pub wrote-now : a ≡ true → r ≡ with_numbers s 0 s.settled head (s.buffered + n) → decided r (Ok (Some n)) ≡ wrote_of s p n
   wrote-now t e =
-      sym (fits-is r (Now n)
-      (cond-true (acks_now s p (held_of s + n)) _ _ (now-is ∙ t) ∙ ap (λ (x : ChannelSlot). decided x (Now n)) (buffered-is 0 e)))
+      sym (fits-is r (Ok (Some n))
+      (cond-true (acks_now s p (held_of s + n)) _ _ (now-is ∙ t) ∙ ap (λ (x : ChannelSlot). decided x (Ok (Some n))) (buffered-is 0 e)))
 
-  pub wrote-hold : (u : ℕ) → a ≡ false → u ≡ sat_sum s.unacked n → r ≡ with_numbers s u s.settled head (s.buffered + n) → decided r Hold ≡ wrote_of s p n
+  pub wrote-hold : (u : ℕ) → a ≡ false → u ≡ sat_sum s.unacked n → r ≡ with_numbers s u s.settled head (s.buffered + n) → decided r (Ok None) ≡ wrote_of s p n
   wrote-hold u t eu e =
-      sym (fits-is r Hold
+      sym (fits-is r (Ok None)
       (cond-false (acks_now s p (held_of s + n)) _ _ (now-is ∙ t)
-      ∙ ap (λ (k : ℕ). decided (buffered_with s p n k) Hold) (sym eu) ∙ ap (λ (x : ChannelSlot). decided x Hold) (buffered-is u e)))
+      ∙ ap (λ (k : ℕ). decided (buffered_with s p n k) (Ok None)) (sym eu) ∙ ap (λ (x : ChannelSlot). decided x (Ok None)) (buffered-is u e)))
+
+-- whether an acknowledgement is due, in the library's word
+pub is-ack : (ack : Option ℕ) → is_some ack ≡ is_ack ack
+unfolding is_ack
+is-ack (Some n) = refl
+is-ack None = refl

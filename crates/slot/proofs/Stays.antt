@@ -14,18 +14,14 @@ use Rattle.saturate.specs.Saturate.{sat_sum}
 use Rattle.saturate.proofs.Laws.{held_fits}
 use Rattle.config.specs.declared.negotiated.RxPolicy.{RxPolicy}
 use Rattle.slot.specs.declared.ChannelSlot.{ChannelSlot}
-use Rattle.credit.specs.declared.Credit.{Credit}
-use Rattle.credit.specs.declared.Credit.TheVariants.{Of, Bad}
-use Rattle.slot.specs.declared.PendingAck.{PendingAck}
-use Rattle.slot.specs.declared.PendingAck.TheVariants.{Len, Nothing}
-use Rattle.slot.specs.declared.Readied.{Readied}
-use Rattle.slot.specs.declared.Readied.TheVariants.{Slot, Bad as ReadyBad}
 use Rattle.slot.specs.declared.Settled.{Settled}
 use Rattle.slot.specs.declared.Wrote.{Wrote}
 use Rattle.slot.specs.Slot.{with_total, total_with, ready_of, ready_by, held_of, is_opening, acks_now, buffered_with, wrote_of, delivered_of, ack_len_of, settled_by, settled_some, settled_of, took_of, with_numbers, spent_of, closed_slot}
 use Rattle.credit.specs.Credit.{credit_of, at_least_zero}
 use Rattle.slot.proofs.Kept.{pick}
 use Rattle.slot.proofs.Laws.{cond-true}
+use Rattle.credit.specs.declared.CreditFault.{CreditFault}
+use Rattle.std.specs.Prelude.{Option, Some, None, Result, Ok, Err}
 
 -- what a slot function leaves as it was
 pub record Stays (s t : ChannelSlot) : Type 0 where
@@ -50,9 +46,9 @@ mag-more : (z : ℤ) → mag z < 2 ^ 31 → mag z < 2 ^ 63
 mag-more z h = omega arith
 
 -- a credit that was read from bytes
-abbrev pub CreditFits : Credit → Type 0
-CreditFits (Of z) = mag z < 2 ^ 63
-CreditFits (Bad f) = Unit {0}
+abbrev pub CreditFits : Result ℤ CreditFault → Type 0
+CreditFits (Ok z) = mag z < 2 ^ 63
+CreditFits (Err f) = Unit {0}
 
 zero-fits : (z : ℤ) → mag z < 2 ^ 63 → CreditFits (at_least_zero z)
 unfolding at_least_zero
@@ -69,15 +65,15 @@ credit-small payload y =
 
 -- ---- an OKAY
 
-abbrev pub ReadiedStays : ChannelSlot → Readied → Type 0
-ReadiedStays s (Slot t) = Stays s t
-ReadiedStays s (ReadyBad f) = Unit {0}
+abbrev pub ReadiedStays : ChannelSlot → Result ChannelSlot CreditFault → Type 0
+ReadiedStays s (Ok t) = Stays s t
+ReadiedStays s (Err f) = Unit {0}
 
-ready-stays-by : (s : ChannelSlot) (c : Credit) → ReadiedStays s (ready_by s c)
+ready-stays-by : (s : ChannelSlot) (c : Result ℤ CreditFault) → ReadiedStays s (ready_by s c)
 unfolding ready_by
-ready-stays-by s (Of z) =
+ready-stays-by s (Ok z) =
     record { filled = refl; local = refl; remote = refl; known = refl; opening = λ e. e; failed = refl; unacked = λ e. e; total = λ e. e; left = refl; budget = λ e. held_fits (s.send_budget +ℤ z) }
-ready-stays-by s (Bad f) = tt
+ready-stays-by s (Err f) = tt
 
 pub ready-stays : (s : ChannelSlot) (payload : List ℕ) (p : RxPolicy) → ReadiedStays s (ready_of s payload p)
 unfolding ready_of
@@ -125,10 +121,10 @@ delivered-stays s p k =
     (λ d. pick P (leb p.watermark s.buffered) (λ w. stays_same s)
     (λ w. pick P s.has_remote (λ r. stays-numbers s _ _ _ _ (λ e. omega arith)) (λ r. stays_same s)))
 
-settled-stays-by : (s : ChannelSlot) (p : RxPolicy) (k : ℕ) (a : PendingAck) → s.has_remote ≡ true → Stays s (settled_by s p k a).slot
+settled-stays-by : (s : ChannelSlot) (p : RxPolicy) (k : ℕ) (a : Option ℕ) → s.has_remote ≡ true → Stays s (settled_by s p k a).slot
 unfolding settled_by
-settled-stays-by s p k (Len m) r = stays-total s (with_numbers s (s.unacked - m) k s.head s.buffered) p m r (stays-numbers s _ _ _ _ (λ e. omega arith))
-settled-stays-by s p k Nothing r = stays_same s
+settled-stays-by s p k (Some m) r = stays-total s (with_numbers s (s.unacked - m) k s.head s.buffered) p m r (stays-numbers s _ _ _ _ (λ e. omega arith))
+settled-stays-by s p k None r = stays_same s
 
 pub settled-stays : (s : ChannelSlot) (p : RxPolicy) (want : ℕ) → Stays s (settled_of s p want).slot
 unfolding settled_of settled_some
@@ -140,10 +136,10 @@ settled-stays s p want =
     (λ z. stays_same s))
     (λ r. stays_same s)
 
-settled-state-by : (s : ChannelSlot) (p : RxPolicy) (k : ℕ) (a : PendingAck) → (settled_by s p k a).slot.state ≡ s.state
+settled-state-by : (s : ChannelSlot) (p : RxPolicy) (k : ℕ) (a : Option ℕ) → (settled_by s p k a).slot.state ≡ s.state
 unfolding settled_by
-settled-state-by s p k (Len m) = refl
-settled-state-by s p k Nothing = refl
+settled-state-by s p k (Some m) = refl
+settled-state-by s p k None = refl
 
 -- and the state
 pub settled-state : (s : ChannelSlot) (p : RxPolicy) (want : ℕ) → (settled_of s p want).slot.state ≡ s.state

@@ -1,6 +1,6 @@
 -- One channel's numbers (docs/SCOPE.md, 4; slot.rs). A name in backquotes is the function of slot.rs that a definition follows.
 -- Assumes nothing.
-use Rattle.std.specs.Prelude.{ℕ, ◌+◌, ◌-◌, ◌*◌, ◌≤◌, min, Bool, true, false, not, cond, ◌&&◌, List, leb, ltb, eqb, ℤ, pos, ◌+ℤ◌, ◌-ℤ◌}
+use Rattle.std.specs.Prelude.{ℕ, ◌+◌, ◌-◌, ◌*◌, ◌≤◌, min, Bool, true, false, not, cond, ◌&&◌, List, leb, ltb, eqb, ℤ, pos, ◌+ℤ◌, ◌-ℤ◌, Option, Some, None, Result, Ok, Err}
 use Rattle.config.specs.declared.negotiated.RxPolicy.{RxPolicy}
 use Rattle.saturate.specs.Saturate.{clamp, sat_sum, positive_part}
 use Rattle.rx_store.specs.RxStore.{appended_head, taken_head}
@@ -8,32 +8,16 @@ use Rattle.slot.specs.declared.ids.LocalId.{LocalId}
 use Rattle.slot.specs.declared.ids.RemoteId.{RemoteId}
 use Rattle.slot.specs.declared.ids.ChannelIds.{ChannelIds}
 use Rattle.credit.specs.Credit.{credit_of}
-use Rattle.credit.specs.declared.Credit.{Credit}
-use Rattle.credit.specs.declared.Credit.TheVariants.{Of, Bad}
 use Rattle.slot.specs.declared.ChannelState.{ChannelState}
 use Rattle.slot.specs.declared.ChannelState.TheVariants.{Opening, Open, Closed}
 use Rattle.slot.specs.declared.ChannelFault.{ChannelFault}
-use Rattle.slot.specs.declared.Failed.{Failed}
-use Rattle.slot.specs.declared.Failed.TheVariants.{No, By}
 use Rattle.slot.specs.declared.ChannelError.{ChannelError}
 use Rattle.slot.specs.declared.ChannelError.TheVariants.{Fault, Closed as ErrorClosed}
 use Rattle.slot.specs.declared.ChannelSlot.{ChannelSlot}
-use Rattle.slot.specs.declared.SlotIds.{SlotIds}
-use Rattle.slot.specs.declared.SlotIds.TheVariants.{Known, Unknown}
-use Rattle.slot.specs.declared.Readied.{Readied}
-use Rattle.slot.specs.declared.Readied.TheVariants.{Slot, Bad as ReadyBad}
-use Rattle.slot.specs.declared.AckDecision.{AckDecision}
-use Rattle.slot.specs.declared.AckDecision.TheVariants.{Now, Hold, Overflow, Early}
 use Rattle.slot.specs.declared.Wrote.{Wrote}
-use Rattle.slot.specs.declared.PendingAck.{PendingAck}
-use Rattle.slot.specs.declared.PendingAck.TheVariants.{Len, Nothing}
 use Rattle.slot.specs.declared.Settled.{Settled}
-use Rattle.slot.specs.declared.Taken.{Taken}
-use Rattle.slot.specs.declared.Taken.TheVariants.{Data, Nothing as NothingTaken, Closed as ClosedTaken}
-use Rattle.slot.specs.declared.Budget.{Budget}
-use Rattle.slot.specs.declared.Budget.TheVariants.{Bytes, Nothing as NoBudget}
-use Rattle.slot.specs.declared.Reserved.{Reserved}
-use Rattle.slot.specs.declared.Reserved.TheVariants.{Bytes as ReservedBytes, Nothing as NothingReserved}
+use Rattle.credit.specs.declared.CreditFault.{CreditFault}
+use Rattle.slot.specs.declared.ChannelFault.TheVariants.{RxOverflow, UnexpectedCommand}
 
 -- ---- a slot with one thing changed
 
@@ -150,7 +134,7 @@ opening_slot l =
       head = 0;
       buffered = 0;
       acked_total = 0;
-      failed = No;
+      failed = None;
     }
 
 -- a slot with no channel: all zero
@@ -169,7 +153,7 @@ empty_slot =
       head = 0;
       buffered = 0;
       acked_total = 0;
-      failed = No;
+      failed = None;
     }
 
 -- the place of a channel that we closed: nothing of it stays but the total
@@ -194,36 +178,36 @@ accepted_slot ids credit p =
     with_sending (with_state (with_remote (opening_slot ids.local) ids.remote) Open) true (cond p.delayed (pos credit) (pos 0))
 
 -- `is_failed`
-unfoldable pub is_failed : Failed → Bool
-is_failed No = false
-is_failed (By fault) = true
+unfoldable pub is_failed : Option ChannelFault → Bool
+is_failed None = false
+is_failed (Some fault) = true
 
 -- `ids`
-unfoldable pub ids_of : ChannelSlot → SlotIds
-ids_of s = cond s.has_remote (Known (record { local = s.local; remote = s.remote })) Unknown
+unfoldable pub ids_of : ChannelSlot → Option ChannelIds
+ids_of s = cond s.has_remote (Some (record { local = s.local; remote = s.remote })) None
 
 -- `closed_error`
-unfoldable pub error_of : Failed → ChannelError
-error_of No = ErrorClosed
-error_of (By fault) = Fault fault
+unfoldable pub error_of : Option ChannelFault → ChannelError
+error_of None = ErrorClosed
+error_of (Some fault) = Fault fault
 
 -- `accept_open_ready`, once the credit is read
-unfoldable pub opened_by : ChannelSlot → RemoteId → Credit → Readied
-opened_by s r (Of z) = Slot (with_sending (with_state (with_remote s r) Open) s.wrte_acked z)
-opened_by s r (Bad f) = ReadyBad f
+unfoldable pub opened_by : ChannelSlot → RemoteId → Result ℤ CreditFault → Result ChannelSlot CreditFault
+opened_by s r (Ok z) = Ok (with_sending (with_state (with_remote s r) Open) s.wrte_acked z)
+opened_by s r (Err f) = Err f
 
 -- `accept_open_ready`: the device's number, and in delayed mode its credit as the budget
-unfoldable pub opened_of : ChannelSlot → RemoteId → List ℕ → RxPolicy → Readied
-opened_of s r payload p = cond p.delayed (opened_by s r (credit_of payload)) (Slot (with_state (with_remote s r) Open))
+unfoldable pub opened_of : ChannelSlot → RemoteId → List ℕ → RxPolicy → Result ChannelSlot CreditFault
+opened_of s r payload p = cond p.delayed (opened_by s r (credit_of payload)) (Ok (with_state (with_remote s r) Open))
 
 -- `apply_ready`, once the credit is read
-unfoldable pub ready_by : ChannelSlot → Credit → Readied
-ready_by s (Of z) = Slot (with_sending s s.wrte_acked (clamp (s.send_budget +ℤ z)))
-ready_by s (Bad f) = ReadyBad f
+unfoldable pub ready_by : ChannelSlot → Result ℤ CreditFault → Result ChannelSlot CreditFault
+ready_by s (Ok z) = Ok (with_sending s s.wrte_acked (clamp (s.send_budget +ℤ z)))
+ready_by s (Err f) = Err f
 
 -- `apply_ready`: in delayed mode the credit joins the budget, which stops at the ends of its range
-unfoldable pub ready_of : ChannelSlot → List ℕ → RxPolicy → Readied
-ready_of s payload p = cond p.delayed (ready_by s (credit_of payload)) (Slot (with_sending s true s.send_budget))
+unfoldable pub ready_of : ChannelSlot → List ℕ → RxPolicy → Result ChannelSlot CreditFault
+ready_of s payload p = cond p.delayed (ready_by s (credit_of payload)) (Ok (with_sending s true s.send_budget))
 
 -- ---- received bytes
 
@@ -240,24 +224,24 @@ unfoldable pub buffered_with : ChannelSlot → RxPolicy → ℕ → ℕ → Chan
 buffered_with s p n u = with_numbers s u s.settled (appended_head (2 * p.rx_cap) s.head s.buffered n) (s.buffered + n)
 
 -- a slot, and what became of the payload
-abbrev pub decided : ChannelSlot → AckDecision → Wrote
+abbrev pub decided : ChannelSlot → Result (Option ℕ) ChannelFault → Wrote
 decided s d = record { slot = s; decision = d }
 
 -- `apply_write` of n bytes: too early (6), over the cap (11), acknowledged at once, or held
 unfoldable pub wrote_of : ChannelSlot → RxPolicy → ℕ → Wrote
 wrote_of s p n =
-    cond (is_opening s.state) (decided s Early)
-    (cond (ltb p.rx_cap (held_of s + n)) (decided s Overflow)
-    (cond (acks_now s p (held_of s + n)) (decided (buffered_with s p n 0) (Now n))
-    (decided (buffered_with s p n (sat_sum s.unacked n)) Hold)))
+    cond (is_opening s.state) (decided s (Err UnexpectedCommand))
+    (cond (ltb p.rx_cap (held_of s + n)) (decided s (Err RxOverflow))
+    (cond (acks_now s p (held_of s + n)) (decided (buffered_with s p n 0) (Ok (Some n)))
+    (decided (buffered_with s p n (sat_sum s.unacked n)) (Ok None))))
 
 -- a slot, and the acknowledgement that is due
-abbrev pub acked : ChannelSlot → PendingAck → Settled
+abbrev pub acked : ChannelSlot → Option ℕ → Settled
 acked s a = record { slot = s; ack = a }
 
 -- a length above 0
-unfoldable pub some_len : ℕ → PendingAck
-some_len n = cond (eqb n 0) Nothing (Len n)
+unfoldable pub some_len : ℕ → Option ℕ
+some_len n = cond (eqb n 0) None (Some n)
 
 -- the total where an OKAY for k bytes is written: in delayed mode it carries them; it stops at the largest value
 unfoldable pub total_with : RxPolicy → ℕ → ℕ → ℕ
@@ -267,25 +251,25 @@ total_with p total k = cond p.delayed (sat_sum total k) total
 unfoldable pub delivered_of : ChannelSlot → RxPolicy → ℕ → Settled
 delivered_of s p n =
     cond p.delayed
-    (cond s.has_remote (acked (with_total s (total_with p s.acked_total n)) (some_len n)) (acked s Nothing))
-    (cond (leb p.watermark s.buffered) (acked s Nothing)
-    (cond s.has_remote (acked (with_numbers s 0 s.settled s.head s.buffered) (Len s.unacked)) (acked s Nothing)))
+    (cond s.has_remote (acked (with_total s (total_with p s.acked_total n)) (some_len n)) (acked s None))
+    (cond (leb p.watermark s.buffered) (acked s None)
+    (cond s.has_remote (acked (with_numbers s 0 s.settled s.head s.buffered) (Some s.unacked)) (acked s None)))
 
 -- `ack_len`: what to acknowledge where n bytes are set aside and `remaining` stay
-unfoldable pub ack_len_of : ChannelSlot → RxPolicy → ℕ → ℕ → PendingAck
+unfoldable pub ack_len_of : ChannelSlot → RxPolicy → ℕ → ℕ → Option ℕ
 ack_len_of s p n remaining =
-    cond (eqb s.unacked 0) Nothing
-    (cond p.delayed (some_len (min n s.unacked)) (cond (ltb remaining p.watermark) (Len s.unacked) Nothing))
+    cond (eqb s.unacked 0) None
+    (cond p.delayed (some_len (min n s.unacked)) (cond (ltb remaining p.watermark) (Some s.unacked) None))
 
 -- `has_data`
 unfoldable pub has_data : ChannelSlot → Bool
 has_data s = cond s.has_remote (not (eqb s.buffered 0)) false
 
 -- n bytes set aside, if an acknowledgement is due
-unfoldable pub settled_by : ChannelSlot → RxPolicy → ℕ → PendingAck → Settled
-settled_by s p n (Len k) =
-    acked (with_total (with_numbers s (s.unacked - k) n s.head s.buffered) (total_with p s.acked_total k)) (Len k)
-settled_by s p n Nothing = acked s Nothing
+unfoldable pub settled_by : ChannelSlot → RxPolicy → ℕ → Option ℕ → Settled
+settled_by s p n (Some k) =
+    acked (with_total (with_numbers s (s.unacked - k) n s.head s.buffered) (total_with p s.acked_total k)) (Some k)
+settled_by s p n None = acked s None
 
 -- `settle_take` of n bytes that are buffered, with none set aside
 unfoldable pub settled_some : ChannelSlot → RxPolicy → ℕ → Settled
@@ -294,7 +278,7 @@ settled_some s p n = settled_by s p n (ack_len_of s p n (s.buffered - n))
 -- `settle_take`: as many bytes as are wanted and there, unless some are set aside already
 unfoldable pub settled_of : ChannelSlot → RxPolicy → ℕ → Settled
 settled_of s p want =
-    cond s.has_remote (cond (eqb s.settled 0) (settled_some s p (min want s.buffered)) (acked s Nothing)) (acked s Nothing)
+    cond s.has_remote (cond (eqb s.settled 0) (settled_some s p (min want s.buffered)) (acked s None)) (acked s None)
 
 -- bytes that a read into `room` bytes takes: those set aside, or all where none are
 unfoldable pub take_len : ChannelSlot → ℕ → ℕ
@@ -305,15 +289,15 @@ unfoldable pub took_of : ChannelSlot → ℕ → ChannelSlot
 took_of s n = with_numbers s s.unacked (s.settled - min n s.settled) (taken_head s.head s.buffered n) (s.buffered - n)
 
 -- `take_buffered`, the numbers of it: data, closed, or nothing yet
-unfoldable pub taken_of : ChannelSlot → ℕ → Taken
+unfoldable pub taken_of : ChannelSlot → ℕ → Result (Option (ChannelSlot × ℕ)) ChannelError
 taken_of s room =
-    cond (has_data s) (Data (took_of s (take_len s room)) (take_len s room))
-    (cond (is_closed s.state) (ClosedTaken (error_of s.failed)) NothingTaken)
+    cond (has_data s) (Ok (Some (took_of s (take_len s room), take_len s room)))
+    (cond (is_closed s.state) (Err (error_of s.failed)) (Ok None))
 
 -- an acknowledgement is due
-unfoldable pub is_ack : PendingAck → Bool
-is_ack (Len n) = true
-is_ack Nothing = false
+unfoldable pub is_ack : Option ℕ → Bool
+is_ack (Some n) = true
+is_ack None = false
 
 -- `take_acks`
 unfoldable pub take_acks : ChannelSlot → RxPolicy → ℕ → Bool
@@ -323,13 +307,13 @@ take_acks s p want =
 -- ---- sending
 
 -- a budget above 0
-unfoldable pub some_budget : ℕ → Budget
-some_budget n = cond (eqb n 0) NoBudget (Bytes n)
+unfoldable pub some_budget : ℕ → Option ℕ
+some_budget n = cond (eqb n 0) None (Some n)
 
 -- `budget`: a budget of 0 or below sends nothing; not delayed, any length after the last WRTE's OKAY
-unfoldable pub budget_of : ChannelSlot → RxPolicy → Budget
+unfoldable pub budget_of : ChannelSlot → RxPolicy → Option ℕ
 budget_of s p =
-    cond p.delayed (some_budget (positive_part s.send_budget)) (cond s.wrte_acked (Bytes 0xffff_ffff_ffff_ffff) NoBudget)
+    cond p.delayed (some_budget (positive_part s.send_budget)) (cond s.wrte_acked (Some 0xffff_ffff_ffff_ffff) None)
 
 -- `spend`
 unfoldable pub spent_of : ChannelSlot → RxPolicy → ℕ → ChannelSlot
@@ -344,12 +328,12 @@ refunded_of s p n =
     (with_sending s true s.send_budget)
 
 -- `try_reserve_send`, once the budget is known
-unfoldable pub reserved_by : ChannelSlot → RxPolicy → ℕ → Budget → Reserved
-reserved_by s p want (Bytes most) = ReservedBytes (spent_of s p (min most want)) (min most want)
-reserved_by s p want NoBudget = NothingReserved
+unfoldable pub reserved_by : ChannelSlot → RxPolicy → ℕ → Option ℕ → Option (ChannelSlot × ℕ)
+reserved_by s p want (Some most) = Some (spent_of s p (min most want), min most want)
+reserved_by s p want None = None
 
 -- `try_reserve_send`
-unfoldable pub reserved_of : ChannelSlot → RxPolicy → ℕ → Reserved
+unfoldable pub reserved_of : ChannelSlot → RxPolicy → ℕ → Option (ChannelSlot × ℕ)
 reserved_of s p want = reserved_by s p want (budget_of s p)
 
 -- ---- closing
@@ -374,7 +358,7 @@ failed_slot s fault =
       head = s.head;
       buffered = s.buffered;
       acked_total = s.acked_total;
-      failed = By fault;
+      failed = Some fault;
     }
 
 -- ---- what the numbers of received bytes satisfy

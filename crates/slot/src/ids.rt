@@ -5,14 +5,14 @@ ghost use Rattle.slot.specs.Ids.{named_by, closed_by};
 use protocol::packet::Packet;
 
 // The number that we gave a channel.
-#[derive(Clone, Copy)]
+#[derive(Clone, Copy, Debug, PartialEq, Eq)]
 pub struct LocalId(pub u32);
 
 // The number that the device gave it.
-#[derive(Clone, Copy)]
+#[derive(Clone, Copy, Debug, PartialEq, Eq)]
 pub struct RemoteId(pub u32);
 
-#[derive(Clone, Copy)]
+#[derive(Clone, Copy, Debug, PartialEq, Eq)]
 pub struct ChannelIds {
     pub local: LocalId,
     pub remote: RemoteId,

@@ -5,15 +5,16 @@
 pub mod ids;
 
 ghost use Rattle.std.specs.Prelude.{◌≡◌};
-ghost use Rattle.slot.specs.Numbers.{readied_number, decision_number, fault_number, error_number, taken_number, budget_number};
+ghost use Rattle.slot.specs.Numbers.{fault_number, error_number, taken_number, budget_number};
 ghost use Rattle.slot.specs.Slot.{empty_slot, opening_slot, accepted_slot, is_opening, is_closed, is_failed, ids_of, error_of};
 ghost use Rattle.slot.specs.Slot.{closed_slot, failed_slot, with_state, with_remote, with_sending, with_numbers, with_total, emptied_slot};
 
 use config::negotiated::RxPolicy;
 use credit::CreditFault;
 use ids::{ChannelIds, LocalId, RemoteId};
+use refusal::{Numbered, found_number_of, there_number_of};
 
-#[derive(Clone, Copy)]
+#[derive(Clone, Copy, Debug, PartialEq, Eq)]
 pub enum ChannelState {
     // An OPEN was sent and not answered yet.
     Opening,
@@ -22,22 +23,15 @@ pub enum ChannelState {
 }
 
 // What is wrong with a packet for a channel: refusals 11, those of a credit (5, 20, 21), and 6.
-#[derive(Clone, Copy)]
+#[derive(Clone, Copy, Debug, PartialEq, Eq)]
 pub enum ChannelFault {
     RxOverflow,
     BadCredit(CreditFault),
     UnexpectedCommand,
 }
 
-// The fault that a slot was closed with, if any.
-#[derive(Clone, Copy)]
-pub enum Failed {
-    No,
-    By(ChannelFault),
-}
-
 // Why a channel can't be read or written any more.
-#[derive(Clone, Copy)]
+#[derive(Clone, Copy, Debug, PartialEq, Eq)]
 pub enum ChannelError {
     Closed,
     Fault(ChannelFault),
@@ -67,109 +61,35 @@ pub struct ChannelSlot {
     // Bytes that our OKAYs have allowed the device since the place was last filled, where acknowledgements are delayed: it stops at
     // the largest value, and stays when the channel is closed.
     pub acked_total: usize,
-    pub failed: Failed,
+    // The fault that it was closed with, if any.
+    pub failed: Option<ChannelFault>,
 }
 
-// A channel's numbers, once the device's is known.
-#[derive(Clone, Copy)]
-pub enum SlotIds {
-    Known(ChannelIds),
-    Unknown,
-}
-
-// What an OKAY did.
-#[derive(Clone, Copy)]
-pub enum Readied {
-    Slot(ChannelSlot),
-    // Refusals 5, 20 and 21.
-    Bad(CreditFault),
-}
-
-// What became of a WRTE's payload.
-#[derive(Clone, Copy)]
-pub enum AckDecision {
-    // Buffered, and to be acknowledged at once with this length.
-    Now(usize),
-    // Buffered; the acknowledgement waits for the reader.
-    Hold,
-    // Refusal 11.
-    Overflow,
-    // Refusal 6: the channel is still opening.
-    Early,
-}
-
+// What became of a WRTE's payload: the slot, and the length to acknowledge at once where one is due. Else the acknowledgement waits for
+// the reader, or the WRTE is refused, by 11 over the cap and by 6 where the channel is still opening.
 #[derive(Clone, Copy)]
 pub struct Wrote {
     pub slot: ChannelSlot,
-    pub decision: AckDecision,
+    pub decision: Result<Option<usize>, ChannelFault>,
 }
 
-// An acknowledgement that is due, with its length.
-#[derive(Clone, Copy)]
-pub enum PendingAck {
-    Len(usize),
-    Nothing,
-}
-
+// What a settling leaves, and the length of the acknowledgement that is due, if one is.
 #[derive(Clone, Copy)]
 pub struct Settled {
     pub slot: ChannelSlot,
-    pub ack: PendingAck,
+    pub ack: Option<usize>,
 }
 
-// What a read finds buffered.
-#[derive(Clone, Copy)]
-pub enum Taken {
-    // This many bytes are taken from the front of the run.
-    Data(ChannelSlot, usize),
-    Nothing,
-    Closed(ChannelError),
-}
+// What a read finds buffered: the slot as it leaves it and how many bytes it takes from the front of the run, nothing, or why
+// there will be nothing more.
+pub type Taken = Result<Option<(ChannelSlot, usize)>, ChannelError>;
 
-// How many bytes may be sent now.
-#[derive(Clone, Copy)]
-pub enum Budget {
-    Bytes(usize),
-    Nothing,
-}
+// The numbers of answers (docs/SCOPE.md, 6): a refusal's own, 0 where there is none, 100 for waiting, 101 for nothing there.
 
-// Bytes set aside for sending.
-#[derive(Clone, Copy)]
-pub enum Reserved {
-    Bytes(ChannelSlot, usize),
-    Nothing,
-}
+impl Numbered for ChannelFault {
+    ghost number = { fault_number };
 
-// The number of each answer (docs/SCOPE.md, 6): a refusal's own, 0 where there is none, 100 for waiting, 101 for nothing there.
-
-impl Readied {
-    pub fn number(self) -> u32
-        ensures { result ≡ readied_number self }
-    {
-        match self {
-            Readied::Slot(_) => 0,
-            Readied::Bad(fault) => fault.number(),
-        }
-    }
-}
-
-impl AckDecision {
-    pub fn number(self) -> u32
-        ensures { result ≡ decision_number self }
-    {
-        match self {
-            AckDecision::Now(_) => 0,
-            AckDecision::Hold => 0,
-            AckDecision::Overflow => 11,
-            AckDecision::Early => 6,
-        }
-    }
-}
-
-impl ChannelFault {
-    pub fn number(self) -> u32
-        ensures { result ≡ fault_number self }
-    {
+    fn number(self) -> u32 {
         match self {
             ChannelFault::RxOverflow => 11,
             ChannelFault::BadCredit(fault) => fault.number(),
@@ -178,10 +98,10 @@ impl ChannelFault {
     }
 }
 
-impl ChannelError {
-    pub fn number(self) -> u32
-        ensures { result ≡ error_number self }
-    {
+impl Numbered for ChannelError {
+    ghost number = { error_number };
+
+    fn number(self) -> u32 {
         match self {
             ChannelError::Closed => 10,
             ChannelError::Fault(fault) => fault.number(),
@@ -189,47 +109,30 @@ impl ChannelError {
     }
 }
 
-impl Taken {
-    pub fn number(self) -> u32
-        ensures { result ≡ taken_number self }
-    {
-        match self {
-            Taken::Data(_, _) => 0,
-            Taken::Nothing => 101,
-            Taken::Closed(error) => error.number(),
-        }
-    }
+// Of a read.
+pub fn taken_number(taken: Taken) -> u32
+    ensures { result ≡ taken_number taken }
+{
+    found_number_of(taken, 101)
 }
 
-impl Budget {
-    pub fn number(self) -> u32
-        ensures { result ≡ budget_number self }
-    {
-        match self {
-            Budget::Bytes(_) => 0,
-            Budget::Nothing => 100,
-        }
-    }
+// Of how many bytes may be sent now: none is waiting.
+pub fn budget_number(budget: Option<usize>) -> u32
+    ensures { result ≡ budget_number budget }
+{
+    there_number_of(budget, 100)
 }
 
 pub fn is_opening(state: ChannelState) -> bool
     ensures { result ≡ is_opening state }
 {
-    match state {
-        ChannelState::Opening => true,
-        ChannelState::Open => false,
-        ChannelState::Closed => false,
-    }
+    state == ChannelState::Opening
 }
 
 pub fn is_closed(state: ChannelState) -> bool
     ensures { result ≡ is_closed state }
 {
-    match state {
-        ChannelState::Opening => false,
-        ChannelState::Open => false,
-        ChannelState::Closed => true,
-    }
+    state == ChannelState::Closed
 }
 
 impl ChannelSlot {
@@ -250,7 +153,7 @@ impl ChannelSlot {
             head: 0,
             buffered: 0,
             acked_total: 0,
-            failed: Failed::No,
+            failed: None,
         }
     }
 
@@ -261,78 +164,56 @@ impl ChannelSlot {
         ChannelSlot {
             filled: true,
             local,
-            remote: RemoteId(0),
-            has_remote: false,
-            state: ChannelState::Opening,
             wrte_acked: true,
-            send_budget: 0,
-            unacked: 0,
-            settled: 0,
-            head: 0,
-            buffered: 0,
-            acked_total: 0,
-            failed: Failed::No,
+            ..ChannelSlot::empty()
         }
     }
 
     pub fn with_state(self, state: ChannelState) -> ChannelSlot
         ensures { result ≡ with_state self state }
     {
-        let local = self.local;
-        let remote = self.remote;
-        let failed = self.failed;
-        ChannelSlot {
-            filled: self.filled,
-            local,
-            remote,
-            has_remote: self.has_remote,
-            state,
-            wrte_acked: self.wrte_acked,
-            send_budget: self.send_budget,
-            unacked: self.unacked,
-            settled: self.settled,
-            head: self.head,
-            buffered: self.buffered,
-            acked_total: self.acked_total,
-            failed,
-        }
+        ChannelSlot { state, ..self }
     }
 
     pub fn with_remote(self, remote: RemoteId) -> ChannelSlot
         ensures { result ≡ with_remote self remote }
     {
-        let mut t = self;
-        t.remote = remote;
-        t.has_remote = true;
-        t
+        ChannelSlot {
+            remote,
+            has_remote: true,
+            ..self
+        }
     }
 
     pub fn with_sending(self, wrte_acked: bool, send_budget: i64) -> ChannelSlot
         ensures { result ≡ with_sending self wrte_acked send_budget }
     {
-        let mut t = self;
-        t.wrte_acked = wrte_acked;
-        t.send_budget = send_budget;
-        t
+        ChannelSlot {
+            wrte_acked,
+            send_budget,
+            ..self
+        }
     }
 
     pub fn with_numbers(self, unacked: usize, settled: u32, head: u32, buffered: u32) -> ChannelSlot
         ensures { result ≡ with_numbers self unacked settled head buffered }
     {
-        let mut t = self;
-        t.unacked = unacked;
-        t.settled = settled;
-        t.head = head;
-        t.buffered = buffered;
-        t
+        ChannelSlot {
+            unacked,
+            settled,
+            head,
+            buffered,
+            ..self
+        }
     }
 
     pub fn with_total(self, acked_total: usize) -> ChannelSlot
         ensures { result ≡ with_total self acked_total }
     {
-        let mut t = self;
-        t.acked_total = acked_total;
-        t
+        ChannelSlot {
+            acked_total,
+            ..self
+        }
     }
 
     // The place of a channel that we closed: nothing of it stays but the total.
@@ -346,10 +227,8 @@ impl ChannelSlot {
     pub fn accepted(ids: ChannelIds, credit: u32, policy: RxPolicy) -> ChannelSlot
         ensures { result ≡ accepted_slot ids credit policy }
     {
-        let local = ids.local;
-        let remote = ids.remote;
-        let slot = ChannelSlot::opening(local)
-            .with_remote(remote)
+        let slot = ChannelSlot::opening(ids.local)
+            .with_remote(ids.remote)
             .with_state(ChannelState::Open);
         if policy.delayed {
             return slot.with_sending(true, credit as i64);
@@ -360,32 +239,29 @@ impl ChannelSlot {
     pub fn is_failed(self) -> bool
         ensures { result ≡ is_failed self.failed }
     {
-        let failed = self.failed;
-        match failed {
-            Failed::No => false,
-            Failed::By(_) => true,
-        }
+        self.failed.is_some()
     }
 
-    pub fn ids(self) -> SlotIds
+    // A channel's numbers, once the device's is known.
+    pub fn ids(self) -> Option<ChannelIds>
         ensures { result ≡ ids_of self }
     {
         if self.has_remote {
-            let local = self.local;
-            let remote = self.remote;
-            return SlotIds::Known(ChannelIds { local, remote });
+            return Some(ChannelIds {
+                local: self.local,
+                remote: self.remote,
+            });
         }
-        SlotIds::Unknown
+        None
     }
 
     // Why nothing can be read or written any more.
     pub fn closed_error(self) -> ChannelError
         ensures { result ≡ error_of self.failed }
     {
-        let failed = self.failed;
-        match failed {
-            Failed::No => ChannelError::Closed,
-            Failed::By(fault) => ChannelError::Fault(fault),
+        match self.failed {
+            None => ChannelError::Closed,
+            Some(fault) => ChannelError::Fault(fault),
         }
     }
 
@@ -400,22 +276,9 @@ impl ChannelSlot {
     pub fn fail(self, fault: ChannelFault) -> ChannelSlot
         ensures { result ≡ failed_slot self fault }
     {
-        let local = self.local;
-        let remote = self.remote;
         ChannelSlot {
-            filled: self.filled,
-            local,
-            remote,
-            has_remote: self.has_remote,
-            state: ChannelState::Closed,
-            wrte_acked: self.wrte_acked,
-            send_budget: self.send_budget,
-            unacked: 0,
-            settled: self.settled,
-            head: self.head,
-            buffered: self.buffered,
-            acked_total: self.acked_total,
-            failed: Failed::By(fault),
+            failed: Some(fault),
+            ..self.apply_close()
         }
     }
 }

@@ -7,24 +7,15 @@ ghost use Rattle.slot.specs.Slot.{held_of, acks_now, wrote_of, some_len, deliver
 ghost use Rattle.slot.specs.Slot.{take_len, took_of, taken_of, take_acks, total_with, slot_ok, SlotOk};
 
 use config::negotiated::RxPolicy;
-use slot::{AckDecision, ChannelSlot, PendingAck, Settled, Taken, Wrote, is_closed, is_opening};
+use slot::{ChannelFault, ChannelSlot, Settled, Taken, Wrote, is_closed, is_opening};
 
-fn some_len(len: usize) -> PendingAck
+fn some_len(len: usize) -> Option<usize>
     ensures { result ≡ some_len len }
 {
     if len == 0 {
-        return PendingAck::Nothing;
+        return None;
     }
-    PendingAck::Len(len)
-}
-
-fn is_ack(ack: PendingAck) -> bool
-    ensures { result ≡ is_ack ack }
-{
-    match ack {
-        PendingAck::Nothing => false,
-        PendingAck::Len(_) => true,
-    }
+    Some(len)
 }
 
 // Buffered bytes that no read has acknowledged.
@@ -57,14 +48,14 @@ pub fn apply_write(slot: ChannelSlot, n: usize, policy: RxPolicy) -> Wrote
     if is_opening(state) {
         return Wrote {
             slot,
-            decision: AckDecision::Early,
+            decision: Err(ChannelFault::UnexpectedCommand),
         };
     }
     let held = held(slot);
     if policy.rx_cap - held < n {
         return Wrote {
             slot,
-            decision: AckDecision::Overflow,
+            decision: Err(ChannelFault::RxOverflow),
         };
     }
     let buffered = slot.buffered as usize;
@@ -73,13 +64,13 @@ pub fn apply_write(slot: ChannelSlot, n: usize, policy: RxPolicy) -> Wrote
     if acks_now(slot, policy, held + n) {
         return Wrote {
             slot: slot.with_numbers(0, slot.settled, head, more),
-            decision: AckDecision::Now(n),
+            decision: Ok(Some(n)),
         };
     }
-    let unacked = saturate::sat_sum(slot.unacked, n);
+    let unacked = slot.unacked.saturating_add(n);
     Wrote {
         slot: slot.with_numbers(unacked, slot.settled, head, more),
-        decision: AckDecision::Hold,
+        decision: Ok(None),
     }
 }
 
@@ -88,7 +79,7 @@ fn total_with(policy: RxPolicy, total: usize, k: usize) -> usize
     ensures { result ≡ total_with policy total k }
 {
     if policy.delayed {
-        return saturate::sat_sum(total, k);
+        return total.saturating_add(k);
     }
     total
 }
@@ -105,43 +96,34 @@ pub fn deliver(slot: ChannelSlot, taken: usize, policy: RxPolicy) -> Settled
                 ack: some_len(taken),
             };
         }
-        return Settled {
-            slot,
-            ack: PendingAck::Nothing,
-        };
+        return Settled { slot, ack: None };
     }
     if slot.buffered as usize >= policy.watermark {
-        return Settled {
-            slot,
-            ack: PendingAck::Nothing,
-        };
+        return Settled { slot, ack: None };
     }
     if slot.has_remote {
         return Settled {
             slot: slot.with_numbers(0, slot.settled, slot.head, slot.buffered),
-            ack: PendingAck::Len(slot.unacked),
+            ack: Some(slot.unacked),
         };
     }
-    Settled {
-        slot,
-        ack: PendingAck::Nothing,
-    }
+    Settled { slot, ack: None }
 }
 
 // How many bytes to acknowledge where n are set aside and `remaining` stay.
-fn ack_len(slot: ChannelSlot, n: usize, remaining: usize, policy: RxPolicy) -> PendingAck
+fn ack_len(slot: ChannelSlot, n: usize, remaining: usize, policy: RxPolicy) -> Option<usize>
     ensures { result ≡ ack_len_of slot policy n remaining }
 {
     if slot.unacked == 0 {
-        return PendingAck::Nothing;
+        return None;
     }
     if policy.delayed {
-        return some_len(saturate::least(n, slot.unacked));
+        return some_len(n.min(slot.unacked));
     }
     if remaining < policy.watermark {
-        return PendingAck::Len(slot.unacked);
+        return Some(slot.unacked);
     }
-    PendingAck::Nothing
+    None
 }
 
 pub fn has_data(slot: ChannelSlot) -> bool
@@ -159,13 +141,10 @@ pub fn settle_take(slot: ChannelSlot, want: usize, policy: RxPolicy) -> Settled
 {
     if slot.has_remote {
         if slot.settled == 0 {
-            return settle_some(slot, saturate::least(want, slot.buffered as usize), policy);
+            return settle_some(slot, want.min(slot.buffered as usize), policy);
         }
     }
-    Settled {
-        slot,
-        ack: PendingAck::Nothing,
-    }
+    Settled { slot, ack: None }
 }
 
 fn settle_some(slot: ChannelSlot, n: usize, policy: RxPolicy) -> Settled
@@ -174,16 +153,13 @@ fn settle_some(slot: ChannelSlot, n: usize, policy: RxPolicy) -> Settled
 {
     let ack = ack_len(slot, n, slot.buffered as usize - n, policy);
     match ack {
-        PendingAck::Nothing => Settled {
-            slot,
-            ack: PendingAck::Nothing,
-        },
-        PendingAck::Len(len) => {
+        None => Settled { slot, ack: None },
+        Some(len) => {
             let total = total_with(policy, slot.acked_total, len);
             let rest = slot.with_numbers(slot.unacked - len, n as u32, slot.head, slot.buffered);
             Settled {
                 slot: rest.with_total(total),
-                ack: PendingAck::Len(len),
+                ack: Some(len),
             }
         }
     }
@@ -194,9 +170,9 @@ fn take_len(slot: ChannelSlot, room: usize) -> usize
     ensures { result ≡ take_len slot room }
 {
     if slot.settled == 0 {
-        return saturate::least(room, slot.buffered as usize);
+        return room.min(slot.buffered as usize);
     }
-    saturate::least(room, slot.settled as usize)
+    room.min(slot.settled as usize)
 }
 
 // The slot after n of its buffered bytes were taken.
@@ -206,7 +182,7 @@ fn took(slot: ChannelSlot, n: usize, cap: usize) -> ChannelSlot
 {
     let set_aside = slot.settled as usize;
     let buffered = slot.buffered as usize;
-    let settled = (set_aside - saturate::least(n, set_aside)) as u32;
+    let settled = (set_aside - n.min(set_aside)) as u32;
     let head = rx_store::taken_head(slot.head as usize, buffered, n) as u32;
     slot.with_numbers(slot.unacked, settled, head, (buffered - n) as u32)
 }
@@ -218,13 +194,13 @@ pub fn take_buffered(slot: ChannelSlot, room: usize, cap: usize) -> Taken
 {
     if has_data(slot) {
         let n = take_len(slot, room);
-        return Taken::Data(took(slot, n, cap), n);
+        return Ok(Some((took(slot, n, cap), n)));
     }
     let state = slot.state;
     if is_closed(state) {
-        return Taken::Closed(slot.closed_error());
+        return Err(slot.closed_error());
     }
-    Taken::Nothing
+    Ok(None)
 }
 
 // Whether a read of `want` bytes would acknowledge.
@@ -234,8 +210,8 @@ pub fn take_acks(slot: ChannelSlot, want: usize, policy: RxPolicy) -> bool
     if has_data(slot) {
         if slot.settled == 0 {
             let buffered = slot.buffered as usize;
-            let n = saturate::least(want, buffered);
-            return is_ack(ack_len(slot, n, buffered - n, policy));
+            let n = want.min(buffered);
+            return ack_len(slot, n, buffered - n, policy).is_some();
         }
     }
     false

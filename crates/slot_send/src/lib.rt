@@ -5,9 +5,9 @@ ghost use Rattle.std.specs.Prelude.{◌≡◌, min, pos};
 ghost use Rattle.slot.specs.Slot.{opened_of, ready_of, budget_of, spent_of, refunded_of, reserved_of};
 
 use config::negotiated::RxPolicy;
-use credit::{Credit, parse_ready_credit};
+use credit::{CreditFault, parse_ready_credit};
 use slot::ids::RemoteId;
-use slot::{Budget, ChannelSlot, ChannelState, Readied, Reserved};
+use slot::{ChannelSlot, ChannelState};
 
 // The OKAY that answers our OPEN.
 pub fn accept_open_ready(
@@ -15,53 +15,48 @@ pub fn accept_open_ready(
     remote: RemoteId,
     payload: &[u8],
     policy: RxPolicy,
-) -> Readied
+) -> Result<ChannelSlot, CreditFault>
     ensures { result ≡ opened_of slot remote payload.now policy }
 {
     let opened = slot.with_remote(remote).with_state(ChannelState::Open);
     if policy.delayed {
-        let credit = parse_ready_credit(payload);
-        return match credit {
-            Credit::Bad(fault) => Readied::Bad(fault),
-            Credit::Of(n) => Readied::Slot(opened.with_sending(slot.wrte_acked, n as i64)),
-        };
+        let credit = parse_ready_credit(payload)?;
+        return Ok(opened.with_sending(slot.wrte_acked, i64::from(credit)));
     }
-    Readied::Slot(opened)
+    Ok(opened)
 }
 
 // A later OKAY: credit, or leave for the next WRTE.
-pub fn apply_ready(slot: ChannelSlot, payload: &[u8], policy: RxPolicy) -> Readied
+pub fn apply_ready(
+    slot: ChannelSlot,
+    payload: &[u8],
+    policy: RxPolicy,
+) -> Result<ChannelSlot, CreditFault>
     ensures { result ≡ ready_of slot payload.now policy }
 {
     let budget = slot.send_budget;
     if policy.delayed {
-        let credit = parse_ready_credit(payload);
-        return match credit {
-            Credit::Bad(fault) => Readied::Bad(fault),
-            Credit::Of(n) => Readied::Slot(slot.with_sending(
-                slot.wrte_acked,
-                saturate::sat_add(budget, n as i64),
-            )),
-        };
+        let credit = parse_ready_credit(payload)?;
+        return Ok(slot.with_sending(
+            slot.wrte_acked,
+            saturate::sat_add(budget, i64::from(credit)),
+        ));
     }
-    Readied::Slot(slot.with_sending(true, budget))
+    Ok(slot.with_sending(true, budget))
 }
 
 // How many bytes may be sent now.
-pub fn budget(slot: ChannelSlot, policy: RxPolicy) -> Budget
+pub fn budget(slot: ChannelSlot, policy: RxPolicy) -> Option<usize>
     ensures { result ≡ budget_of slot policy }
 {
     if policy.delayed {
         let n = saturate::positive(slot.send_budget);
-        if n == 0 {
-            return Budget::Nothing;
-        }
-        return Budget::Bytes(n);
+        return if n == 0 { None } else { Some(n) };
     }
     if slot.wrte_acked {
-        return Budget::Bytes(0xffff_ffff_ffff_ffff);
+        return Some(usize::MAX);
     }
-    Budget::Nothing
+    None
 }
 
 // n bytes were sent.
@@ -87,22 +82,21 @@ pub fn refund(slot: ChannelSlot, n: usize, policy: RxPolicy) -> ChannelSlot
 }
 
 // Bytes to send, at most `want`, taken off the budget.
-pub fn try_reserve_send(slot: ChannelSlot, want: usize, policy: RxPolicy) -> Reserved
+pub fn try_reserve_send(
+    slot: ChannelSlot,
+    want: usize,
+    policy: RxPolicy,
+) -> Option<(ChannelSlot, usize)>
     ensures { result ≡ reserved_of slot policy want }
 {
-    let budget = budget(slot, policy);
-    match budget {
-        Budget::Nothing => Reserved::Nothing,
-        Budget::Bytes(most) => {
-            let n = saturate::least(most, want);
-            Reserved::Bytes(spend(slot, n, policy), n)
-        }
-    }
+    let most = budget(slot, policy)?;
+    let n = most.min(want);
+    Some((spend(slot, n, policy), n))
 }
 
 // A length as a credit.
 fn credit_of(n: usize) -> i64
     ensures { result ≡ pos (min n 9223372036854775807) }
 {
-    saturate::least(n, 9223372036854775807) as i64
+    n.min(i64::MAX as usize) as i64
 }

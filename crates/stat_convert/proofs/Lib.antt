@@ -1,2 +1,1 @@
-pub mod ConvertLaws
 pub mod BothWays

@@ -2,83 +2,68 @@
 #![tactic(auto)]
 
 ghost use Rattle.std.specs.Prelude.{◌≡◌};
-ghost use Rattle.stat_convert.specs.Convert.{is_far, narrow_at, narrow_of, narrow_number, widen_of};
+ghost use Rattle.stat_convert.specs.Convert.{narrow_of, error_number, widen_of};
+ghost use Rattle.stat_convert.specs.declared.NarrowError.TheVariants.{OutOfRange};
 
-use sync::{FileMode, StatV1, StatV2};
+use refusal::Numbered;
+use std::num::TryFromIntError;
+use sync::{StatV1, StatV2};
 
-// What became of a stat of the second layout that was to be one of the first.
-#[derive(Clone, Copy)]
-pub enum Narrowed {
-    Stat(StatV1),
+// Why a stat of the second layout is none of the first.
+#[derive(Clone, Copy, PartialEq, Eq, Debug)]
+pub enum NarrowError {
     // Refusal 16: a size of 2^32 or more, or a time of the contents that is negative or that large.
     OutOfRange,
     // Refusal 17: the device said an error.
     Failed,
 }
 
-impl Narrowed {
-    // The number of the answer: a refusal's own, 0 for a stat.
-    pub fn number(self) -> u32
-        ensures { result ≡ narrow_number self }
-    {
+impl Numbered for NarrowError {
+    ghost number = { error_number };
+
+    #[tactic(auto, unfolding(crate::specs::Convert::error_number))]
+    fn number(self) -> u32 {
         match self {
-            Narrowed::Stat(_) => 0,
-            Narrowed::OutOfRange => 16,
-            Narrowed::Failed => 17,
+            NarrowError::OutOfRange => 16,
+            NarrowError::Failed => 17,
         }
     }
 }
 
-// Whether a time is one that 32 bits cannot say.
-fn is_far(time: i64) -> bool
-    ensures { result ≡ is_far time }
-{
-    if time < 0 {
-        return true;
-    }
-    time > 0xffff_ffff
-}
+impl From<TryFromIntError> for NarrowError {
+    ghost from_gives = { λ _ e. e ≡ OutOfRange };
 
-fn narrow_at(mode: FileMode, size: u32, time: i64) -> Narrowed
-    ensures { result ≡ narrow_at mode size time }
-{
-    if is_far(time) {
-        return Narrowed::OutOfRange;
+    fn from(_e: TryFromIntError) -> NarrowError {
+        NarrowError::OutOfRange
     }
-    let mtime = time as u32;
-    Narrowed::Stat(StatV1 { mode, size, mtime })
 }
 
 // Mode, size and time of the contents.
-pub fn narrow(stat: StatV2) -> Narrowed
+#[tactic(auto, unfolding(crate::specs::Convert::narrow_of, crate::specs::Convert::narrow_at, crate::specs::Convert::is_far))]
+pub fn narrow(stat: StatV2) -> Result<StatV1, NarrowError>
     ensures { result ≡ narrow_of stat }
 {
     if stat.error > 0 {
-        return Narrowed::Failed;
+        return Err(NarrowError::Failed);
     }
-    if stat.size > 0xffff_ffff {
-        return Narrowed::OutOfRange;
-    }
-    let mode = stat.mode;
-    narrow_at(mode, stat.size as u32, stat.mtime)
+    let size = u32::try_from(stat.size)?;
+    let mtime = u32::try_from(stat.mtime)?;
+    Ok(StatV1 {
+        mode: stat.mode,
+        size,
+        mtime,
+    })
 }
 
 // What the first layout has not is 0.
+#[tactic(auto, unfolding(crate::specs::Convert::widen_of))]
 pub fn widen(stat: StatV1) -> StatV2
     ensures { result ≡ widen_of stat }
 {
-    let mode = stat.mode;
     StatV2 {
-        error: 0,
-        dev: 0,
-        ino: 0,
-        mode,
-        nlink: 0,
-        uid: 0,
-        gid: 0,
-        size: stat.size as u64,
-        atime: 0,
-        mtime: stat.mtime as i64,
-        ctime: 0,
+        mode: stat.mode,
+        size: u64::from(stat.size),
+        mtime: i64::from(stat.mtime),
+        ..StatV2::default()
     }
 }

@@ -19,8 +19,6 @@ use Rattle.slot.specs.declared.ChannelFault.TheVariants.{RxOverflow, BadCredit, 
 use Rattle.slot.specs.declared.ChannelSlot.{ChannelSlot}
 use Rattle.slot.specs.declared.ChannelState.{ChannelState}
 use Rattle.slot.specs.declared.ChannelState.TheVariants.{Opening, Open, Closed}
-use Rattle.slot.specs.declared.Failed.{Failed}
-use Rattle.slot.specs.declared.Failed.TheVariants.{No, By}
 use Rattle.state.specs.declared.Header.{Header}
 use Rattle.state.specs.declared.Pending.{Pending}
 use Rattle.state.specs.declared.Pending.TheVariants.{Nothing as NothingPending, Opening as OursPending, Offer}
@@ -29,6 +27,8 @@ use Rattle.le.specs.Rows.{flat, rows, all_is}
 use Rattle.state.specs.State.{header_len, queue_at, queued_len, tag_at, slot_len, state_len, Connection, flag_of, flag_byte, state_of_tag, state_tag, failed_of_tag, failed_tag, pending_of_tag, pending_tag, slot_numbers, slot_counts, tag_of, slot_bytes, slot_of, is_tag, is_slot, queued_bytes, queued_of, header_sizes, header_words, header_tags, state_header, header_of, layout, state_of, is_state, slot_at, queued_at, put_slot, put_queued, put_header, with_slot, with_header, with_queued_at}
 use Rattle.state.proofs.Fields.{length-slot, length-open, length-header}
 use Rattle.le.proofs.RowLaws.{put-at, put-row, length-flat, length-rows, row_at, flat_rows, Every, rows-flat, rows_fit, all-flat}
+use Rattle.slot.specs.declared.ChannelFault.{ChannelFault}
+use Rattle.std.specs.Prelude.{Option, Some, None, Result, Ok, Err}
 
 -- ---- flags and tags, both ways
 
@@ -100,13 +100,13 @@ state-is Opening = refl
 state-is Open = refl
 state-is Closed = refl
 
-failed-is : (f : Failed) → failed_of_tag (failed_tag f) ≡ f
-failed-is No = refl
-failed-is (By RxOverflow) = refl
-failed-is (By (BadCredit Short)) = refl
-failed-is (By (BadCredit Long)) = refl
-failed-is (By (BadCredit Negative)) = refl
-failed-is (By UnexpectedCommand) = refl
+failed-is : (f : Option ChannelFault) → failed_of_tag (failed_tag f) ≡ f
+failed-is None = refl
+failed-is (Some RxOverflow) = refl
+failed-is (Some (BadCredit Short)) = refl
+failed-is (Some (BadCredit Long)) = refl
+failed-is (Some (BadCredit Negative)) = refl
+failed-is (Some UnexpectedCommand) = refl
 
 flag-le : (f : Bool) → flag_byte f ≤ 1
 flag-le true = omega arith
@@ -121,13 +121,13 @@ state-le Opening = omega arith
 state-le Open = omega arith
 state-le Closed = omega arith
 
-failed-le : (f : Failed) → failed_tag f ≤ 5
-failed-le No = omega arith
-failed-le (By RxOverflow) = omega arith
-failed-le (By (BadCredit Short)) = omega arith
-failed-le (By (BadCredit Long)) = omega arith
-failed-le (By (BadCredit Negative)) = omega arith
-failed-le (By UnexpectedCommand) = omega arith
+failed-le : (f : Option ChannelFault) → failed_tag f ≤ 5
+failed-le None = omega arith
+failed-le (Some RxOverflow) = omega arith
+failed-le (Some (BadCredit Short)) = omega arith
+failed-le (Some (BadCredit Long)) = omega arith
+failed-le (Some (BadCredit Negative)) = omega arith
+failed-le (Some UnexpectedCommand) = omega arith
 
 -- five numbers in one byte, and out of it again
 record Tag (f r a s x t : ℕ) : Type 0 where

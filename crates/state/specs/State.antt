@@ -1,18 +1,17 @@
 -- A connection's state, and its bytes (docs/LAYOUT.md). Assumes nothing.
-use Rattle.std.specs.Prelude.{ℕ, ◌+◌, ◌*◌, ◌/◌, ◌%◌, Bool, true, false, cond, ◌&&◌, List, ◌++◌, leb, eqb, length, get_or, set, drop}
+use Rattle.std.specs.Prelude.{ℕ, ◌+◌, ◌*◌, ◌/◌, ◌%◌, Bool, true, false, cond, ◌&&◌, List, ◌++◌, leb, eqb, length, get_or, set, drop, Option, Some, None, Result, Ok, Err}
 use Rattle.le.specs.Le.{num_of, bytes_of, signed, unsigned, part, put}
 use Rattle.credit.specs.declared.CreditFault.TheVariants.{Short, Long, Negative}
 use Rattle.slot.specs.declared.ChannelFault.TheVariants.{RxOverflow, BadCredit, UnexpectedCommand}
 use Rattle.slot.specs.declared.ChannelSlot.{ChannelSlot}
 use Rattle.slot.specs.declared.ChannelState.{ChannelState}
 use Rattle.slot.specs.declared.ChannelState.TheVariants.{Opening, Open, Closed}
-use Rattle.slot.specs.declared.Failed.{Failed}
-use Rattle.slot.specs.declared.Failed.TheVariants.{No, By}
 use Rattle.state.specs.declared.Header.{Header}
 use Rattle.state.specs.declared.Pending.{Pending}
 use Rattle.state.specs.declared.Pending.TheVariants.{Nothing as NothingPending, Opening as OursPending, Offer}
 use Rattle.state.specs.declared.QueuedOpen.{QueuedOpen}
 use Rattle.le.specs.Rows.{flat, rows, all_is}
+use Rattle.slot.specs.declared.ChannelFault.{ChannelFault}
 
 -- ---- where things lie: a header, 64 slots, 64 places for queued opens
 
@@ -67,21 +66,21 @@ state_tag Open = 1
 state_tag Closed = 2
 
 -- 0 no fault, 1 overflow, 2 a short credit, 3 a WRTE too early, 4 a long credit, 5 a negative one
-abbrev pub failed_of_tag : ℕ → Failed
+abbrev pub failed_of_tag : ℕ → Option ChannelFault
 failed_of_tag b =
-    cond (eqb b 0) No
-    (cond (eqb b 1) (By RxOverflow)
-    (cond (eqb b 2) (By (BadCredit Short))
-    (cond (eqb b 3) (By UnexpectedCommand) (cond (eqb b 4) (By (BadCredit Long)) (By (BadCredit Negative))))))
+    cond (eqb b 0) None
+    (cond (eqb b 1) (Some RxOverflow)
+    (cond (eqb b 2) (Some (BadCredit Short))
+    (cond (eqb b 3) (Some UnexpectedCommand) (cond (eqb b 4) (Some (BadCredit Long)) (Some (BadCredit Negative))))))
 
 -- the number of a fault
-abbrev pub failed_tag : Failed → ℕ
-failed_tag No = 0
-failed_tag (By RxOverflow) = 1
-failed_tag (By (BadCredit Short)) = 2
-failed_tag (By UnexpectedCommand) = 3
-failed_tag (By (BadCredit Long)) = 4
-failed_tag (By (BadCredit Negative)) = 5
+abbrev pub failed_tag : Option ChannelFault → ℕ
+failed_tag None = 0
+failed_tag (Some RxOverflow) = 1
+failed_tag (Some (BadCredit Short)) = 2
+failed_tag (Some UnexpectedCommand) = 3
+failed_tag (Some (BadCredit Long)) = 4
+failed_tag (Some (BadCredit Negative)) = 5
 
 -- 0 nothing is pending, 1 an open of ours, 2 an offer
 abbrev pub pending_of_tag : ℕ → Pending

@@ -14,7 +14,7 @@ use config::ConnectionConfig;
 use config::negotiated::Negotiated;
 use credit::CreditFault;
 use slot::ids::{LocalId, RemoteId};
-use slot::{ChannelFault, ChannelSlot, ChannelState, Failed};
+use slot::{ChannelFault, ChannelSlot, ChannelState};
 
 // The header's length, and where the slots begin.
 pub const HEADER_LEN: usize = 58;
@@ -32,7 +32,7 @@ pub const STATE_LEN: usize = QUEUE_AT + 64 * QUEUED_LEN;
 
 // What stands between two calls: nothing; an open of ours, until its OKAY comes; an offer, an open of the device's that was
 // taken off the queue and is not decided.
-#[derive(Clone, Copy)]
+#[derive(Clone, Copy, Debug, PartialEq, Eq)]
 pub enum Pending {
     Nothing,
     Opening,
@@ -52,22 +52,14 @@ impl Pending {
     pub fn is_ours(self) -> bool
         ensures { result ≡ is_ours self }
     {
-        match self {
-            Pending::Nothing => false,
-            Pending::Opening => true,
-            Pending::Offer => false,
-        }
+        self == Pending::Opening
     }
 
     // Whether an offer stands.
     pub fn is_offer(self) -> bool
         ensures { result ≡ is_offer self }
     {
-        match self {
-            Pending::Nothing => false,
-            Pending::Opening => false,
-            Pending::Offer => true,
-        }
+        self == Pending::Offer
     }
 }
 
@@ -99,22 +91,17 @@ fn flag(b: u8) -> bool
 fn flag_byte(f: bool) -> u8
     ensures { (result ≡ flag_byte f) × (result ≤ 1) }
 {
-    if f {
-        return 1;
-    }
-    0
+    u8::from(f)
 }
 
 fn state_of(b: u8) -> ChannelState
     ensures { result ≡ state_of_tag b }
 {
-    if b == 0 {
-        return ChannelState::Opening;
+    match b {
+        0 => ChannelState::Opening,
+        1 => ChannelState::Open,
+        _ => ChannelState::Closed,
     }
-    if b == 1 {
-        return ChannelState::Open;
-    }
-    ChannelState::Closed
 }
 
 fn state_tag(state: ChannelState) -> u8
@@ -127,29 +114,21 @@ fn state_tag(state: ChannelState) -> u8
     }
 }
 
-fn failed_of(b: u8) -> Failed
+fn failed_of(b: u8) -> Option<ChannelFault>
     ensures { result ≡ failed_of_tag b }
 {
-    if b == 0 {
-        return Failed::No;
+    match b {
+        0 => None,
+        1 => Some(ChannelFault::RxOverflow),
+        2 => Some(ChannelFault::BadCredit(CreditFault::Short)),
+        3 => Some(ChannelFault::UnexpectedCommand),
+        4 => Some(ChannelFault::BadCredit(CreditFault::Long)),
+        _ => Some(ChannelFault::BadCredit(CreditFault::Negative)),
     }
-    if b == 1 {
-        return Failed::By(ChannelFault::RxOverflow);
-    }
-    if b == 2 {
-        return Failed::By(ChannelFault::BadCredit(CreditFault::Short));
-    }
-    if b == 3 {
-        return Failed::By(ChannelFault::UnexpectedCommand);
-    }
-    if b == 4 {
-        return Failed::By(ChannelFault::BadCredit(CreditFault::Long));
-    }
-    Failed::By(ChannelFault::BadCredit(CreditFault::Negative))
 }
 
 fn credit_tag(fault: CreditFault) -> u8
-    ensures { (result ≡ failed_tag (Failed.By (ChannelFault.BadCredit fault))) × (result ≤ 5) }
+    ensures { (result ≡ failed_tag (Some (ChannelFault.BadCredit fault))) × (result ≤ 5) }
 {
     match fault {
         CreditFault::Short => 2,
@@ -159,7 +138,7 @@ fn credit_tag(fault: CreditFault) -> u8
 }
 
 fn fault_tag(fault: ChannelFault) -> u8
-    ensures { (result ≡ failed_tag (Failed.By fault)) × (result ≤ 5) }
+    ensures { (result ≡ failed_tag (Some fault)) × (result ≤ 5) }
 {
     match fault {
         ChannelFault::RxOverflow => 1,
@@ -168,25 +147,23 @@ fn fault_tag(fault: ChannelFault) -> u8
     }
 }
 
-fn failed_tag(failed: Failed) -> u8
+fn failed_tag(failed: Option<ChannelFault>) -> u8
     ensures { (result ≡ failed_tag failed) × (result ≤ 5) }
 {
     match failed {
-        Failed::No => 0,
-        Failed::By(fault) => fault_tag(fault),
+        None => 0,
+        Some(fault) => fault_tag(fault),
     }
 }
 
 fn pending_of(b: u8) -> Pending
     ensures { result ≡ pending_of_tag b }
 {
-    if b == 0 {
-        return Pending::Nothing;
+    match b {
+        0 => Pending::Nothing,
+        1 => Pending::Opening,
+        _ => Pending::Offer,
     }
-    if b == 1 {
-        return Pending::Opening;
-    }
-    Pending::Offer
 }
 
 fn pending_tag(what: Pending) -> u8
@@ -207,17 +184,17 @@ pub fn slot_of(p: &[u8]) -> ChannelSlot
     let tag = p[TAG_AT];
     ChannelSlot {
         filled: flag(tag % 2),
-        local: LocalId(le::get_u32(p, 0)),
-        remote: RemoteId(le::get_u32(p, 4)),
+        local: LocalId(le::get(p, 0)),
+        remote: RemoteId(le::get(p, 4)),
         has_remote: flag(tag / 2 % 2),
         state: state_of(tag / 2 / 2 / 2 % 4),
         wrte_acked: flag(tag / 2 / 2 % 2),
-        send_budget: le::get_i64(p, 8),
-        unacked: le::get_usize(p, 16),
-        settled: le::get_u32(p, 32),
-        head: le::get_u32(p, 36),
-        buffered: le::get_u32(p, 40),
-        acked_total: le::get_usize(p, 24),
+        send_budget: le::get(p, 8),
+        unacked: le::get(p, 16),
+        settled: le::get(p, 32),
+        head: le::get(p, 36),
+        buffered: le::get(p, 40),
+        acked_total: le::get(p, 24),
         failed: failed_of(tag / 2 / 2 / 2 / 4),
     }
 }
@@ -226,20 +203,20 @@ fn fill_numbers(p: &mut [u8], s: ChannelSlot)
     requires { slot_len ≤ length p.old }
     ensures { p.new ≡ put p.old 0 (slot_numbers s) }
 {
-    le::put_u32(p, 0, s.local.0);
-    le::put_u32(p, 4, s.remote.0);
-    le::put_i64(p, 8, s.send_budget);
-    le::put_usize(p, 16, s.unacked);
-    le::put_usize(p, 24, s.acked_total);
+    le::put(p, 0, s.local.0);
+    le::put(p, 4, s.remote.0);
+    le::put(p, 8, s.send_budget);
+    le::put(p, 16, s.unacked);
+    le::put(p, 24, s.acked_total);
 }
 
 fn fill_counts(p: &mut [u8], s: ChannelSlot)
     requires { slot_len ≤ length p.old }
     ensures { p.new ≡ put p.old 32 (slot_counts s) }
 {
-    le::put_u32(p, 32, s.settled);
-    le::put_u32(p, 36, s.head);
-    le::put_u32(p, 40, s.buffered);
+    le::put(p, 32, s.settled);
+    le::put(p, 36, s.head);
+    le::put(p, 40, s.buffered);
 }
 
 fn tag_of(s: ChannelSlot) -> u8
@@ -257,7 +234,7 @@ fn fill_slot(p: &mut [u8], s: ChannelSlot)
 {
     fill_numbers(p, s);
     fill_counts(p, s);
-    le::put_u8(p, TAG_AT, tag_of(s));
+    le::put(p, TAG_AT, tag_of(s));
 }
 
 // The slot at place i.
@@ -285,10 +262,10 @@ fn queued_of(p: &[u8]) -> QueuedOpen
     ensures { result ≡ queued_of p.now }
 {
     QueuedOpen {
-        remote: RemoteId(le::get_u32(p, 0)),
-        credit: le::get_u32(p, 4),
-        share: le::get_usize(p, 8),
-        length: le::get_usize(p, 16),
+        remote: RemoteId(le::get(p, 0)),
+        credit: le::get(p, 4),
+        share: le::get(p, 8),
+        length: le::get(p, 16),
     }
 }
 
@@ -296,10 +273,10 @@ fn fill_queued(p: &mut [u8], q: QueuedOpen)
     requires { queued_len ≤ length p.old }
     ensures { p.new ≡ put p.old 0 (queued_bytes q) }
 {
-    le::put_u32(p, 0, q.remote.0);
-    le::put_u32(p, 4, q.credit);
-    le::put_usize(p, 8, q.share);
-    le::put_usize(p, 16, q.length);
+    le::put(p, 0, q.remote.0);
+    le::put(p, 4, q.credit);
+    le::put(p, 8, q.share);
+    le::put(p, 16, q.length);
 }
 
 // The queued open at place i.
@@ -326,27 +303,27 @@ pub fn header_of(state: &[u8]) -> Header
     ensures { result ≡ header_of state.now }
 {
     let config = ConnectionConfig {
-        channels: le::get_usize(state, 0),
-        max_payload: le::get_u32(state, 32),
-        max_rx_per_channel: le::get_usize(state, 8),
-        initial_ack_bytes: le::get_u32(state, 36),
+        channels: le::get(state, 0),
+        max_payload: le::get(state, 32),
+        max_rx_per_channel: le::get(state, 8),
+        initial_ack_bytes: le::get(state, 36),
     };
     let negotiated = Negotiated {
-        max_payload: le::get_u32(state, 40),
-        protocol_version: le::get_u32(state, 44),
+        max_payload: le::get(state, 40),
+        protocol_version: le::get(state, 44),
         config,
         delayed_ack: flag(state[56]),
     };
     let pending = PendingOpen {
         what: pending_of(state[57]),
-        slot: le::get_usize(state, 16),
-        local: LocalId(le::get_u32(state, 52)),
+        slot: le::get(state, 16),
+        local: LocalId(le::get(state, 52)),
     };
     Header {
         negotiated,
-        next_local: le::get_u32(state, 48),
+        next_local: le::get(state, 48),
         pending,
-        queued: le::get_usize(state, 24),
+        queued: le::get(state, 24),
     }
 }
 
@@ -357,10 +334,10 @@ fn put_sizes(state: &mut [u8], h: Header)
     let negotiated = h.negotiated;
     let config = negotiated.config;
     let pending = h.pending;
-    le::put_usize(state, 0, config.channels);
-    le::put_usize(state, 8, config.max_rx_per_channel);
-    le::put_usize(state, 16, pending.slot);
-    le::put_usize(state, 24, h.queued);
+    le::put(state, 0, config.channels);
+    le::put(state, 8, config.max_rx_per_channel);
+    le::put(state, 16, pending.slot);
+    le::put(state, 24, h.queued);
 }
 
 fn put_words(state: &mut [u8], h: Header)
@@ -370,12 +347,12 @@ fn put_words(state: &mut [u8], h: Header)
     let negotiated = h.negotiated;
     let config = negotiated.config;
     let pending = h.pending;
-    le::put_u32(state, 32, config.max_payload);
-    le::put_u32(state, 36, config.initial_ack_bytes);
-    le::put_u32(state, 40, negotiated.max_payload);
-    le::put_u32(state, 44, negotiated.protocol_version);
-    le::put_u32(state, 48, h.next_local);
-    le::put_u32(state, 52, pending.local.0);
+    le::put(state, 32, config.max_payload);
+    le::put(state, 36, config.initial_ack_bytes);
+    le::put(state, 40, negotiated.max_payload);
+    le::put(state, 44, negotiated.protocol_version);
+    le::put(state, 48, h.next_local);
+    le::put(state, 52, pending.local.0);
 }
 
 fn put_tags(state: &mut [u8], h: Header)
@@ -385,8 +362,8 @@ fn put_tags(state: &mut [u8], h: Header)
     let negotiated = h.negotiated;
     let pending = h.pending;
     let what = pending.what;
-    le::put_u8(state, 56, flag_byte(negotiated.delayed_ack));
-    le::put_u8(state, 57, pending_tag(what));
+    le::put(state, 56, flag_byte(negotiated.delayed_ack));
+    le::put(state, 57, pending_tag(what));
 }
 
 pub fn put_header(state: &mut [u8], h: Header)

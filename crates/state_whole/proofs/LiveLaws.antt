@@ -9,12 +9,6 @@ use Rattle.le.specs.Le.{Bytes}
 use Rattle.config.specs.declared.negotiated.Negotiated.{Negotiated}
 use Rattle.config.specs.Negotiated.{policy_of}
 use Rattle.slot.specs.declared.ChannelSlot.{ChannelSlot}
-use Rattle.credit.specs.declared.Credit.{Credit}
-use Rattle.credit.specs.declared.Credit.TheVariants.{Of, Bad}
-use Rattle.slot.specs.declared.Readied.{Readied}
-use Rattle.slot.specs.declared.Readied.TheVariants.{Slot, Bad as ReadyBad}
-use Rattle.slot.specs.declared.Taken.{Taken}
-use Rattle.slot.specs.declared.Taken.TheVariants.{Data, Nothing as NothingTaken, Closed as ClosedTaken}
 use Rattle.slot.specs.declared.ids.LocalId.{LocalId}
 use Rattle.slot.specs.declared.ids.RemoteId.{RemoteId}
 use Rattle.slot.specs.Slot.{opening_slot, accepted_slot, opened_of, opened_by, ready_of, is_opening, is_failed, wrote_of, delivered_of, settled_of, take_len, taken_of, has_data, is_closed, spent_of, closed_slot, SlotOk}
@@ -22,6 +16,9 @@ use Rattle.credit.specs.Credit.{credit_of}
 use Rattle.slot.proofs.Kept.{pick, ReadiedSound, ready-sound, wrote-sound, delivered-sound, settled-sound, took-sound, spent-sound, closed-sound}
 use Rattle.slot.proofs.Stays.{Stays, CreditFits, credit-small, ReadiedStays, ready-stays, wrote-stays, delivered-stays, settled-stays, took-stays, spent-stays, closed-stays}
 use Rattle.state_whole.proofs.WholeLaws.{Live}
+use Rattle.credit.specs.declared.CreditFault.{CreditFault}
+use Rattle.std.specs.Prelude.{Option, Some, None, Result, Ok, Err}
+use Rattle.slot.specs.declared.ChannelError.{ChannelError}
 
 -- a slot that a function left so, with numbers within its share, is as whole as it was
 pub live-stays : (n : Negotiated) (i : ℕ) (s t : ChannelSlot) → Live n i s → Stays s t → SlotOk t (policy_of n).rx_cap → Live n i t
@@ -49,23 +46,23 @@ live-stays n i s t v k ok =
           };
     }
 
-abbrev pub ReadiedLive : Negotiated → ℕ → Readied → Type 0
-ReadiedLive n i (Slot t) = Live n i t
-ReadiedLive n i (ReadyBad f) = Unit {0}
+abbrev pub ReadiedLive : Negotiated → ℕ → Result ChannelSlot CreditFault → Type 0
+ReadiedLive n i (Ok t) = Live n i t
+ReadiedLive n i (Err f) = Unit {0}
 
 module _ (n : Negotiated) (i : ℕ) where
-  both-live : (s : ChannelSlot) (r : Readied) → Live n i s → ReadiedStays s r → ReadiedSound (policy_of n).rx_cap r → ReadiedLive n i r
-  both-live s (Slot t) v k ok = live-stays n i s t v k ok
-  both-live s (ReadyBad f) v k ok = tt
+  both-live : (s : ChannelSlot) (r : Result ChannelSlot CreditFault) → Live n i s → ReadiedStays s r → ReadiedSound (policy_of n).rx_cap r → ReadiedLive n i r
+  both-live s (Ok t) v k ok = live-stays n i s t v k ok
+  both-live s (Err f) v k ok = tt
 
   pub ready-live : (s : ChannelSlot) (payload : List ℕ) → Live n i s → ReadiedLive n i (ready_of s payload (policy_of n))
   ready-live s payload v = both-live s (ready_of s payload (policy_of n)) v (ready-stays s payload (policy_of n)) (ready-sound s payload (policy_of n) (policy_of n).rx_cap v.ok)
 
   -- the OKAY that answers our OPEN
   module _ (local : LocalId) (remote : RemoteId) (place : i < n.config.channels) (cap : (policy_of n).rx_cap ≤ 16777216) (l : local.0 < 2 ^ 32) (r : remote.0 < 2 ^ 32) where
-    opened-live-by : (c : Credit) → CreditFits c → ReadiedLive n i (opened_by (opening_slot local) remote c)
+    opened-live-by : (c : Result ℤ CreditFault) → CreditFits c → ReadiedLive n i (opened_by (opening_slot local) remote c)
     unfolding opened_by opening_slot is_opening is_failed
-    opened-live-by (Of z) f =
+    opened-live-by (Ok z) f =
         record {
           filled = refl;
           place = place;
@@ -75,7 +72,7 @@ module _ (n : Negotiated) (i : ℕ) where
           ok = record { settled-buffered = omega arith; settled-cap = omega arith; held-cap = omega arith; run_fits = omega arith; cap-small = cap };
           fits = record { local = l; remote = r; budget = f; unacked = omega arith; total = omega arith; settled = omega arith; head = omega arith; buffered = omega arith };
         }
-    opened-live-by (Bad b) f = tt
+    opened-live-by (Err b) f = tt
 
     pub opened-live : (payload : List ℕ) → Bytes payload → ReadiedLive n i (opened_of (opening_slot local) remote payload (policy_of n))
     unfolding opened_of opening_slot is_opening is_failed
@@ -118,10 +115,10 @@ module _ (n : Negotiated) (i : ℕ) where
 
 -- ---- so a filled slot stays one of a whole state
 
-abbrev pub TakenLive : Negotiated → ℕ → Taken → Type 0
-TakenLive n i (Data t k) = Live n i t
-TakenLive n i NothingTaken = Unit {0}
-TakenLive n i (ClosedTaken e) = Unit {0}
+abbrev pub TakenLive : Negotiated → ℕ → Result (Option (ChannelSlot × ℕ)) ChannelError → Type 0
+TakenLive n i (Ok (Some (t, k))) = Live n i t
+TakenLive n i (Ok None) = Unit {0}
+TakenLive n i (Err e) = Unit {0}
 
 module _ (n : Negotiated) (i : ℕ) (s : ChannelSlot) (v : Live n i s) where
   pub wrote-live : (k : ℕ) → Live n i (wrote_of s (policy_of n) k).slot

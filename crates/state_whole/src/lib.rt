@@ -66,11 +66,8 @@ fn rows_fine(state: &[u8], from: usize, end: usize, channels: usize, cap: usize)
     requires { (from ≤ end) × (end ≤ 64) × (state_len ≤ length state.now) × (cap ≤ 16777216) }
     ensures { result ≡ rows_fine channels cap from (end - from) (drop (header_len + from * slot_len) state.now) }
 {
-    let mut i = from;
-    while i < end {
-        if row_at_fine(state, i, channels, cap) {
-            i += 1;
-        } else {
+    for i in from..end {
+        if !row_at_fine(state, i, channels, cap) {
             return false;
         }
     }
@@ -103,12 +100,9 @@ fn queue_fine(state: &[u8], n: usize, channels: usize, payload: usize) -> bool
     requires { (n ≤ 64) × (state_len ≤ length state.now) }
     ensures { result ≡ queue_fine channels payload (take n (state_of state.now).queue) }
 {
-    let mut i = 0;
-    while i < n {
+    for i in 0..n {
         let q = queued_at(state, i);
-        if queued_fine(q, channels, payload) {
-            i += 1;
-        } else {
+        if !queued_fine(q, channels, payload) {
             return false;
         }
     }

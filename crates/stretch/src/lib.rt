@@ -9,12 +9,8 @@ ghost use Rattle.stretch.specs.Stretch.{world_of, Turns, run_of, Inside, Tells, 
 use call_dispatch::dispatch;
 use state::STATE_LEN;
 
-// A stretch: the first frame's place, from 0, and the count; or none.
-#[derive(Clone, Copy)]
-pub enum Found {
-    Frames(usize, usize),
-    Nothing,
-}
+// A stretch: the first frame's place, from 0, and the count.
+pub type Stretch = (usize, usize);
 
 // What one packet's dispatch answered, and the bytes that it used.
 #[derive(Clone, Copy)]
@@ -58,20 +54,18 @@ fn run(state: &mut [u8], rx: &mut [u8], store: &mut [u8], received: &[u8], place
     ensures { result ≡ run_of (world_of state.old rx.old store.old) received.now
         places.now }
 {
-    let mut i = 0;
-    while i < places.len() {
+    for i in 0..places.len() {
         let at = places[i];
         let turn = dispatch_at(state, rx, store, received, at);
-        i += 1;
         if turn.number != 0 {
             return Ran {
-                count: i,
+                count: i + 1,
                 number: turn.number,
             };
         }
     }
     Ran {
-        count: i,
+        count: places.len(),
         number: 0,
     }
 }
@@ -88,22 +82,20 @@ fn tell(
     ensures { Tells (world_of state.old rx.old store.old) received.now result
         places.new }
 {
-    let mut n = 0;
     let mut at = 0;
-    while n < 32 {
+    for n in 0..32 {
         places[n] = at;
         let met = dispatch_at(state, rx, store, received, at);
-        n += 1;
         if met.number != 0 {
             return Ran {
-                count: n,
+                count: n + 1,
                 number: met.number,
             };
         }
         at += met.used;
     }
     Ran {
-        count: n,
+        count: 32,
         number: 0,
     }
 }
@@ -145,30 +137,26 @@ fn search(
     received: &[u8],
     places: &[usize],
     number: u32,
-) -> Found
+) -> Option<Stretch>
     requires { Searches (world_of state.now rx.old store.old) received.now places.now number (length copy.old) }
     ensures { result ≡ shortest_in (world_of state.now rx.old store.old) received.now
         places.now number }
 {
     let mut first = 0;
     let mut count = places.len();
-    let mut i = 0;
-    while i < places.len() {
+    for i in 0..places.len() {
         le::copy_at(copy, 0, state);
         let ran = run(copy, rx, store, received, &places[i..]);
         if is_shorter(ran, number, count) {
             first = i;
             count = ran.count;
-            i += 1;
-        } else {
-            i += 1;
         }
     }
-    Found::Frames(first, count)
+    Some((first, count))
 }
 
 // The shortest stretch, from a state's own bytes. The stores are worked in, and their bytes left as that leaves them.
-pub fn shortest(state: &[u8], rx: &mut [u8], store: &mut [u8], received: &[u8]) -> Found
+pub fn shortest(state: &[u8], rx: &mut [u8], store: &mut [u8], received: &[u8]) -> Option<Stretch>
     requires { length state.now ≡ state_len }
     ensures { result ≡ shortest_of (world_of state.now rx.old store.old) received.now }
 {
@@ -188,5 +176,5 @@ pub fn shortest(state: &[u8], rx: &mut [u8], store: &mut [u8], received: &[u8]) 
             told.number,
         );
     }
-    Found::Nothing
+    None
 }

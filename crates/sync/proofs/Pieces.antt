@@ -16,13 +16,10 @@ use Rattle.stream.specs.Stream.{message, refused, is_waiting, joined, read_all, 
 use Rattle.stream.proofs.Cut.{cut}
 use Rattle.exchange.specs.declared.SyncId.{SyncId}
 use Rattle.exchange.specs.declared.Layout.{Layout}
-use Rattle.exchange.specs.declared.Found.{Found}
-use Rattle.exchange.specs.declared.Found.TheVariants.{Known, Unknown}
+use Rattle.std.specs.Prelude.{Option, Some, None, Ok, Err}
 use Rattle.exchange.specs.declared.Exchange.{Exchange}
-use Rattle.sync.specs.declared.Read.{Read}
-use Rattle.sync.specs.declared.Read.TheVariants.{Waiting, InvalidId, DataTooLarge, Whole}
-use Rattle.exchange.specs.Exchange.{found_of, head_of, is_over}
-use Rattle.sync.specs.Message.{length_of, known_of, named_of, read_message, used_of}
+use Rattle.exchange.specs.Exchange.{Row, found_of, head_of, is_over}
+use Rattle.sync.specs.Message.{length_of, Answer, known_of, named_of, read_message, used_of}
 use Rattle.sync.specs.Pieces.{Got, answer_of, receives}
 use Rattle.exchange.proofs.ExchangeLaws.{heads}
 use Rattle.sync.proofs.ReadLaws.{fields-front, length_front, says, used-within}
@@ -44,10 +41,10 @@ module _ (l m : List ℕ) where
       (λ t₃. let w = ltb-false (length l) (head_of k + length_of k l) t₃ in
       rw (g, t₁, fl, t₂, t₃, le-ltb (length (l ++ m)) (head_of k + length_of k l) (omega arith), fields-front k l m h))))
 
-  named-stays : (f : Found) → is_waiting (answer_of l (named_of l f)) ≡ false → named_of (l ++ m) f ≡ named_of l f
+  named-stays : (f : Option Row) → is_waiting (answer_of l (named_of l f)) ≡ false → named_of (l ++ m) f ≡ named_of l f
   unfolding named_of
-  named-stays Unknown e = refl
-  named-stays (Known id k) e = known-stays id k e
+  named-stays None e = refl
+  named-stays (Some (id, k)) e = known-stays id k e
 
   read_stays : (x : Exchange) → is_waiting (answer_of l (read_message x l)) ≡ false → read_message x (l ++ m) ≡ read_message x l
   unfolding read_message answer_of is_waiting
@@ -58,33 +55,30 @@ module _ (l m : List ℕ) where
       (λ t. let h = ltb-false (length l) 4 t in
       rw (le-ltb (length (l ++ m)) 4 (omega arith), t, part-front l m 0 4 h) (named-stays (found_of x (num_of (part l 0 4))) (rw t at e)))
 
-  answer-stays : (x : Exchange) (r : Read) → read_message x l ≡ r → answer_of (l ++ m) r ≡ answer_of l r
+  answer-stays : (x : Exchange) (r : Answer) → read_message x l ≡ r → answer_of (l ++ m) r ≡ answer_of l r
   unfolding answer_of
-  answer-stays x Waiting e = refl
-  answer-stays x InvalidId e = refl
-  answer-stays x DataTooLarge e = refl
-  answer-stays x (Whole g at n used) e =
-      let a = (says x l g at n used e).known in
-      rw (part-front l m at n (omega (arith, a.at-is, a.length-is, a.whole)))
+  answer-stays x (Ok None) e = refl
+  answer-stays x (Err r) e = refl
+  answer-stays x (Ok (Some w)) e =
+      let a = (says x l w e).known in
+      rw (part-front l m w.at w.length (omega (arith, a.at-is, a.length-is, a.whole)))
 
 -- a message uses its head at least
-whole-used : (x : Exchange) (l : List ℕ) (g : Got) (n : ℕ) (r : Read) → read_message x l ≡ r → answer_of l r ≡ message g n → (n ≡ used_of r) × (0 < n)
+whole-used : (x : Exchange) (l : List ℕ) (g : Got) (n : ℕ) (r : Answer) → read_message x l ≡ r → answer_of l r ≡ message g n → (n ≡ used_of r) × (0 < n)
 unfolding answer_of used_of
-whole-used x l g n Waiting e f = let z : ◌≡◌ {A = ℕ} 0 1 = cc in absurd (omega arith)
-whole-used x l g n InvalidId e f = let z : ◌≡◌ {A = ℕ} 0 1 = cc in absurd (omega arith)
-whole-used x l g n DataTooLarge e f = let z : ◌≡◌ {A = ℕ} 0 1 = cc in absurd (omega arith)
-whole-used x l g n (Whole m at k used) e f =
-    let s = says x l m at k used e in
+whole-used x l g n (Ok None) e f = cc
+whole-used x l g n (Err r) e f = cc
+whole-used x l g n (Ok (Some w)) e f =
+    let s = says x l w e in
     let h = heads s.layout in
-    let i : n ≡ used = cc in
+    let i : n ≡ w.used = cc in
     (i, omega (arith, s.known.used-is))
 
-refusal-used : (l : List ℕ) (number n : ℕ) (r : Read) → answer_of l r ≡ refused number n → n ≡ used_of r
-unfolding answer_of
-refusal-used l number n Waiting f = cc
-refusal-used l number n InvalidId f = cc
-refusal-used l number n DataTooLarge f = cc
-refusal-used l number n (Whole m at k used) f = cc
+refusal-used : (l : List ℕ) (number n : ℕ) (r : Answer) → answer_of l r ≡ refused number n → n ≡ used_of r
+unfolding answer_of used_of
+refusal-used l number n (Ok None) f = cc
+refusal-used l number n (Err r) f = cc
+refusal-used l number n (Ok (Some w)) f = cc
 
 pub stable : (x : Exchange) → Stable (receives x)
 unfolding receives read_message answer_of

@@ -1,32 +1,23 @@
 -- Laws of the reader: what an accepted message's bytes say, that what is used is here, and that fields do not change by what
 -- arrives behind them. Assumes nothing.
-use mathlib.Core.Path.{◌≡◌, refl, sym}
+use mathlib.Core.Path.{◌≡◌, refl, sym, ap}
 use mathlib.Core.Bool.{false}
 use mathlib.Core.List.{List, ◌++◌}
 use Prim.Native.Nat.{ℕ, ◌+◌, ◌≤◌}
 use native.Mathlib.Omega.{arith}
 use lib.Dec.{ltb}
 use lib.ListN.{length}
-use borrow.Author.Tests.{ltb-false, le-ltb}
+use borrow.Author.Tests.{ltb-false}
 use Rattle.le.specs.Le.{num_of, part}
 use Rattle.le.proofs.Parts.{by-test, part-front}
 use Rattle.exchange.specs.declared.SyncId.{SyncId}
 use Rattle.exchange.specs.declared.Layout.{Layout}
 use Rattle.exchange.specs.declared.Layout.TheVariants.{Text, Number, Stat, Entry, End, StatV2, EntryV2, EndV2}
-use Rattle.exchange.specs.declared.Found.{Found}
-use Rattle.exchange.specs.declared.Found.TheVariants.{Known, Unknown}
+use Rattle.std.specs.Prelude.{Option, Some, None, Ok, Err}
 use Rattle.exchange.specs.declared.Exchange.{Exchange}
-use Rattle.sync.specs.declared.Message.{Message}
-use Rattle.sync.specs.declared.Read.{Read}
-use Rattle.sync.specs.declared.Read.TheVariants.{Waiting, InvalidId, DataTooLarge, Whole}
-use Rattle.exchange.specs.Exchange.{head_of, found_of, is_over}
-use Rattle.sync.specs.Message.{stat_of, stat_v2_of, fields_of, length_of, known_of, named_of, read_message, used_of}
-
--- with the id here, what it names gives the answer
-pub named-read : (x : Exchange) (s : List ℕ) (word : ℕ) (f : Found) → 4 ≤ length s → word ≡ num_of (part s 0 4) → f ≡ found_of x word
-    → named_of s f ≡ read_message x s
-unfolding read_message
-named-read x s word f h e g = rw (le-ltb (length s) 4 h) (cc)
+use Rattle.sync.specs.declared.Whole.{Whole}
+use Rattle.exchange.specs.Exchange.{Row, head_of, found_of, is_over}
+use Rattle.sync.specs.Message.{stat_of, stat_v2_of, fields_of, length_of, Answer, whole_of, known_of, named_of, read_message, used_of}
 
 -- ---- with more behind
 
@@ -76,62 +67,62 @@ length_front EndV2 s t h = refl
 
 -- ---- what an accepted message's bytes say
 
-pub record KnownSays (s : List ℕ) (id : SyncId) (k : Layout) (m : Message) (at n used : ℕ) : Type 0 where
-  pub id-is : m.id ≡ id
-  pub fields-are : m.fields ≡ fields_of k s
-  pub at-is : at ≡ head_of k
-  pub length-is : n ≡ length_of k s
-  pub used-is : used ≡ head_of k + length_of k s
+pub record KnownSays (s : List ℕ) (id : SyncId) (k : Layout) (w : Whole) : Type 0 where
+  pub id-is : w.message.id ≡ id
+  pub fields-are : w.message.fields ≡ fields_of k s
+  pub at-is : w.at ≡ head_of k
+  pub length-is : w.length ≡ length_of k s
+  pub used-is : w.used ≡ head_of k + length_of k s
   pub small : is_over id (length_of k s) ≡ false
   pub whole : head_of k + length_of k s ≤ length s
 
-known-says : (s : List ℕ) (id : SyncId) (k : Layout) (m : Message) (at n used : ℕ) → known_of s id k ≡ Whole m at n used → KnownSays s id k m at n used
+known-says : (s : List ℕ) (id : SyncId) (k : Layout) (w : Whole) → known_of s id k ≡ Ok (Some w) → KnownSays s id k w
 unfolding known_of
-known-says s id k m at n used e =
+known-says s id k w e =
     by-test (ltb (length s) (head_of k))
-    (λ t. let f = rw t at e in let z : ◌≡◌ {A = ℕ} 0 1 = cc in absurd (omega arith))
+    (λ t. let f = rw t at e in cc)
     (λ t₁. by-test (is_over id (length_of k s))
-    (λ t. let f = rw (t₁, t) at e in let z : ◌≡◌ {A = ℕ} 0 1 = cc in absurd (omega arith))
+    (λ t. let f = rw (t₁, t) at e in cc)
     (λ t₂. by-test (ltb (length s) (head_of k + length_of k s))
-    (λ t. let f = rw (t₁, t₂, t) at e in let z : ◌≡◌ {A = ℕ} 0 1 = cc in absurd (omega arith))
+    (λ t. let f = rw (t₁, t₂, t) at e in cc)
     (λ t₃. let f = rw (t₁, t₂, t₃) at e in
+    let v : w ≡ whole_of s id k = cc in
     record {
-      id-is = cc;
-      fields-are = cc;
-      at-is = cc;
-      length-is = cc;
-      used-is = cc;
+      id-is = ap (λ (u : Whole). u.message.id) v;
+      fields-are = ap (λ (u : Whole). u.message.fields) v;
+      at-is = ap (λ (u : Whole). u.at) v;
+      length-is = ap (λ (u : Whole). u.length) v;
+      used-is = ap (λ (u : Whole). u.used) v;
       small = t₂;
       whole = ltb-false _ _ t₃;
     })))
 
-pub record Says (x : Exchange) (s : List ℕ) (m : Message) (at n used : ℕ) : Type 0 where
+pub record Says (x : Exchange) (s : List ℕ) (w : Whole) : Type 0 where
   pub layout : Layout
-  pub found : found_of x (num_of (part s 0 4)) ≡ Known m.id layout
-  pub known : KnownSays s m.id layout m at n used
+  pub found : found_of x (num_of (part s 0 4)) ≡ Some (w.message.id, layout)
+  pub known : KnownSays s w.message.id layout w
 
-named-says : (x : Exchange) (s : List ℕ) (m : Message) (at n used : ℕ) (f : Found) → found_of x (num_of (part s 0 4)) ≡ f → named_of s f ≡ Whole m at n used → Says x s m at n used
+named-says : (x : Exchange) (s : List ℕ) (w : Whole) (f : Option Row) → found_of x (num_of (part s 0 4)) ≡ f → named_of s f ≡ Ok (Some w) → Says x s w
 unfolding named_of
-named-says x s m at n used Unknown e g = let z : ◌≡◌ {A = ℕ} 0 1 = cc in absurd (omega arith)
-named-says x s m at n used (Known id k) e g =
-    let a = known-says s id k m at n used g in
+named-says x s w None e g = cc
+named-says x s w (Some (id, k)) e g =
+    let a = known-says s id k w g in
     let i = sym a.id-is in
     record { layout = k; found = rw a.id-is e; known = rw i at a }
 
-pub says : (x : Exchange) (s : List ℕ) (m : Message) (at n used : ℕ) → read_message x s ≡ Whole m at n used → Says x s m at n used
+pub says : (x : Exchange) (s : List ℕ) (w : Whole) → read_message x s ≡ Ok (Some w) → Says x s w
 unfolding read_message
-says x s m at n used e =
+says x s w e =
     by-test (ltb (length s) 4)
-    (λ t. let f = rw t at e in let z : ◌≡◌ {A = ℕ} 0 1 = cc in absurd (omega arith))
-    (λ t. named-says x s m at n used (found_of x (num_of (part s 0 4))) refl (rw t at e))
+    (λ t. let f = rw t at e in cc)
+    (λ t. named-says x s w (found_of x (num_of (part s 0 4))) refl (rw t at e))
 
 -- what is used is here
-used-of : (x : Exchange) (s : List ℕ) (r : Read) → read_message x s ≡ r → used_of r ≤ length s
+used-of : (x : Exchange) (s : List ℕ) (r : Answer) → read_message x s ≡ r → used_of r ≤ length s
 unfolding used_of
-used-of x s Waiting e = omega arith
-used-of x s InvalidId e = omega arith
-used-of x s DataTooLarge e = omega arith
-used-of x s (Whole m at n used) e = let a = (says x s m at n used e).known in omega (arith, a.used-is, a.whole)
+used-of x s (Ok None) e = omega arith
+used-of x s (Err r) e = omega arith
+used-of x s (Ok (Some w)) e = let a = (says x s w e).known in omega (arith, a.used-is, a.whole)
 
 pub used-within : (x : Exchange) (s : List ℕ) → used_of (read_message x s) ≤ length s
 used-within x s = used-of x s (read_message x s) refl

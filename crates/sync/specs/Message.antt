@@ -1,19 +1,19 @@
 -- The sync messages from bytes (SYNC.TXT; docs/SCOPE.md, 10 and 13, where it is silent). Assumes nothing.
-use Rattle.std.specs.Prelude.{ℕ, ◌+◌, cond, List, ltb, length}
+use Rattle.std.specs.Prelude.{ℕ, ◌+◌, cond, List, ltb, length, Option, Some, None, Result, Ok, Err}
 use Rattle.le.specs.Le.{num_of, signed, part}
 use Rattle.exchange.specs.declared.SyncId.{SyncId}
 use Rattle.exchange.specs.declared.Layout.{Layout}
 use Rattle.exchange.specs.declared.Layout.TheVariants.{Text, Number, Stat, Entry, End, StatV2 as WideStat, EntryV2 as WideEntry, EndV2 as WideEnd}
-use Rattle.exchange.specs.declared.Found.{Found}
-use Rattle.exchange.specs.declared.Found.TheVariants.{Known, Unknown}
 use Rattle.exchange.specs.declared.Exchange.{Exchange}
 use Rattle.sync.specs.declared.StatV1.{StatV1}
 use Rattle.sync.specs.declared.StatV2.{StatV2}
 use Rattle.sync.specs.declared.Fields.{Fields}
 use Rattle.sync.specs.declared.Fields.TheVariants.{Text as TextFields, Number as NumberFields, Stat as StatFields, Entry as EntryFields, End as EndFields, StatV2 as StatV2Fields, EntryV2 as EntryV2Fields, EndV2 as EndV2Fields}
-use Rattle.sync.specs.declared.Read.{Read}
-use Rattle.sync.specs.declared.Read.TheVariants.{Waiting, InvalidId, DataTooLarge, Whole}
-use Rattle.exchange.specs.Exchange.{is_over, head_of, found_of}
+use Rattle.sync.specs.declared.Whole.{Whole}
+use Rattle.sync.specs.declared.ReadError.{ReadError}
+use Rattle.sync.specs.declared.ReadError.TheVariants.{InvalidId, DataTooLarge}
+use Rattle.refusal.specs.Refusal.{read_number_of}
+use Rattle.exchange.specs.Exchange.{Row, is_over, head_of, found_of}
 
 -- mode, size and time behind the id (SYNC.TXT, LIST, of a DENT; docs/SCOPE.md, 10, of a STAT reply)
 unfoldable pub stat_of : List ℕ → StatV1
@@ -58,33 +58,48 @@ length_of WideStat s = 0
 length_of WideEntry s = num_of (part s 72 4)
 length_of WideEnd s = 0
 
+-- what received bytes begin with: a message, none yet, or a refusal
+abbrev pub Answer : Type 0
+Answer = Result (Option Whole) ReadError
+
+-- the message of a known id, with the text behind its head
+abbrev pub whole_of : List ℕ → SyncId → Layout → Whole
+whole_of s id k =
+    record {
+      message = record { id = id; fields = fields_of k s };
+      at = head_of k;
+      length = length_of k s;
+      used = head_of k + length_of k s;
+    }
+
 -- once the id is known: waiting for the head, 15, waiting for the text
-unfoldable pub known_of : List ℕ → SyncId → Layout → Read
+unfoldable pub known_of : List ℕ → SyncId → Layout → Answer
 known_of s id k =
-    cond (ltb (length s) (head_of k)) Waiting
-    (cond (is_over id (length_of k s)) DataTooLarge
-    (cond (ltb (length s) (head_of k + length_of k s)) Waiting
-    (Whole (record { id = id; fields = fields_of k s }) (head_of k) (length_of k s) (head_of k + length_of k s))))
+    cond (ltb (length s) (head_of k)) (Ok None)
+    (cond (is_over id (length_of k s)) (Err DataTooLarge)
+    (cond (ltb (length s) (head_of k + length_of k s)) (Ok None)
+    (Ok (Some (whole_of s id k)))))
 
 -- 14, or what the known id gives
-unfoldable pub named_of : List ℕ → Found → Read
-named_of s (Known id k) = known_of s id k
-named_of s Unknown = InvalidId
+unfoldable pub named_of : List ℕ → Option Row → Answer
+named_of s (Some (id, k)) = known_of s id k
+named_of s None = Err InvalidId
 
 -- under 4 bytes: waiting; then the id decides
-unfoldable pub read_message : Exchange → List ℕ → Read
-read_message x s = cond (ltb (length s) 4) Waiting (named_of s (found_of x (num_of (part s 0 4))))
+unfoldable pub read_message : Exchange → List ℕ → Answer
+read_message x s = cond (ltb (length s) 4) (Ok None) (named_of s (found_of x (num_of (part s 0 4))))
+
+-- the number of a refusal
+unfoldable pub error_number : ReadError → ℕ
+error_number InvalidId = 14
+error_number DataTooLarge = 15
 
 -- the number of an answer: a refusal's own, 100 for waiting, 0 for a message
-unfoldable pub read_number : Read → ℕ
-read_number Waiting = 100
-read_number InvalidId = 14
-read_number DataTooLarge = 15
-read_number (Whole m at n used) = 0
+abbrev pub read_number : Answer → ℕ
+read_number = read_number_of error_number
 
 -- bytes used: those of a message with its text, none otherwise
-unfoldable pub used_of : Read → ℕ
-used_of Waiting = 0
-used_of InvalidId = 0
-used_of DataTooLarge = 0
-used_of (Whole m at n used) = used
+unfoldable pub used_of : Answer → ℕ
+used_of (Ok (Some w)) = w.used
+used_of (Ok None) = 0
+used_of (Err e) = 0

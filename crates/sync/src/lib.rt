@@ -4,16 +4,17 @@
 
 ghost use Rattle.std.specs.Prelude.{◌≡◌, ◌≤◌, length};
 ghost use Rattle.exchange.specs.Exchange.{head_of};
-ghost use Rattle.sync.specs.Message.{stat_of, stat_v2_of, fields_of, length_of, known_of, read_message, read_number};
+ghost use Rattle.sync.specs.Message.{stat_of, stat_v2_of, fields_of, length_of, known_of, read_message, error_number};
 
-use exchange::{Exchange, Found, Layout, SyncId};
+use exchange::{Exchange, Layout, SyncId};
+use refusal::Numbered;
 
 // A file's type and its permissions, as one number.
-#[derive(Clone, Copy)]
+#[derive(Clone, Copy, Default)]
 pub struct FileMode(pub u32);
 
 // What a STAT reply and a DENT say of a file.
-#[derive(Clone, Copy)]
+#[derive(Clone, Copy, Default)]
 pub struct StatV1 {
     pub mode: FileMode,
     pub size: u32,
@@ -21,7 +22,7 @@ pub struct StatV1 {
 }
 
 // What a STA2 reply and a DNT2 say of a file. Times are in seconds since 1970; `mtime` is of the contents, `ctime` of the status.
-#[derive(Clone, Copy)]
+#[derive(Clone, Copy, Default)]
 pub struct StatV2 {
     pub error: u32,
     pub dev: u64,
@@ -37,6 +38,7 @@ pub struct StatV2 {
 }
 
 // The numbers of a message, but for the length of its text: one case for each layout.
+// The two stat layouts stay side by side: a trait over them would have a reader and a writer for each, as here, and as many cases.
 #[derive(Clone, Copy)]
 pub enum Fields {
     Text,
@@ -56,148 +58,138 @@ pub struct Message {
     pub fields: Fields,
 }
 
-// What received bytes begin with.
+// A message, whole. Its text is the `length` bytes from `at` on; with them it uses `used` bytes.
 #[derive(Clone, Copy)]
-pub enum Read {
-    // The message is not all there.
-    Waiting,
+pub struct Whole {
+    pub message: Message,
+    pub at: usize,
+    pub length: usize,
+    pub used: usize,
+}
+
+// Why received bytes are refused.
+#[derive(Clone, Copy, PartialEq, Eq, Debug)]
+pub enum ReadError {
     // Refusal 14: the id is not the exchange's.
     InvalidId,
     // Refusal 15: a DATA length over 65,536.
     DataTooLarge,
-    // A message. Its text is the `length` bytes from `at` on; with them it uses `used` bytes.
-    Whole {
-        message: Message,
-        at: usize,
-        length: usize,
-        used: usize,
-    },
 }
 
-impl Read {
-    // The number of the answer: a refusal's own, 100 for waiting, 0 for a message.
-    pub fn number(self) -> u32
-        ensures { result ≡ read_number self }
-    {
+impl Numbered for ReadError {
+    ghost number = { error_number };
+
+    #[tactic(auto, unfolding(crate::specs::Message::error_number))]
+    fn number(self) -> u32 {
         match self {
-            Read::Waiting => 100,
-            Read::InvalidId => 14,
-            Read::DataTooLarge => 15,
-            Read::Whole {
-                message: _,
-                at: _,
-                length: _,
-                used: _,
-            } => 0,
+            ReadError::InvalidId => 14,
+            ReadError::DataTooLarge => 15,
         }
     }
 }
 
 // Mode, size and time behind the id.
+#[tactic(auto, unfolding(crate::specs::Message::stat_of))]
 fn stat_at(s: &[u8]) -> StatV1
     requires { 16 ≤ length s.now }
     ensures { result ≡ stat_of s.now }
 {
-    let mode = FileMode(le::get_u32(s, 4));
     StatV1 {
-        mode,
-        size: le::get_u32(s, 8),
-        mtime: le::get_u32(s, 12),
+        mode: FileMode(le::get(s, 4)),
+        size: le::get(s, 8),
+        mtime: le::get(s, 12),
     }
 }
 
 // The second stat layout behind the id.
+#[tactic(auto, unfolding(crate::specs::Message::stat_v2_of))]
 fn stat_v2_at(s: &[u8]) -> StatV2
     requires { 72 ≤ length s.now }
     ensures { result ≡ stat_v2_of s.now }
 {
-    let mode = FileMode(le::get_u32(s, 24));
     StatV2 {
-        error: le::get_u32(s, 4),
-        dev: le::get_u64(s, 8),
-        ino: le::get_u64(s, 16),
-        mode,
-        nlink: le::get_u32(s, 28),
-        uid: le::get_u32(s, 32),
-        gid: le::get_u32(s, 36),
-        size: le::get_u64(s, 40),
-        atime: le::get_i64(s, 48),
-        mtime: le::get_i64(s, 56),
-        ctime: le::get_i64(s, 64),
+        error: le::get(s, 4),
+        dev: le::get(s, 8),
+        ino: le::get(s, 16),
+        mode: FileMode(le::get(s, 24)),
+        nlink: le::get(s, 28),
+        uid: le::get(s, 32),
+        gid: le::get(s, 36),
+        size: le::get(s, 40),
+        atime: le::get(s, 48),
+        mtime: le::get(s, 56),
+        ctime: le::get(s, 64),
     }
 }
 
+#[tactic(auto, unfolding(crate::specs::Message::fields_of, exchange::specs::Exchange::head_of))]
 fn fields_at(layout: Layout, s: &[u8]) -> Fields
     requires { head_of layout ≤ length s.now }
     ensures { result ≡ fields_of layout s.now }
 {
     match layout {
         Layout::Text => Fields::Text,
-        Layout::Number => Fields::Number(le::get_u32(s, 4)),
+        Layout::Number => Fields::Number(le::get(s, 4)),
         Layout::Stat => Fields::Stat(stat_at(s)),
         Layout::Entry => Fields::Entry(stat_at(s)),
-        Layout::End => Fields::End(stat_at(s), le::get_u32(s, 16)),
+        Layout::End => Fields::End(stat_at(s), le::get(s, 16)),
         Layout::StatV2 => Fields::StatV2(stat_v2_at(s)),
         Layout::EntryV2 => Fields::EntryV2(stat_v2_at(s)),
-        Layout::EndV2 => Fields::EndV2(stat_v2_at(s), le::get_u32(s, 72)),
+        Layout::EndV2 => Fields::EndV2(stat_v2_at(s), le::get(s, 72)),
     }
 }
 
 // The text's length, 0 where the layout has none.
+#[tactic(auto, unfolding(crate::specs::Message::length_of, exchange::specs::Exchange::head_of))]
 fn text_length(layout: Layout, s: &[u8]) -> usize
     requires { head_of layout ≤ length s.now }
     ensures { result ≡ length_of layout s.now }
 {
     match layout {
-        Layout::Text => le::get_u32(s, 4) as usize,
-        Layout::Number => 0,
-        Layout::Stat => 0,
-        Layout::Entry => le::get_u32(s, 16) as usize,
-        Layout::End => 0,
-        Layout::StatV2 => 0,
-        Layout::EntryV2 => le::get_u32(s, 72) as usize,
-        Layout::EndV2 => 0,
+        Layout::Text => le::get::<u32>(s, 4) as usize,
+        Layout::Entry => le::get::<u32>(s, 16) as usize,
+        Layout::EntryV2 => le::get::<u32>(s, 72) as usize,
+        Layout::Number | Layout::Stat | Layout::End | Layout::StatV2 | Layout::EndV2 => 0,
     }
 }
 
 // The answer once the id is known.
-fn read_known(received: &[u8], id: SyncId, layout: Layout) -> Read
+#[tactic(auto, unfolding(crate::specs::Message::known_of))]
+fn read_known(received: &[u8], id: SyncId, layout: Layout) -> Result<Option<Whole>, ReadError>
     ensures { result ≡ known_of received.now id layout }
 {
     let at = layout.head_length();
     if received.len() < at {
-        return Read::Waiting;
+        return Ok(None);
     }
     let length = text_length(layout, received);
     if id.is_over(length) {
-        return Read::DataTooLarge;
+        return Err(ReadError::DataTooLarge);
     }
     if received.len() - at < length {
-        return Read::Waiting;
+        return Ok(None);
     }
     let fields = fields_at(layout, received);
-    let message = Message { id, fields };
-    let used = at + length;
-    Read::Whole {
-        message,
+    Ok(Some(Whole {
+        message: Message { id, fields },
         at,
         length,
-        used,
-    }
+        used: at + length,
+    }))
 }
 
 impl Message {
-    // The message of an exchange that received bytes begin with, or why there is none.
-    pub fn read(exchange: Exchange, received: &[u8]) -> Read
+    // The message of an exchange that received bytes begin with, none where more are to come, or why they are refused.
+    #[tactic(auto, unfolding(crate::specs::Message::read_message, crate::specs::Message::named_of))]
+    pub fn read(exchange: Exchange, received: &[u8]) -> Result<Option<Whole>, ReadError>
         ensures { result ≡ read_message exchange received.now }
     {
         if received.len() < 4 {
-            return Read::Waiting;
+            return Ok(None);
         }
-        let found = exchange.find(le::get_u32(received, 0));
-        match found {
-            Found::Known(id, layout) => read_known(received, id, layout),
-            Found::Unknown => Read::InvalidId,
+        match exchange.find(le::get(received, 0)) {
+            Some((id, layout)) => read_known(received, id, layout),
+            None => Err(ReadError::InvalidId),
         }
     }
 }

@@ -1,214 +1,180 @@
-// What is said to C of the messages of the second stat layout, and such messages from what C says.
+// What is said to C of a message, and the message that C's numbers make, over the numbers that C sees; and those of the second
+// stat layout.
 #![tactic(auto)]
 
-ghost use Rattle.std.specs.Prelude.{◌≡◌, ◌≤◌, length};
+ghost use Rattle.std.specs.Prelude.{◌≡◌, ℕ, List, ◌+◌, ◌*◌, ◌≤◌, ◌++◌, length};
 ghost use Rattle.le.specs.Le.{num_of, bytes_of, put};
 ghost use Rattle.le.specs.Rows.{flat, rows};
-ghost use Rattle.sync_write.specs.Write.{no_stat_v2, stat_v2_in, Writes};
 ghost use Rattle.exchange.specs.Exchange.{found_of};
-ghost use Rattle.sync.specs.declared.Read.TheVariants.{Whole};
-ghost use Rattle.sync_v2.specs.AnswerV2.{last_in, said_v2_of, first_in, about_in, owners_in, times_in, numbers_v2, said_v2_bytes};
-ghost use Rattle.sync_v2.specs.AnswerV2.{fields_v2_from, write_found_v2};
+ghost use Rattle.exchange.specs.declared.Layout.{Layout};
+ghost use Rattle.sync.specs.declared.Fields.{Fields};
+ghost use Rattle.sync_write.specs.Write.{Writes};
+ghost use Rattle.sync_v2.specs.Said.{alone, said_of, numbers_of, said_bytes, write_found};
+ghost use Rattle.sync_v2.specs.AnswerV2.{values_v2_of, values_v2_in, fields_v2_from, stat_said};
 
-use exchange::{Exchange, Found, Layout};
-use sync::{Fields, FileMode, Message, Read, StatV2};
-use sync_write::{Written, write};
+use exchange::{Exchange, Layout};
+use sync::{Fields, Message, ReadError, StatV2, Whole};
+use sync_write::{WriteError, write};
 
-// What is said of received bytes: where the message is, its stat, and the number in the place of a name's length.
+// The numbers that C sees of a message: N, of 64 bits each.
+pub trait Numbers<const N: usize>: Copy {
+    // Those of a message's fields, 0 for what the fields have not.
+    ghost of_fields: { Fields → Self };
+
+    // The fields of a layout that they make.
+    ghost to_fields: { Layout → Self → Fields };
+
+    ghost in_order: { Self → List ℕ };
+
+    fn of_fields(fields: Fields) -> Self
+        ensures { result ≡ of_fields fields };
+
+    fn to_fields(self, layout: Layout) -> Fields
+        ensures { result ≡ to_fields layout self };
+
+    fn in_order(self) -> [u64; N]
+        ensures { result ≡ in_order self };
+}
+
+// What is said of received bytes: the bytes used, where the message's text is, its id's word, and its numbers.
 #[derive(Clone, Copy)]
-pub struct SaidV2 {
+pub struct Said<V> {
     pub used: usize,
     pub at: usize,
     pub length: usize,
     pub word: u32,
-    pub stat: StatV2,
-    pub last: u32,
+    pub values: V,
 }
 
-fn no_stat() -> StatV2
-    ensures { result ≡ no_stat_v2 }
+// Numbers alone, as they are said.
+pub fn alone<V: Copy>(values: V) -> Said<V>
+    ensures { result ≡ alone values }
 {
-    let mode = FileMode(0);
-    StatV2 {
-        error: 0,
-        dev: 0,
-        ino: 0,
-        mode,
-        nlink: 0,
-        uid: 0,
-        gid: 0,
-        size: 0,
-        atime: 0,
-        mtime: 0,
-        ctime: 0,
-    }
-}
-
-fn stat_in(fields: Fields) -> StatV2
-    ensures { result ≡ stat_v2_in fields }
-{
-    match fields {
-        Fields::Text => no_stat(),
-        Fields::Number(_) => no_stat(),
-        Fields::Stat(_) => no_stat(),
-        Fields::Entry(_) => no_stat(),
-        Fields::End(_, _) => no_stat(),
-        Fields::StatV2(stat) => stat,
-        Fields::EntryV2(stat) => stat,
-        Fields::EndV2(stat, _) => stat,
-    }
-}
-
-fn last_in(fields: Fields) -> u32
-    ensures { result ≡ last_in fields }
-{
-    match fields {
-        Fields::Text => 0,
-        Fields::Number(_) => 0,
-        Fields::Stat(_) => 0,
-        Fields::Entry(_) => 0,
-        Fields::End(_, _) => 0,
-        Fields::StatV2(_) => 0,
-        Fields::EntryV2(_) => 0,
-        Fields::EndV2(_, last) => last,
-    }
-}
-
-// A stat alone, as it is said.
-pub fn stat_said(stat: StatV2) -> SaidV2
-    ensures { result ≡ record { used = 0; at = 0; length = 0; word = 0; stat = stat; last = 0 } }
-{
-    SaidV2 {
+    Said {
         used: 0,
         at: 0,
         length: 0,
         word: 0,
-        stat,
-        last: 0,
+        values,
     }
 }
 
-fn message_said(message: Message, at: usize, length: usize, used: usize) -> SaidV2
-    ensures { result ≡ said_v2_of (Whole message at length used) }
-{
-    let id = message.id;
-    let fields = message.fields;
-    let word = id.word();
-    let stat = stat_in(fields);
-    let last = last_in(fields);
-    SaidV2 {
-        used,
-        at,
-        length,
-        word,
-        stat,
-        last,
-    }
-}
-
-pub fn said_of(read: Read) -> SaidV2
-    ensures { result ≡ said_v2_of read }
+// Where there is no message, a text's numbers are said: none but 0.
+#[tactic(auto, unfolding(crate::specs::Said::said_of))]
+pub fn said_of<V: Numbers<N>, const N: usize>(read: Result<Option<Whole>, ReadError>) -> Said<V>
+    ensures { result ≡ said_of V.of_fields read }
 {
     match read {
-        Read::Waiting => stat_said(no_stat()),
-        Read::InvalidId => stat_said(no_stat()),
-        Read::DataTooLarge => stat_said(no_stat()),
-        Read::Whole {
-            message,
-            at,
-            length,
-            used,
-        } => message_said(message, at, length, used),
+        Ok(Some(whole)) => Said {
+            used: whole.used,
+            at: whole.at,
+            length: whole.length,
+            word: whole.message.id.word(),
+            values: V::of_fields(whole.message.fields),
+        },
+        Ok(None) | Err(_) => alone(V::of_fields(Fields::Text)),
     }
 }
 
-fn put_first(answer: &mut [u8], said: SaidV2)
-    requires { 128 ≤ length answer.old }
-    ensures { answer.new ≡ put answer.old 0 (flat (bytes_of 8) (first_in said)) }
+// Two rows of numbers, one behind the other, eight bytes for each, at the start of the answer.
+fn put_rows(answer: &mut [u8], x: &[usize], y: &[u64])
+    requires { (length x.now + length y.now) * 8 ≤ length answer.old }
+    ensures put { answer.new ≡ put answer.old 0 (flat (bytes_of 8) (x.now ++ y.now)) }
+    ensures says { rows 8 num_of (length x.now + length y.now) answer.new ≡ x.now ++ y.now }
 {
-    le::put_usize(answer, 0, said.used);
-    le::put_usize(answer, 8, said.at);
-    le::put_usize(answer, 16, said.length);
-    le::put_u64(answer, 24, said.word as u64);
+    le::put_all(answer, 0, x);
+    le::put_all(answer, x.len() * 8, y);
 }
 
-fn put_about(answer: &mut [u8], stat: StatV2)
-    requires { 128 ≤ length answer.old }
-    ensures { answer.new ≡ put answer.old 32 (flat (bytes_of 8) (about_in stat)) }
+// The answer's bytes, eight for each number.
+#[tactic(auto, unfolding(crate::specs::Said::said_bytes))]
+pub fn put_said<V: Numbers<N>, const N: usize>(answer: &mut [u8], said: Said<V>)
+    requires { (4 + N) * 8 ≤ length answer.old }
+    ensures put { answer.new ≡ put answer.old 0 (said_bytes V.in_order said) }
+    ensures says { rows 8 num_of (4 + N) answer.new ≡ numbers_of V.in_order said }
 {
-    let mode = stat.mode;
-    le::put_u64(answer, 32, stat.error as u64);
-    le::put_u64(answer, 40, stat.dev);
-    le::put_u64(answer, 48, stat.ino);
-    le::put_u64(answer, 56, mode.0 as u64);
-}
-
-fn put_owners(answer: &mut [u8], stat: StatV2)
-    requires { 128 ≤ length answer.old }
-    ensures { answer.new ≡ put answer.old 64 (flat (bytes_of 8) (owners_in stat)) }
-{
-    le::put_u64(answer, 64, stat.nlink as u64);
-    le::put_u64(answer, 72, stat.uid as u64);
-    le::put_u64(answer, 80, stat.gid as u64);
-    le::put_u64(answer, 88, stat.size);
-}
-
-fn put_times(answer: &mut [u8], stat: StatV2, last: u32)
-    requires { 128 ≤ length answer.old }
-    ensures { answer.new ≡ put answer.old 96 (flat (bytes_of 8) (times_in stat last)) }
-{
-    le::put_i64(answer, 96, stat.atime);
-    le::put_i64(answer, 104, stat.mtime);
-    le::put_i64(answer, 112, stat.ctime);
-    le::put_u64(answer, 120, last as u64);
-}
-
-// The answer's 128 bytes.
-pub fn put_said(answer: &mut [u8], said: SaidV2)
-    requires { 128 ≤ length answer.old }
-    ensures { (answer.new ≡ put answer.old 0 (said_v2_bytes said)) × (rows 8 num_of 16 answer.new ≡ numbers_v2 said) }
-{
-    let stat = said.stat;
-    put_first(answer, said);
-    put_about(answer, stat);
-    put_owners(answer, stat);
-    put_times(answer, stat, said.last);
-}
-
-// The fields of a layout. A stat of the second layout makes none of the others'.
-fn fields_from(layout: Layout, stat: StatV2, last: u32) -> Fields
-    ensures { result ≡ fields_v2_from layout stat last }
-{
-    match layout {
-        Layout::Text => Fields::Text,
-        Layout::Number => Fields::Text,
-        Layout::Stat => Fields::Text,
-        Layout::Entry => Fields::Text,
-        Layout::End => Fields::Text,
-        Layout::StatV2 => Fields::StatV2(stat),
-        Layout::EntryV2 => Fields::EntryV2(stat),
-        Layout::EndV2 => Fields::EndV2(stat, last),
-    }
+    let place = [said.used, said.at, said.length, said.word as usize];
+    put_rows(answer, &place, &said.values.in_order());
 }
 
 // A message under a word, written at the start of out.
-pub fn write_found(
+#[tactic(auto, unfolding(crate::specs::Said::write_found))]
+pub fn write_found<V: Numbers<N>, const N: usize>(
     exchange: Exchange,
     word: u32,
-    stat: StatV2,
-    last: u32,
+    values: V,
     text: &[u8],
     out: &mut [u8],
-) -> Written
-    ensures { Writes (write_found_v2 exchange stat last text.now out.old (found_of exchange word)) result out.new }
+) -> Result<usize, WriteError>
+    ensures { Writes (write_found V.to_fields exchange values text.now out.old (found_of exchange word)) result out.new }
 {
-    let found = exchange.find(word);
-    match found {
-        Found::Known(id, layout) => {
-            let fields = fields_from(layout, stat, last);
-            let message = Message { id, fields };
-            write(message, exchange, text, out)
+    match exchange.find(word) {
+        Some((id, layout)) => {
+            let fields = values.to_fields(layout);
+            write(Message { id, fields }, exchange, text, out)
         }
-        Found::Unknown => Written::InvalidId,
+        None => Err(WriteError::InvalidId),
     }
+}
+
+// A stat of the second layout, and the number in the place of a name's length.
+#[derive(Clone, Copy, Default)]
+pub struct ValuesV2 {
+    pub stat: StatV2,
+    pub last: u32,
+}
+
+impl Numbers<12> for ValuesV2 {
+    ghost of_fields = { values_v2_of };
+
+    ghost to_fields = { fields_v2_from };
+
+    ghost in_order = { values_v2_in };
+
+    #[tactic(auto, unfolding(crate::specs::AnswerV2::last_in, sync_write::specs::Write::stat_v2_in))]
+    fn of_fields(fields: Fields) -> ValuesV2 {
+        match fields {
+            Fields::StatV2(stat) => ValuesV2 { stat, last: 0 },
+            Fields::EntryV2(stat) => ValuesV2 { stat, last: 0 },
+            Fields::EndV2(stat, last) => ValuesV2 { stat, last },
+            _ => ValuesV2::default(),
+        }
+    }
+
+    // A stat of the second layout makes no fields of the others'.
+    #[tactic(auto, unfolding(crate::specs::AnswerV2::fields_v2_from))]
+    fn to_fields(self, layout: Layout) -> Fields {
+        match layout {
+            Layout::StatV2 => Fields::StatV2(self.stat),
+            Layout::EntryV2 => Fields::EntryV2(self.stat),
+            Layout::EndV2 => Fields::EndV2(self.stat, self.last),
+            _ => Fields::Text,
+        }
+    }
+
+    // The stat in the order of its bytes, a time as the 64 bits that stand for it.
+    fn in_order(self) -> [u64; 12] {
+        let stat = self.stat;
+        [
+            u64::from(stat.error),
+            stat.dev,
+            stat.ino,
+            u64::from(stat.mode.0),
+            u64::from(stat.nlink),
+            u64::from(stat.uid),
+            u64::from(stat.gid),
+            stat.size,
+            stat.atime.cast_unsigned(),
+            stat.mtime.cast_unsigned(),
+            stat.ctime.cast_unsigned(),
+            u64::from(self.last),
+        ]
+    }
+}
+
+// A stat alone, as it is said.
+pub fn stat_said(stat: StatV2) -> Said<ValuesV2>
+    ensures { result ≡ stat_said stat }
+{
+    alone(ValuesV2 { stat, last: 0 })
 }

@@ -49,7 +49,7 @@ wide_back w s rest h =
     )
 
 fields_back : (w : ℕ) (f : Fields) (n : ℕ) (rest : List ℕ) → Fits f → fields_of (layout_of f) (bytes_of 4 w ++ field_bytes f n ++ rest) ≡ f
-unfolding fields_of layout_of field_bytes stat_of stat_bytes stat_v2_bytes about_bytes times_bytes numbers_of stat_v2_in bytes_of part
+unfolding fields_of field_bytes stat_of stat_bytes stat_v2_bytes about_bytes times_bytes numbers_of stat_v2_in bytes_of part
 fields_back w TextFields n rest h = refl
 fields_back w (NumberFields a) n rest h = rw (write_read 4 a (h.words 0))
 fields_back w (StatFields s) n rest h =
@@ -68,7 +68,7 @@ unfolding head_bytes
 read-fields m n rest h = fields_back (word_of m.id) m.fields n rest h
 
 length_back : (w : ℕ) (f : Fields) (n : ℕ) (rest : List ℕ) → n ≤ longest_of (layout_of f) → length_of (layout_of f) (bytes_of 4 w ++ field_bytes f n ++ rest) ≡ n
-unfolding length_of longest_of layout_of field_bytes stat_bytes stat_v2_bytes about_bytes times_bytes bytes_of part
+unfolding length_of longest_of field_bytes stat_bytes stat_v2_bytes about_bytes times_bytes bytes_of part
 length_back w TextFields n rest h = write_read 4 n (omega arith)
 length_back w (NumberFields a) n rest h = omega arith
 length_back w (StatFields s) n rest h = omega arith
@@ -85,7 +85,7 @@ read_length m n rest h = length_back (word_of m.id) m.fields n rest h
 -- ---- read, then written
 
 pub same_layout : (k : Layout) (s : List ℕ) → layout_of (fields_of k s) ≡ k
-unfolding layout_of fields_of
+unfolding fields_of
 same_layout Text s = refl
 same_layout Number s = refl
 same_layout Stat s = refl

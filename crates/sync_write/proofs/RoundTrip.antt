@@ -17,13 +17,12 @@ use Rattle.le.proofs.Parts.{by-test, length_part, part-put-same}
 use Rattle.exchange.specs.declared.Layout.{Layout}
 use Rattle.exchange.specs.declared.Layout.TheVariants.{Text, Number, Stat, Entry, End, StatV2, EntryV2, EndV2}
 use Rattle.exchange.specs.declared.SyncId.{SyncId}
-use Rattle.exchange.specs.declared.Found.{Found}
-use Rattle.exchange.specs.declared.Found.TheVariants.{Known, Unknown}
+use Rattle.std.specs.Prelude.{Option, Some, None, Ok, Err}
 use Rattle.exchange.specs.declared.Exchange.{Exchange}
 use Rattle.sync.specs.declared.Message.{Message}
-use Rattle.sync.specs.declared.Read.TheVariants.{InvalidId, DataTooLarge, Whole}
-use Rattle.sync_write.specs.declared.Written.TheVariants.{Bytes as Written-as-Bytes}
-use Rattle.exchange.specs.Exchange.{word_of, found_of, head_of, longest_of, layout_number, is_over}
+use Rattle.sync.specs.declared.Whole.{Whole}
+use Rattle.sync.specs.declared.ReadError.TheVariants.{InvalidId, DataTooLarge}
+use Rattle.exchange.specs.Exchange.{Row, word_of, found_of, head_of, longest_of, layout_number, is_over}
 use Rattle.sync.specs.Message.{fields_of, length_of, known_of, named_of, read_message}
 use Rattle.sync_write.specs.Write.{layout_of, is_other, head_bytes, message_bytes, Fits, Composed, write_known, write_named, write_message}
 use Rattle.sync.proofs.ReadLaws.{KnownSays, says}
@@ -34,25 +33,25 @@ use Rattle.sync_write.proofs.FieldLaws.{read_word, read-fields, read_length, sam
 -- ---- writing, then reading
 
 pub record WrittenSays (x : Exchange) (m : Message) (text out : List ℕ) (n : ℕ) : Type 0 where
-  pub found : found_of x (word_of m.id) ≡ Known m.id (layout_of m.fields)
+  pub found : found_of x (word_of m.id) ≡ Some (m.id, layout_of m.fields)
   pub small : is_over m.id (length text) ≡ false
   pub long : length text ≤ longest_of (layout_of m.fields)
   pub room : head_of (layout_of m.fields) + length text ≤ length out
   pub count-is : n ≡ head_of (layout_of m.fields) + length text
   pub out-is : (write_message x m text out).out ≡ put out 0 (message_bytes m text)
 
-known_written : (x : Exchange) (m : Message) (text out : List ℕ) (n : ℕ) (id : SyncId) (k : Layout) → found_of x (word_of m.id) ≡ Known id k
-    → (write_known k m text out).result ≡ Written-as-Bytes n → write_message x m text out ≡ write_known k m text out → WrittenSays x m text out n
+known_written : (x : Exchange) (m : Message) (text out : List ℕ) (n : ℕ) (id : SyncId) (k : Layout) → found_of x (word_of m.id) ≡ Some (id, k)
+    → (write_known k m text out).result ≡ Ok n → write_message x m text out ≡ write_known k m text out → WrittenSays x m text out n
 unfolding write_known
 known_written x m text out n id k g e w =
     by-test (is_other k m.fields)
-    (λ t. let f = rw t at e in let z : ◌≡◌ {A = ℕ} 0 1 = cc in absurd (omega arith))
+    (λ t. let f = rw t at e in cc)
     (λ t₁. by-test (is_over m.id (length text))
-    (λ t. let f = rw (t₁, t) at e in let z : ◌≡◌ {A = ℕ} 0 1 = cc in absurd (omega arith))
+    (λ t. let f = rw (t₁, t) at e in cc)
     (λ t₂. by-test (ltb (longest_of k) (length text))
-    (λ t. let f = rw (t₁, t₂, t) at e in let z : ◌≡◌ {A = ℕ} 0 1 = cc in absurd (omega arith))
+    (λ t. let f = rw (t₁, t₂, t) at e in cc)
     (λ t₃. by-test (ltb (length out) (head_of k + length text))
-    (λ t. let f = rw (t₁, t₂, t₃, t) at e in let z : ◌≡◌ {A = ℕ} 0 1 = cc in absurd (omega arith))
+    (λ t. let f = rw (t₁, t₂, t₃, t) at e in cc)
     (λ t₄. let f = rw (t₁, t₂, t₃, t₄) at e in
     let o = rw (t₁, t₂, t₃, t₄) at w in
     let own = sym (own-layout k m.fields t₁) in
@@ -65,19 +64,19 @@ known_written x m text out n id k g e w =
       out-is = ap (λ (q : Composed). q.out) o;
     }))))
 
-named-written : (x : Exchange) (m : Message) (text out : List ℕ) (n : ℕ) (f : Found) → found_of x (word_of m.id) ≡ f
-    → (write_named m text out f).result ≡ Written-as-Bytes n → write_message x m text out ≡ write_named m text out f → WrittenSays x m text out n
+named-written : (x : Exchange) (m : Message) (text out : List ℕ) (n : ℕ) (f : Option Row) → found_of x (word_of m.id) ≡ f
+    → (write_named m text out f).result ≡ Ok n → write_message x m text out ≡ write_named m text out f → WrittenSays x m text out n
 unfolding write_named
-named-written x m text out n Unknown g e w = let z : ◌≡◌ {A = ℕ} 0 1 = cc in absurd (omega arith)
-named-written x m text out n (Known id k) g e w = known_written x m text out n id k g e w
+named-written x m text out n None g e w = cc
+named-written x m text out n (Some (id, k)) g e w = known_written x m text out n id k g e w
 
-pub written-says : (x : Exchange) (m : Message) (text out : List ℕ) (n : ℕ) → (write_message x m text out).result ≡ Written-as-Bytes n → WrittenSays x m text out n
+pub written-says : (x : Exchange) (m : Message) (text out : List ℕ) (n : ℕ) → (write_message x m text out).result ≡ Ok n → WrittenSays x m text out n
 unfolding write_message
 written-says x m text out n e = named-written x m text out n (found_of x (word_of m.id)) refl e refl
 
 pub record FrameComesBack (x : Exchange) (m : Message) (text : List ℕ) (n : ℕ) (s : List ℕ) : Type 0 where
   pub at : ℕ
-  pub read_is : read_message x s ≡ Whole m at (length text) n
+  pub read_is : read_message x s ≡ Ok (Some (record { message = m; at = at; length = length text; used = n }))
   pub text-is : part s at (length text) ≡ text
 
 pub message-length : (m : Message) (text : List ℕ) → length (message_bytes m text) ≡ head_of (layout_of m.fields) + length text
@@ -112,9 +111,14 @@ module _ (m : Message) (text rest : List ℕ) where
       )
 
   -- they are read as that message
-  pub not-refused : (x : Exchange) → Fits m.fields → found_of x (word_of m.id) ≡ Known m.id (layout_of m.fields)
+  pub not-refused : (x : Exchange) → Fits m.fields → found_of x (word_of m.id) ≡ Some (m.id, layout_of m.fields)
       → is_over m.id (length text) ≡ false → length text ≤ longest_of (layout_of m.fields)
-      → read_message x (message_bytes m text ++ rest) ≡ Whole m (head_of (layout_of m.fields)) (length text) (head_of (layout_of m.fields) + length text)
+      → read_message x (message_bytes m text ++ rest) ≡ Ok (Some (record {
+        message = m;
+        at = head_of (layout_of m.fields);
+        length = length text;
+        used = head_of (layout_of m.fields) + length text;
+      }))
   unfolding read_message named_of known_of
   not-refused x h found small long =
       let k = layout_of m.fields in
@@ -133,7 +137,7 @@ module _ (m : Message) (text rest : List ℕ) where
       )
 
   -- what the writer refuses by 14, the reader does
-  pub foreign-read : (x : Exchange) → found_of x (word_of m.id) ≡ Unknown → read_message x (message_bytes m text ++ rest) ≡ InvalidId
+  pub foreign-read : (x : Exchange) → found_of x (word_of m.id) ≡ None → read_message x (message_bytes m text ++ rest) ≡ Err InvalidId
   unfolding read_message named_of
   foreign-read x unknown =
       let a = all_here in
@@ -141,8 +145,8 @@ module _ (m : Message) (text rest : List ℕ) where
       rw (le-ltb (length (message_bytes m text ++ rest)) 4 (omega arith), word-here, unknown)
 
   -- and so by 15
-  pub over-read : (x : Exchange) → found_of x (word_of m.id) ≡ Known m.id (layout_of m.fields) → is_over m.id (length text) ≡ true
-      → length text ≤ longest_of (layout_of m.fields) → read_message x (message_bytes m text ++ rest) ≡ DataTooLarge
+  pub over-read : (x : Exchange) → found_of x (word_of m.id) ≡ Some (m.id, layout_of m.fields) → is_over m.id (length text) ≡ true
+      → length text ≤ longest_of (layout_of m.fields) → read_message x (message_bytes m text ++ rest) ≡ Err DataTooLarge
   unfolding read_message named_of known_of
   over-read x found over long =
       let k = layout_of m.fields in
@@ -152,7 +156,7 @@ module _ (m : Message) (text rest : List ℕ) where
       rw (le-ltb (length s) 4 (omega arith), word-here, found, le-ltb (length s) (head_of k) (omega arith), length-here long, over)
 
 -- what the writer made, with anything behind it, is read as the message that was written, its text with it
-pub write_read : (x : Exchange) (m : Message) (text out : List ℕ) (n : ℕ) (rest : List ℕ) → Fits m.fields → (write_message x m text out).result ≡ Written-as-Bytes n
+pub write_read : (x : Exchange) (m : Message) (text out : List ℕ) (n : ℕ) (rest : List ℕ) → Fits m.fields → (write_message x m text out).result ≡ Ok n
     → FrameComesBack x m text n (take n (write_message x m text out).out ++ rest)
 unfolding part
 write_read x m text out n rest h e =
@@ -191,35 +195,36 @@ joined-parts : (s : List ℕ) (at n : ℕ) → part s 0 at ++ part s at n ≡ ta
 unfolding part
 joined-parts s at n = rw (take-add at n s)
 
-known-back : (x : Exchange) (s : List ℕ) (m : Message) (at n used : ℕ) (out : List ℕ) (k : Layout) → Bytes s → found_of x (num_of (part s 0 4)) ≡ Known m.id k
-    → KnownSays s m.id k m at n used → used ≤ length out
-    → write_message x m (part s at n) out ≡ record { result = Written-as-Bytes used; out = put out 0 (take used s) }
+known-back : (x : Exchange) (s : List ℕ) (w : Whole) (out : List ℕ) (k : Layout) → Bytes s → found_of x (num_of (part s 0 4)) ≡ Some (w.message.id, k)
+    → KnownSays s w.message.id k w → w.used ≤ length out
+    → write_message x w.message (part s w.at w.length) out ≡ record { result = Ok w.used; out = put out 0 (take w.used s) }
 unfolding write_message write_named write_known message_bytes
-known-back x s m at n used out k h f a room =
-    let u : at + n ≡ used = omega (arith, a.at-is, a.length-is, a.used-is) in
+known-back x s w out k h f a room =
+    let m = w.message in
+    let u : w.at + w.length ≡ w.used = omega (arith, a.at-is, a.length-is, a.used-is) in
     let word = found_word x (num_of (part s 0 4)) m.id k f in
-    let found : found_of x (word_of m.id) ≡ Known m.id k = rw (← word) f in
+    let found : found_of x (word_of m.id) ≡ Some (m.id, k) = rw (← word) f in
     let other : is_other k m.fields ≡ false = rw a.fields-are (not-other k s) in
     let fit = length-fits k s h in
-    let l : length (part s at n) ≡ n = length_part s at n (omega (arith, a.at-is, a.length-is, a.whole)) in
-    let small : is_over m.id n ≡ false = rw a.length-is a.small in
-    let head : head_bytes m n ≡ part s 0 at = rw (a.length-is, a.at-is) (head-written k m s h (omega (arith, a.whole)) word a.fields-are) in
+    let l : length (part s w.at w.length) ≡ w.length = length_part s w.at w.length (omega (arith, a.at-is, a.length-is, a.whole)) in
+    let small : is_over m.id w.length ≡ false = rw a.length-is a.small in
+    let head : head_bytes m w.length ≡ part s 0 w.at = rw (a.length-is, a.at-is) (head-written k m s h (omega (arith, a.whole)) word a.fields-are) in
     rw (
       found,
       other,
       l,
       small,
-      le-ltb (longest_of k) n (omega (arith, a.length-is)),
+      le-ltb (longest_of k) w.length (omega (arith, a.length-is)),
       ← a.at-is,
       u,
-      le-ltb (length out) used room,
+      le-ltb (length out) w.used room,
       head,
-      joined-parts s at n,
+      joined-parts s w.at w.length,
       u,
     )
 
-pub read-write : (x : Exchange) (s : List ℕ) (m : Message) (at n used : ℕ) (out : List ℕ) → Bytes s → read_message x s ≡ Whole m at n used → used ≤ length out
-    → write_message x m (part s at n) out ≡ record { result = Written-as-Bytes used; out = put out 0 (take used s) }
-read-write x s m at n used out h e room =
-    let y = says x s m at n used e in
-    known-back x s m at n used out y.layout h y.found y.known room
+pub read-write : (x : Exchange) (s : List ℕ) (w : Whole) (out : List ℕ) → Bytes s → read_message x s ≡ Ok (Some w) → w.used ≤ length out
+    → write_message x w.message (part s w.at w.length) out ≡ record { result = Ok w.used; out = put out 0 (take w.used s) }
+read-write x s w out h e room =
+    let y = says x s w e in
+    known-back x s w out y.layout h y.found y.known room

@@ -1,8 +1,7 @@
 -- Messages that were written, as what a reader of the exchange is to find. Assumes nothing.
-use Rattle.std.specs.Prelude.{ℕ, ◌≡◌, List}
+use Rattle.std.specs.Prelude.{ℕ, ◌≡◌, List, Ok}
 use Rattle.exchange.specs.declared.Exchange.{Exchange}
 use Rattle.sync.specs.Pieces.{Got}
-use Rattle.sync_write.specs.declared.Written.TheVariants.{Bytes}
 use Rattle.sync_write.specs.Write.{Fits, message_bytes, write_message}
 
 -- the bytes of a message with its text
@@ -14,4 +13,4 @@ pub record Sent (x : Exchange) (g : Got) : Type 0 where
   pub fits : Fits g.got.fields
   pub buffer : List ℕ
   pub count : ℕ
-  pub was-written : (write_message x g.got g.text buffer).result ≡ Bytes count
+  pub was-written : (write_message x g.got g.text buffer).result ≡ Ok count

@@ -1,23 +1,22 @@
 -- The sync messages to bytes (SYNC.TXT; docs/SCOPE.md, 10 and 13, where it is silent). Assumes nothing.
-use Rattle.std.specs.Prelude.{ℕ, ◌+◌, ◌≤◌, ◌<◌, ◌^◌, ◌≡◌, Bool, cond, not, List, [], ◌∷◌, ◌++◌, ltb, eqb, pos, length, get_or}
+use Rattle.std.specs.Prelude.{ℕ, ◌+◌, ◌≤◌, ◌<◌, ◌^◌, ◌≡◌, Bool, cond, not, List, [], ◌∷◌, ◌++◌, ltb, eqb, pos, length, get_or, Option, Some, None, Result, Ok, Err}
 use Rattle.std.specs.Int.Signed.{mag}
 use Rattle.le.specs.Le.{bytes_of, unsigned, put}
 use Rattle.exchange.specs.declared.Layout.{Layout}
 use Rattle.exchange.specs.declared.Layout.TheVariants.{Text, Number, Stat, Entry, End, StatV2 as WideStat, EntryV2 as WideEntry, EndV2 as WideEnd}
-use Rattle.exchange.specs.declared.Found.{Found}
-use Rattle.exchange.specs.declared.Found.TheVariants.{Known, Unknown}
 use Rattle.exchange.specs.declared.Exchange.{Exchange}
 use Rattle.sync.specs.declared.StatV1.{StatV1}
 use Rattle.sync.specs.declared.StatV2.{StatV2}
 use Rattle.sync.specs.declared.Fields.{Fields}
 use Rattle.sync.specs.declared.Fields.TheVariants.{Text as TextFields, Number as NumberFields, Stat as StatFields, Entry as EntryFields, End as EndFields, StatV2 as StatV2Fields, EntryV2 as EntryV2Fields, EndV2 as EndV2Fields}
 use Rattle.sync.specs.declared.Message.{Message}
-use Rattle.sync_write.specs.declared.Written.{Written}
-use Rattle.sync_write.specs.declared.Written.TheVariants.{Bytes, OutShort, InvalidId as NotWritten, DataTooLarge as TooLarge}
-use Rattle.exchange.specs.Exchange.{word_of, is_over, head_of, longest_of, layout_number, found_of}
+use Rattle.sync_write.specs.declared.WriteError.{WriteError}
+use Rattle.sync_write.specs.declared.WriteError.TheVariants.{InvalidId, DataTooLarge, OutShort}
+use Rattle.refusal.specs.Refusal.{number_of}
+use Rattle.exchange.specs.Exchange.{Row, word_of, is_over, head_of, longest_of, layout_number, found_of}
 
 -- the layout that has these fields
-unfoldable pub layout_of : Fields → Layout
+abbrev pub layout_of : Fields → Layout
 layout_of TextFields = Text
 layout_of (NumberFields n) = Number
 layout_of (StatFields s) = Stat
@@ -134,6 +133,10 @@ pub record Room (out : List ℕ) (m : Message) (text : List ℕ) : Type 0 where
   pub small : length text ≤ 0xffff_ffff
   pub fits : head_of (layout_of m.fields) + length text ≤ length out
 
+-- what writing answers: the bytes written, or a refusal
+abbrev pub Written : Type 0
+Written = Result ℕ WriteError
+
 -- what writing gives: its answer, and the outgoing bytes after it
 pub record Composed : Type 0 where
   pub result : Written
@@ -142,16 +145,16 @@ pub record Composed : Type 0 where
 -- fields of another layout are refused by 14, data over the maximum by 15, a text past its length's field and a short buffer by 9
 unfoldable pub write_known : Layout → Message → List ℕ → List ℕ → Composed
 write_known k m text out =
-    cond (is_other k m.fields) (record { result = NotWritten; out = out })
-    (cond (is_over m.id (length text)) (record { result = TooLarge; out = out })
-    (cond (ltb (longest_of k) (length text)) (record { result = OutShort; out = out })
-    (cond (ltb (length out) (head_of k + length text)) (record { result = OutShort; out = out })
-    (record { result = Bytes (head_of k + length text); out = put out 0 (message_bytes m text) }))))
+    cond (is_other k m.fields) (record { result = Err InvalidId; out = out })
+    (cond (is_over m.id (length text)) (record { result = Err DataTooLarge; out = out })
+    (cond (ltb (longest_of k) (length text)) (record { result = Err OutShort; out = out })
+    (cond (ltb (length out) (head_of k + length text)) (record { result = Err OutShort; out = out })
+    (record { result = Ok (head_of k + length text); out = put out 0 (message_bytes m text) }))))
 
 -- 14 for an id that is not the exchange's, or what its layout gives
-unfoldable pub write_named : Message → List ℕ → List ℕ → Found → Composed
-write_named m text out (Known id k) = write_known k m text out
-write_named m text out Unknown = record { result = NotWritten; out = out }
+unfoldable pub write_named : Message → List ℕ → List ℕ → Option Row → Composed
+write_named m text out (Some (id, k)) = write_known k m text out
+write_named m text out None = record { result = Err InvalidId; out = out }
 
 -- writing a message of an exchange with this text to out
 unfoldable pub write_message : Exchange → Message → List ℕ → List ℕ → Composed
@@ -162,9 +165,12 @@ pub record Writes (o : Composed) (r : Written) (out : List ℕ) : Type 0 where
   pub result-is : r ≡ o.result
   pub out-is : out ≡ o.out
 
+-- the number of a refusal
+unfoldable pub error_number : WriteError → ℕ
+error_number InvalidId = 14
+error_number DataTooLarge = 15
+error_number OutShort = 9
+
 -- the number of its answer: a refusal's own, 0 for a message
-unfoldable pub written_number : Written → ℕ
-written_number (Bytes n) = 0
-written_number NotWritten = 14
-written_number TooLarge = 15
-written_number OutShort = 9
+abbrev pub written_number : Written → ℕ
+written_number = number_of error_number

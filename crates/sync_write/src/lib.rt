@@ -4,35 +4,33 @@
 ghost use Rattle.std.specs.Prelude.{◌≡◌, ◌≤◌, length};
 ghost use Rattle.le.specs.Le.{put};
 ghost use Rattle.exchange.specs.Exchange.{head_of};
-ghost use Rattle.sync_write.specs.Write.{layout_of, is_other, stat_bytes, about_bytes, times_bytes, stat_v2_bytes, field_bytes, message_bytes};
-ghost use Rattle.sync_write.specs.Write.{Room, write_known, write_message, Writes, written_number};
+ghost use Rattle.sync_write.specs.Write.{layout_of, stat_bytes, stat_v2_bytes, field_bytes, message_bytes};
+ghost use Rattle.sync_write.specs.Write.{Room, write_known, write_message, Writes, error_number};
 
-use exchange::{Exchange, Found, Layout};
+use exchange::{Exchange, Layout};
+use refusal::Numbered;
 use sync::{Fields, Message, StatV1, StatV2};
 
-// What became of a message that was to be written.
-#[derive(Clone, Copy)]
-pub enum Written {
-    // Its length.
-    Bytes(usize),
-    // Refusal 14.
+// Why a message is not written.
+#[derive(Clone, Copy, PartialEq, Eq, Debug)]
+pub enum WriteError {
+    // Refusal 14: the id is not the exchange's, or the fields are another layout's.
     InvalidId,
-    // Refusal 15.
+    // Refusal 15: a DATA of over 65,536 bytes.
     DataTooLarge,
     // Refusal 9: the buffer is too short, or the text too long for its length's field.
     OutShort,
 }
 
-impl Written {
-    // The number of the answer: a refusal's own, 0 for a message.
-    pub fn number(self) -> u32
-        ensures { result ≡ written_number self }
-    {
+impl Numbered for WriteError {
+    ghost number = { error_number };
+
+    #[tactic(auto, unfolding(crate::specs::Write::error_number))]
+    fn number(self) -> u32 {
         match self {
-            Written::Bytes(_) => 0,
-            Written::InvalidId => 14,
-            Written::DataTooLarge => 15,
-            Written::OutShort => 9,
+            WriteError::InvalidId => 14,
+            WriteError::DataTooLarge => 15,
+            WriteError::OutShort => 9,
         }
     }
 }
@@ -52,129 +50,114 @@ fn layout_of(fields: Fields) -> Layout
     }
 }
 
-// Whether these are another layout's fields.
-fn is_other(layout: Layout, fields: Fields) -> bool
-    ensures { result ≡ is_other layout fields }
-{
-    layout.number() != layout_of(fields).number()
-}
-
+#[tactic(auto, using(crate::proofs::WriteLaws::flat_three))]
 fn put_stat(out: &mut [u8], stat: StatV1)
     requires { 16 ≤ length out.old }
     ensures { out.new ≡ put out.old 4 (stat_bytes stat) }
 {
-    let mode = stat.mode;
-    le::put_u32(out, 4, mode.0);
-    le::put_u32(out, 8, stat.size);
-    le::put_u32(out, 12, stat.mtime);
+    le::put_all(out, 4, &[stat.mode.0, stat.size, stat.mtime]);
 }
 
-fn put_about(out: &mut [u8], stat: StatV2)
-    requires { 72 ≤ length out.old }
-    ensures { out.new ≡ put out.old 4 (about_bytes stat) }
-{
-    let mode = stat.mode;
-    le::put_u32(out, 4, stat.error);
-    le::put_u64(out, 8, stat.dev);
-    le::put_u64(out, 16, stat.ino);
-    le::put_u32(out, 24, mode.0);
-    le::put_u32(out, 28, stat.nlink);
-    le::put_u32(out, 32, stat.uid);
-    le::put_u32(out, 36, stat.gid);
-}
-
-fn put_times(out: &mut [u8], stat: StatV2)
-    requires { 72 ≤ length out.old }
-    ensures { out.new ≡ put out.old 40 (times_bytes stat) }
-{
-    le::put_u64(out, 40, stat.size);
-    le::put_i64(out, 48, stat.atime);
-    le::put_i64(out, 56, stat.mtime);
-    le::put_i64(out, 64, stat.ctime);
-}
-
+#[tactic(auto, using(crate::proofs::WriteLaws::put_eleven))]
 fn put_stat_v2(out: &mut [u8], stat: StatV2)
     requires { 72 ≤ length out.old }
     ensures { out.new ≡ put out.old 4 (stat_v2_bytes stat) }
 {
-    put_about(out, stat);
-    put_times(out, stat);
+    le::put(out, 4, stat.error);
+    le::put(out, 8, stat.dev);
+    le::put(out, 16, stat.ino);
+    le::put(out, 24, stat.mode.0);
+    le::put(out, 28, stat.nlink);
+    le::put(out, 32, stat.uid);
+    le::put(out, 36, stat.gid);
+    le::put(out, 40, stat.size);
+    le::put(out, 48, stat.atime);
+    le::put(out, 56, stat.mtime);
+    le::put(out, 64, stat.ctime);
 }
 
-// What stands between the id and the text, whose length is given.
+// What stands between the id and the text, whose length is given. Both stat layouts have their three cases: what differs is the writer
+// and the place behind it, and with a trait for these two the match would be as long.
+#[tactic(auto, using(crate::proofs::WriteLaws::put_rules), unfolding(crate::specs::Write::field_bytes, exchange::specs::Exchange::head_of))]
 fn put_fields(out: &mut [u8], fields: Fields, len: u32)
     requires { head_of (layout_of fields) ≤ length out.old }
     ensures { out.new ≡ put out.old 4 (field_bytes fields len) }
 {
     match fields {
-        Fields::Text => le::put_u32(out, 4, len),
-        Fields::Number(n) => le::put_u32(out, 4, n),
+        Fields::Text => le::put(out, 4, len),
+        Fields::Number(n) => le::put(out, 4, n),
         Fields::Stat(stat) => put_stat(out, stat),
         Fields::Entry(stat) => {
             put_stat(out, stat);
-            le::put_u32(out, 16, len);
+            le::put(out, 16, len);
         }
         Fields::End(stat, last) => {
             put_stat(out, stat);
-            le::put_u32(out, 16, last);
+            le::put(out, 16, last);
         }
         Fields::StatV2(stat) => put_stat_v2(out, stat),
         Fields::EntryV2(stat) => {
             put_stat_v2(out, stat);
-            le::put_u32(out, 72, len);
+            le::put(out, 72, len);
         }
         Fields::EndV2(stat, last) => {
             put_stat_v2(out, stat);
-            le::put_u32(out, 72, last);
+            le::put(out, 72, last);
         }
     }
 }
 
 // A message with its text, at the start of out.
+#[tactic(auto, using(crate::proofs::WriteLaws::message_rules))]
 fn put_message(out: &mut [u8], message: Message, text: &[u8])
     requires { Room out.old message text.now }
     ensures { out.new ≡ put out.old 0 (message_bytes message text.now) }
 {
-    let id = message.id;
-    let fields = message.fields;
-    let at = layout_of(fields).head_length();
-    le::put_u32(out, 0, id.word());
-    put_fields(out, fields, text.len() as u32);
+    let at = layout_of(message.fields).head_length();
+    le::put(out, 0, message.id.word());
+    put_fields(out, message.fields, text.len() as u32);
     le::copy_at(out, at, text);
 }
 
 // The answer once the id's layout is known.
-fn write_known(layout: Layout, message: Message, text: &[u8], out: &mut [u8]) -> Written
+#[tactic(auto, using(crate::proofs::WriteLaws::write_rules), unfolding(crate::specs::Write::write_known, crate::specs::Write::is_other))]
+fn write_known(
+    layout: Layout,
+    message: Message,
+    text: &[u8],
+    out: &mut [u8],
+) -> Result<usize, WriteError>
     ensures { Writes (write_known layout message text.now out.old) result out.new }
 {
-    let id = message.id;
-    let fields = message.fields;
-    let len = text.len();
-    if is_other(layout, fields) {
-        return Written::InvalidId;
+    if layout != layout_of(message.fields) {
+        return Err(WriteError::InvalidId);
     }
-    if id.is_over(len) {
-        return Written::DataTooLarge;
+    if message.id.is_over(text.len()) {
+        return Err(WriteError::DataTooLarge);
     }
-    if len > layout.longest() {
-        return Written::OutShort;
+    if text.len() > layout.longest() {
+        return Err(WriteError::OutShort);
     }
-    let end = layout.head_length() + len;
+    let end = layout.head_length() + text.len();
     if out.len() < end {
-        return Written::OutShort;
+        return Err(WriteError::OutShort);
     }
     put_message(out, message, text);
-    Written::Bytes(end)
+    Ok(end)
 }
 
 // A message with its text, written at the start of out where it fits.
-pub fn write(message: Message, exchange: Exchange, text: &[u8], out: &mut [u8]) -> Written
+#[tactic(auto, unfolding(crate::specs::Write::write_message, crate::specs::Write::write_named))]
+pub fn write(
+    message: Message,
+    exchange: Exchange,
+    text: &[u8],
+    out: &mut [u8],
+) -> Result<usize, WriteError>
     ensures { Writes (write_message exchange message text.now out.old) result out.new }
 {
-    let id = message.id;
-    let found = exchange.find(id.word());
-    match found {
-        Found::Known(_, layout) => write_known(layout, message, text, out),
-        Found::Unknown => Written::InvalidId,
+    match exchange.find(message.id.word()) {
+        Some((_, layout)) => write_known(layout, message, text, out),
+        None => Err(WriteError::InvalidId),
     }
 }

@@ -1,5 +1,6 @@
 -- Laws of the channel table. Assumes nothing.
-use Rattle.std.proofs.Common.{◌≡◌, ℕ, suc, ◌+◌, ◌<◌, ◌≤◌, Bool, true, false, cond, not, List, [], ◌∷◌, take, drop, sym, add-one, arith, le-ltb, lt-ltb}
+use Rattle.std.proofs.Common.{◌≡◌, ℕ, suc, ◌+◌, ◌<◌, ◌≤◌, Bool, true, false, cond, not, List, [], ◌∷◌, take, drop, refl, sym, add-one, arith, le-ltb, lt-ltb}
+use mir.Val.{bool_byte}
 use Rattle.config.proofs.Laws.{and-true}
 use Rattle.le.proofs.Parts.{by-test}
 use Rattle.slot.specs.declared.ChannelSlot.{ChannelSlot}
@@ -9,13 +10,17 @@ use Rattle.state.specs.declared.Header.{Header}
 use Rattle.state.specs.State.{state_of, slot_at}
 use Rattle.le.proofs.RowLaws.{walk_here, walk-over}
 use Rattle.state.proofs.StateLaws.{slot-in, state-full}
-use Rattle.table.specs.declared.Allocated.TheVariants.{Channel, NoFree}
 use Rattle.table.specs.declared.Want.TheVariants.{Empty, Remote, Live}
 use Rattle.table.specs.Table.{first, wanted_by, count_of, place_of, allocated}
+use Rattle.std.specs.Prelude.{Option, Some, None, Result, Ok, Err}
 
-pub bit-small : (t : Bool) → cond t 1 0 ≤ 1
+pub bit-small : (t : Bool) → bool_byte t ≤ 1
 bit-small true = omega arith
 bit-small false = omega arith
+
+pub bit-is : (t : Bool) → bool_byte t ≡ cond t 1 0
+bit-is true = refl
+bit-is false = refl
 
 module _ (p : ChannelSlot → Bool) (b : List ℕ) (n i : ℕ) where
   module _ (h : i < n) (k : n ≤ 64) where
@@ -50,11 +55,11 @@ module _ (p : ChannelSlot → Bool) (b : List ℕ) (n i : ℕ) where
 
 -- an empty place below channels is taken, else there is none
 module _ (h : Header) (ss : List ChannelSlot) (i : ℕ) (e : i ≡ place_of Empty h.negotiated.config.channels ss) where
-  pub allocates : i < h.negotiated.config.channels → Channel (record { slot = i; local = record { 0 = h.next_local } }) ≡ allocated h ss
+  pub allocates : i < h.negotiated.config.channels → (Ok (record { slot = i; local = record { 0 = h.next_local } })) ≡ allocated h ss
   unfolding allocated
   allocates k = rw (sym e, lt-ltb i h.negotiated.config.channels k)
 
-  pub allocates-none : h.negotiated.config.channels ≤ i → NoFree ≡ allocated h ss
+  pub allocates-none : h.negotiated.config.channels ≤ i → (Err (record {})) ≡ allocated h ss
   unfolding allocated
   allocates-none k = rw (sym e, le-ltb i h.negotiated.config.channels k)
 

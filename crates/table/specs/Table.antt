@@ -1,13 +1,13 @@
 -- The channel table (channel_table.rs): the 64 slots of a state, of which the first `channels` are used. Assumes nothing.
-use Rattle.std.specs.Prelude.{ℕ, suc, ◌+◌, ◌%◌, max, Bool, cond, not, ◌&&◌, List, [], ◌∷◌, take, ◌==◌, nat_lt, slice_index_or}
+use Rattle.refusal.specs.Refusal.{number_of}
+use Rattle.std.specs.Prelude.{ℕ, suc, ◌+◌, ◌%◌, max, Bool, cond, not, ◌&&◌, List, [], ◌∷◌, take, ◌==◌, nat_lt, slice_index_or, Option, Some, None, Result, Ok, Err}
 use Rattle.slot.specs.declared.ChannelSlot.{ChannelSlot}
 use Rattle.slot.specs.Slot.{empty_slot, is_closed}
 use Rattle.state.specs.declared.Header.{Header}
-use Rattle.table.specs.declared.Allocated.{Allocated}
-use Rattle.table.specs.declared.Allocated.TheVariants.{Channel, NoFree}
 use Rattle.table.specs.declared.ChannelId.{ChannelId}
 use Rattle.table.specs.declared.Want.{Want}
 use Rattle.table.specs.declared.Want.TheVariants.{Empty, Local, Remote, Live}
+use Rattle.table.specs.declared.NoFreeChannels.{NoFreeChannels}
 
 -- the place of the first element that passes, or the length where none does
 unfoldable pub first : {A : Type 0} → (A → Bool) → List A → ℕ
@@ -43,20 +43,19 @@ abbrev pub numbered : Header → Header
 numbered h = record { negotiated = h.negotiated; next_local = next_local_id h.next_local; pending = h.pending; queued = h.queued }
 
 -- the lowest empty place and the next number, or none
-unfoldable pub allocated : Header → List ChannelSlot → Allocated
+unfoldable pub allocated : Header → List ChannelSlot → Result ChannelId NoFreeChannels
 allocated h ss =
     cond (nat_lt (place_of Empty h.negotiated.config.channels ss) h.negotiated.config.channels)
-    (Channel (record { slot = place_of Empty h.negotiated.config.channels ss; local = record { 0 = h.next_local } }))
-    NoFree
+    (Ok (record { slot = place_of Empty h.negotiated.config.channels ss; local = record { 0 = h.next_local } }))
+    (Err (record {}))
 
 -- the slot at a place
 unfoldable pub slot_in : List ChannelSlot → ℕ → ChannelSlot
 slot_in ss i = slice_index_or ss i empty_slot
 
 -- 12: no slot is empty
-unfoldable pub allocated_number : Allocated → ℕ
-allocated_number (Channel ch) = 0
-allocated_number NoFree = 12
+abbrev pub allocated_number : Result ChannelId NoFreeChannels → ℕ
+allocated_number = number_of (λ _. 12)
 
 -- whether a channel is in the table of the first n slots: its place is below n, filled, and has its number
 abbrev pub there_in : ℕ → List ChannelSlot → ChannelId → Bool

@@ -1,11 +1,12 @@
 // The channel table: which slot is free, which one a number names.
 #![tactic(auto)]
 
-ghost use Rattle.std.specs.Prelude.{◌≡◌, ◌≤◌, length, if◌then◌else◌};
+ghost use Rattle.std.specs.Prelude.{◌≡◌, ◌≤◌, length};
 ghost use Rattle.state.specs.State.{state_len, state_of};
 ghost use Rattle.table.specs.declared.Want.TheVariants.{Local, Remote, Live};
-ghost use Rattle.table.specs.Table.{allocated_number, wanted_by, place_of, in_use, next_local_id, numbered, allocated};
+ghost use Rattle.table.specs.Table.{wanted_by, place_of, in_use, next_local_id, numbered, allocated};
 
+use refusal::Numbered;
 use slot::ids::{LocalId, RemoteId};
 use slot::{ChannelSlot, is_closed};
 use state::{Header, slot_at};
@@ -27,21 +28,16 @@ pub enum Want {
     Live(RemoteId),
 }
 
-#[derive(Clone, Copy)]
-pub enum Allocated {
-    Channel(ChannelId),
-    NoFree,
-}
+// No slot is empty.
+#[derive(Clone, Copy, Debug, PartialEq, Eq)]
+pub struct NoFreeChannels;
 
-impl Allocated {
-    // The number of the answer (docs/SCOPE.md, 6): a refusal's own, 0 where there is none.
-    pub fn number(self) -> u32
-        ensures { result ≡ allocated_number self }
-    {
-        match self {
-            Allocated::Channel(_) => 0,
-            Allocated::NoFree => 12,
-        }
+impl Numbered for NoFreeChannels {
+    ghost number = { λ _. 12 };
+
+    // docs/SCOPE.md, 6.
+    fn number(self) -> u32 {
+        12
     }
 }
 
@@ -94,13 +90,11 @@ pub fn place_below(state: &[u8], n: usize, want: Want) -> usize
     requires { (n ≤ 64) × (state_len ≤ length state.now) }
     ensures { result ≡ place_of want n (state_of state.now).slots }
 {
-    let mut i = 0;
-    while i < n {
+    for i in 0..n {
         let found = slot_at(state, i);
         if is_wanted(found, want) {
             return i;
         }
-        i += 1;
     }
     n
 }
@@ -126,7 +120,7 @@ pub fn numbered(h: Header) -> Header
 }
 
 // The lowest empty slot, and the number that its channel gets. The header is left to the caller, who stores it once.
-pub fn allocate(state: &[u8], h: Header) -> Allocated
+pub fn allocate(state: &[u8], h: Header) -> Result<ChannelId, NoFreeChannels>
     requires { (h.negotiated.config.channels ≤ 64) × (state_len ≤ length state.now) }
     ensures { result ≡ allocated h (state_of state.now).slots }
 {
@@ -135,18 +129,9 @@ pub fn allocate(state: &[u8], h: Header) -> Allocated
     let slot = place_below(state, config.channels, Want::Empty);
     if slot < config.channels {
         let local = LocalId(h.next_local);
-        return Allocated::Channel(ChannelId { slot, local });
+        return Ok(ChannelId { slot, local });
     }
-    Allocated::NoFree
-}
-
-fn one_if(test: bool) -> usize
-    ensures { result ≡ (if test then 1 else 0) }
-{
-    if test {
-        return 1;
-    }
-    0
+    Err(NoFreeChannels)
 }
 
 // Slots that hold a channel.
@@ -155,11 +140,9 @@ pub fn in_use(state: &[u8], n: usize) -> usize
     ensures { result ≡ in_use n (state_of state.now).slots }
 {
     let mut used = 0;
-    let mut i = 0;
-    while i < n {
+    for i in 0..n {
         let s = slot_at(state, i);
-        used += one_if(s.filled);
-        i += 1;
+        used += usize::from(s.filled);
     }
     used
 }

@@ -17,11 +17,8 @@ use Rattle.config.specs.declared.negotiated.RxPolicy.{RxPolicy}
 use Rattle.slot.specs.declared.ids.LocalId.{LocalId}
 use Rattle.slot.specs.declared.ids.RemoteId.{RemoteId}
 use Rattle.slot.specs.declared.ChannelSlot.{ChannelSlot}
-use Rattle.slot.specs.declared.Readied.TheVariants.{Slot, Bad}
 use Rattle.credit.specs.declared.CreditFault.{CreditFault}
 use Rattle.slot.specs.declared.ChannelFault.TheVariants.{RxOverflow, BadCredit, UnexpectedCommand}
-use Rattle.slot.specs.declared.AckDecision.{AckDecision}
-use Rattle.slot.specs.declared.AckDecision.TheVariants.{Now, Hold, Overflow, Early}
 use Rattle.slot.specs.declared.Wrote.{Wrote}
 use Rattle.slot.specs.Slot.{empty_slot, is_opening, is_failed, closed_slot, held_of, wrote_of, SlotOk}
 use Rattle.slot.proofs.Laws.{cond-true, cond-false}
@@ -36,7 +33,9 @@ use Rattle.table_dispatch.specs.declared.DispatchOutcome.{DispatchOutcome}
 use Rattle.table_dispatch.specs.declared.DispatchOutcome.TheVariants.{AckWrite, DataBuffered, CreditGranted, SlotClosed, CancelQueuedOpen, StrayReady, Unmatched}
 use Rattle.table.specs.declared.Want.TheVariants.{Local, Remote, Live}
 use Rattle.table.specs.Table.{first, wanted_by, place_of, slot_in}
-use Rattle.table_dispatch.specs.Dispatch.{left, stored, faulted, named_place, remote_place, closed_at, close_of, readied_of, granted, ready_at, stray_of, grant_of, Dispatched, with, wrote_by, wrote_at, write_of, route_of, dispatch_of, Dispatches}
+use Rattle.table_dispatch.specs.Dispatch.{left, stored, faulted, named_place, remote_place, closed_at, close_of, readied_of, granted, ready_at, stray_of, grant_of, Dispatched, with, wrote_by, wrote_at, write_of, route_of, dispatch_of, Dispatches, buffered_at}
+use Rattle.std.specs.Prelude.{Option, Some, None, Result, Ok, Err}
+use Rattle.slot.specs.declared.ChannelFault.{ChannelFault}
 
 pub slot-here : (b : List ℕ) (i : ℕ) → i < 64 → slot_in (state_of b).slots i ≡ slot_at b i
 unfolding slot_in
@@ -120,12 +119,12 @@ module _ (p : RxPolicy) (i : ℕ) (s₀ s : ChannelSlot) (is : s ≡ s₀) (remo
   unfolding ready_at
   ready-failed e = ready-same ∙ cond-true (is_failed s.failed) _ _ e
 
-  pub ready-granted : (t : ChannelSlot) → is_failed s.failed ≡ false → readied_of s remote payload p ≡ Slot t
+  pub ready-granted : (t : ChannelSlot) → is_failed s.failed ≡ false → readied_of s remote payload p ≡ Ok t
       → ready_at p i s₀ remote payload ≡ stored (CreditGranted i) i t
   unfolding ready_at granted
   ready-granted t e h = ready-same ∙ cond-false (is_failed s.failed) _ _ e ∙ ap (granted i s remote) h
 
-  pub ready-bad : (f : CreditFault) (o : DispatchOutcome) → is_failed s.failed ≡ false → readied_of s remote payload p ≡ Bad f → o ≡ faulted i s remote (BadCredit f)
+  pub ready-bad : (f : CreditFault) (o : DispatchOutcome) → is_failed s.failed ≡ false → readied_of s remote payload p ≡ Err f → o ≡ faulted i s remote (BadCredit f)
       → ready_at p i s₀ remote payload ≡ left o
   unfolding ready_at granted
   ready-bad f o e h g = ready-same ∙ cond-false (is_failed s.failed) _ _ e ∙ ap (granted i s remote) h ∙ ap left (sym g)
@@ -170,11 +169,9 @@ pub dispatches-by : (d e : Dispatched) (o : DispatchOutcome) (b after rx : List 
 dispatches-by d e o b after rx h f = record { steps = steps-by d.step e.step o b after (ap (λ (x : Dispatched). x.step) h) f.steps; rx-is = f.rx-is ∙ sym (ap (λ (x : Dispatched). x.rx) h) }
 
 -- whether the payload is buffered
-abbrev takes : AckDecision → Bool
-takes (Now len) = true
-takes Hold = true
-takes Overflow = false
-takes Early = false
+abbrev takes : Result (Option ℕ) ChannelFault → Bool
+takes (Ok due) = true
+takes (Err why) = false
 
 -- a payload that is buffered fits under the cap
 module _ (s : ChannelSlot) (p : RxPolicy) (k : ℕ) where
@@ -199,11 +196,8 @@ module _ (b : List ℕ) (i : ℕ) (s : ChannelSlot) (p : RxPolicy) (k : ℕ) (w 
   sound-here : SlotOk s p.rx_cap
   sound-here = subst (λ (x : ChannelSlot). SlotOk x p.rx_cap) (sym is) ok
 
-  pub room-held : w.decision ≡ Hold → Room (2 * p.rx_cap) s.head s.buffered k
-  room-held e = room s p k sound-here (ap takes (sym (ap (λ (x : Wrote). x.decision) wrote) ∙ e))
-
-  pub room-now : (len : ℕ) → w.decision ≡ Now len → Room (2 * p.rx_cap) s.head s.buffered k
-  room-now len e = room s p k sound-here (ap takes (sym (ap (λ (x : Wrote). x.decision) wrote) ∙ e))
+  pub room-kept : (due : Option ℕ) → w.decision ≡ Ok due → Room (2 * p.rx_cap) s.head s.buffered k
+  room-kept due e = room s p k sound-here (ap takes (sym (ap (λ (x : Wrote). x.decision) wrote) ∙ e))
 
 module _ (p : RxPolicy) (i : ℕ) (s₀ s : ChannelSlot) (is : s ≡ s₀) (remote : RemoteId) (payload rx : List ℕ) where
   wrote-same : wrote_at p i s₀ remote payload rx ≡ wrote_at p i s remote payload rx
@@ -214,30 +208,27 @@ module _ (p : RxPolicy) (i : ℕ) (s₀ s : ChannelSlot) (is : s ≡ s₀) (remo
   wrote-failed e = wrote-same ∙ cond-true (is_failed s.failed) _ _ e
 
   module _ (w : Wrote) (e : is_failed s.failed ≡ false) (wrote : w ≡ wrote_of s p (length payload)) where
-    wrote-by : (d : AckDecision) → w.decision ≡ d → wrote_at p i s₀ remote payload rx ≡ wrote_by p i s remote payload rx w.slot d
+    wrote-by : (d : Result (Option ℕ) ChannelFault) → w.decision ≡ d → wrote_at p i s₀ remote payload rx ≡ wrote_by p i s remote payload rx w.slot d
     unfolding wrote_at
     wrote-by d h =
         wrote-same ∙ cond-false (is_failed s.failed) _ _ e
         ∙ ap (λ (x : Wrote). wrote_by p i s remote payload rx x.slot x.decision) (sym wrote)
         ∙ ap (wrote_by p i s remote payload rx w.slot) h
 
-    pub wrote-over : (o : DispatchOutcome) → w.decision ≡ Overflow → o ≡ faulted i s remote RxOverflow → wrote_at p i s₀ remote payload rx ≡ with (left o) rx
+    pub wrote-bad : (f : ChannelFault) (o : DispatchOutcome) → w.decision ≡ Err f → o ≡ faulted i s remote f → wrote_at p i s₀ remote payload rx ≡ with (left o) rx
     unfolding wrote_by
-    wrote-over o h f = wrote-by Overflow h ∙ ap (λ (x : DispatchOutcome). with (left x) rx) (sym f)
+    wrote-bad f o h e = wrote-by (Err f) h ∙ ap (λ (x : DispatchOutcome). with (left x) rx) (sym e)
 
-    pub wrote-early : (o : DispatchOutcome) → w.decision ≡ Early → o ≡ faulted i s remote UnexpectedCommand → wrote_at p i s₀ remote payload rx ≡ with (left o) rx
+    kept : (due : Option ℕ) → wrote_by p i s remote payload rx w.slot (Ok due) ≡ with (stored (buffered_at i s due) i w.slot) (buffered_in rx p.rx_cap i s.head s.buffered payload)
     unfolding wrote_by
-    wrote-early o h f = wrote-by Early h ∙ ap (λ (x : DispatchOutcome). with (left x) rx) (sym f)
+    kept (Some len) = refl
+    kept None = refl
 
-    pub wrote-held : (after : List ℕ) → w.decision ≡ Hold → after ≡ buffered_in rx p.rx_cap i s.head s.buffered payload
-        → wrote_at p i s₀ remote payload rx ≡ with (stored (DataBuffered i) i w.slot) after
-    unfolding wrote_by
-    wrote-held after h f = wrote-by Hold h ∙ ap (with (stored (DataBuffered i) i w.slot)) (sym f)
-
-    pub wrote-now : (len : ℕ) (after : List ℕ) → w.decision ≡ Now len → after ≡ buffered_in rx p.rx_cap i s.head s.buffered payload
-        → wrote_at p i s₀ remote payload rx ≡ with (stored (AckWrite i (record { local = s.local; remote = s.remote }) len) i w.slot) after
-    unfolding wrote_by
-    wrote-now len after h f = wrote-by (Now len) h ∙ ap (with (stored (AckWrite i (record { local = s.local; remote = s.remote }) len) i w.slot)) (sym f)
+    pub wrote-kept : (due : Option ℕ) (o : DispatchOutcome) (after : List ℕ) → w.decision ≡ Ok due → o ≡ buffered_at i s due → after ≡ buffered_in rx p.rx_cap i s.head s.buffered payload
+        → wrote_at p i s₀ remote payload rx ≡ with (stored o i w.slot) after
+    wrote-kept due o after h e f =
+        wrote-by (Ok due) h ∙ kept due ∙ ap (with (stored (buffered_at i s due) i w.slot)) (sym f)
+        ∙ ap (λ (x : DispatchOutcome). with (stored x i w.slot) after) (sym e)
 
 -- the slot that a walk stops at is what was looked for
 pub first_found : {A : Type 0} (q : A → Bool) (l : List A) (d : A) → first q l < length l → q (get_or l (first q l) d) ≡ true

@@ -17,8 +17,6 @@ use Rattle.protocol.specs.declared.packet.Packet.{Packet}
 use Rattle.slot.specs.declared.ids.LocalId.{LocalId}
 use Rattle.slot.specs.declared.ids.RemoteId.{RemoteId}
 use Rattle.slot.specs.declared.ChannelSlot.{ChannelSlot}
-use Rattle.slot.specs.declared.Readied.{Readied}
-use Rattle.slot.specs.declared.Readied.TheVariants.{Slot, Bad}
 use Rattle.slot.specs.declared.Wrote.{Wrote}
 use Rattle.slot.specs.Slot.{empty_slot, is_opening, is_failed, closed_slot, held_of, acks_now, wrote_of}
 use Rattle.slot.proofs.Kept.{pick}
@@ -39,6 +37,8 @@ use Rattle.table_dispatch.proofs.DispatchLaws.{first_found, by-named}
 use Rattle.rx_store.proofs.ShareLaws.{share_in, length-buffered}
 use Rattle.state_whole.proofs.WholeLaws.{Live, Whole, whole-live}
 use Rattle.state_whole.proofs.LiveLaws.{ReadiedLive, ready-live, wrote-live, closed-live}
+use Rattle.credit.specs.declared.CreditFault.{CreditFault}
+use Rattle.std.specs.Prelude.{Option, Some, None, Result, Ok, Err}
 
 -- the place that a walk stops at has what was looked for
 pub place_found : (w : Want) (m : ℕ) (ss : List ChannelSlot) → m ≤ length ss → place_of w m ss < m → wanted_by w (slot_in ss (place_of w m ss)) ≡ true
@@ -146,11 +146,11 @@ module _ (n : Negotiated) (h : Header) (c : Connection) (rx : List ℕ) (g : Who
   stray-fits remote local =
       pick AnswerFits (eqb remote.0 0) (λ t. tt) (λ t. pick AnswerFits (eqb local.0 0) (λ u. tt) (λ u. tt))
 
-  granted-keeps : (i : ℕ) (remote : RemoteId) (r : Readied) → Live n i (slot_in c.slots i) → ReadiedLive n i r
+  granted-keeps : (i : ℕ) (remote : RemoteId) (r : Result ChannelSlot CreditFault) → Live n i (slot_in c.slots i) → ReadiedLive n i r
       → TableKeeps n h c rx (with (granted i (slot_in c.slots i) remote r) rx)
   unfolding granted
-  granted-keeps i remote (Slot t) v u = stored-keeps (CreditGranted i) i t rx tt v u refl
-  granted-keeps i remote (Bad f) v u = left-keeps _ tt
+  granted-keeps i remote (Ok t) v u = stored-keeps (CreditGranted i) i t rx tt v u refl
+  granted-keeps i remote (Err f) v u = left-keeps _ tt
 
   readied-live : (i : ℕ) (s : ChannelSlot) (remote : RemoteId) (payload : List ℕ) → Live n i s → ReadiedLive n i (readied_of s remote payload (policy_of n))
   unfolding readied_of

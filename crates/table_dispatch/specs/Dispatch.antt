@@ -1,5 +1,5 @@
 -- What one packet from the device does to the table (channel_table.rs, `dispatch`). Assumes nothing.
-use Rattle.std.specs.Prelude.{ℕ, ◌*◌, ◌≤◌, ◌<◌, true, cond, List, [], ◌∷◌, ◌≡◌, eqb, ltb, length}
+use Rattle.std.specs.Prelude.{ℕ, ◌*◌, ◌≤◌, ◌<◌, true, cond, List, [], ◌∷◌, ◌≡◌, eqb, ltb, length, Option, Some, None, Result, Ok, Err}
 use Rattle.config.specs.declared.negotiated.RxPolicy.{RxPolicy}
 use Rattle.protocol.specs.declared.command.Command.{Command}
 use Rattle.protocol.specs.declared.command.Command.TheVariants.{Sync, Connect, Open, Ready, Close, Write, Auth, StartTls}
@@ -7,13 +7,9 @@ use Rattle.protocol.specs.declared.packet.Packet.{Packet}
 use Rattle.rx_store.specs.RxStore.{ShareFits, buffered_in}
 use Rattle.slot.specs.declared.ids.LocalId.{LocalId}
 use Rattle.slot.specs.declared.ids.RemoteId.{RemoteId}
-use Rattle.slot.specs.declared.AckDecision.{AckDecision}
-use Rattle.slot.specs.declared.AckDecision.TheVariants.{Now, Hold, Overflow, Early}
 use Rattle.slot.specs.declared.ChannelFault.{ChannelFault as Fault}
 use Rattle.slot.specs.declared.ChannelFault.TheVariants.{RxOverflow, BadCredit, UnexpectedCommand}
 use Rattle.slot.specs.declared.ChannelSlot.{ChannelSlot}
-use Rattle.slot.specs.declared.Readied.{Readied}
-use Rattle.slot.specs.declared.Readied.TheVariants.{Slot, Bad}
 use Rattle.slot.specs.Numbers.{fault_number}
 use Rattle.slot.specs.Slot.{is_opening, is_failed, closed_slot, opened_of, ready_of, wrote_of, SlotOk}
 use Rattle.state.specs.Change.{slot_to, Step, Steps}
@@ -22,6 +18,7 @@ use Rattle.table_dispatch.specs.declared.DispatchOutcome.{DispatchOutcome}
 use Rattle.table_dispatch.specs.declared.DispatchOutcome.TheVariants.{AckWrite, CreditGranted, SlotClosed, DataBuffered, IncomingOpen, CancelQueuedOpen, StrayReady, ChannelFault, Unmatched}
 use Rattle.table.specs.declared.Want.TheVariants.{Local, Remote, Live}
 use Rattle.table.specs.Table.{place_of, slot_in}
+use Rattle.credit.specs.declared.CreditFault.{CreditFault}
 
 -- nothing changes
 abbrev pub left : DispatchOutcome → Step DispatchOutcome
@@ -58,13 +55,13 @@ close_of n ss remote local =
 -- ---- OKAY
 
 -- the answer to our OPEN, or a later one
-unfoldable pub readied_of : ChannelSlot → RemoteId → List ℕ → RxPolicy → Readied
+unfoldable pub readied_of : ChannelSlot → RemoteId → List ℕ → RxPolicy → Result ChannelSlot CreditFault
 readied_of s remote payload p = cond (is_opening s.state) (opened_of s remote payload p) (ready_of s payload p)
 
 -- the slot with its credit, or what is wrong with the credit: 5, 20, 21
-unfoldable pub granted : ℕ → ChannelSlot → RemoteId → Readied → Step DispatchOutcome
-granted i s remote (Slot t) = stored (CreditGranted i) i t
-granted i s remote (Bad f) = left (faulted i s remote (BadCredit f))
+unfoldable pub granted : ℕ → ChannelSlot → RemoteId → Result ChannelSlot CreditFault → Step DispatchOutcome
+granted i s remote (Ok t) = stored (CreditGranted i) i t
+granted i s remote (Err f) = left (faulted i s remote (BadCredit f))
 
 -- for slot i, unless it failed
 unfoldable pub ready_at : RxPolicy → ℕ → ChannelSlot → RemoteId → List ℕ → Step DispatchOutcome
@@ -92,13 +89,17 @@ pub record Dispatched : Type 0 where
 abbrev pub with : Step DispatchOutcome → List ℕ → Dispatched
 with s rx = record { step = s; rx = rx }
 
+-- a WRTE that was buffered: with the length to acknowledge at once, if it is
+abbrev pub buffered_at : ℕ → ChannelSlot → Option ℕ → DispatchOutcome
+buffered_at i s (Some len) = AckWrite i (record { local = s.local; remote = s.remote }) len
+buffered_at i s None = DataBuffered i
+
 -- what the slot decided: acknowledged at once, held, over the cap (11), or too early (6)
-unfoldable pub wrote_by : RxPolicy → ℕ → ChannelSlot → RemoteId → List ℕ → List ℕ → ChannelSlot → AckDecision → Dispatched
-wrote_by p i s remote payload rx t (Now len) =
+unfoldable pub wrote_by : RxPolicy → ℕ → ChannelSlot → RemoteId → List ℕ → List ℕ → ChannelSlot → Result (Option ℕ) Fault → Dispatched
+wrote_by p i s remote payload rx t (Ok (Some len)) =
     with (stored (AckWrite i (record { local = s.local; remote = s.remote }) len) i t) (buffered_in rx p.rx_cap i s.head s.buffered payload)
-wrote_by p i s remote payload rx t Hold = with (stored (DataBuffered i) i t) (buffered_in rx p.rx_cap i s.head s.buffered payload)
-wrote_by p i s remote payload rx t Overflow = with (left (faulted i s remote RxOverflow)) rx
-wrote_by p i s remote payload rx t Early = with (left (faulted i s remote UnexpectedCommand)) rx
+wrote_by p i s remote payload rx t (Ok None) = with (stored (DataBuffered i) i t) (buffered_in rx p.rx_cap i s.head s.buffered payload)
+wrote_by p i s remote payload rx t (Err f) = with (left (faulted i s remote f)) rx
 
 -- for slot i, unless it failed
 unfoldable pub wrote_at : RxPolicy → ℕ → ChannelSlot → RemoteId → List ℕ → List ℕ → Dispatched

@@ -5,13 +5,15 @@ ghost use Rattle.std.specs.Prelude.{◌≡◌, ◌+◌, ◌*◌, ◌≤◌, ◌<
 ghost use Rattle.state.specs.Change.{Steps};
 ghost use Rattle.state.specs.State.{state_of, slot_at};
 ghost use Rattle.table_dispatch.specs.Dispatch.{outcome_number, faulted, remote_place, closed_at, close_of, readied_of, ready_at, stray_of};
-ghost use Rattle.table_dispatch.specs.Dispatch.{grant_of, wrote_at, write_of, dispatch_of, Dispatches, Walks, Share, Sound};
+ghost use Rattle.table_dispatch.specs.Dispatch.{grant_of, buffered_at, wrote_at, write_of, dispatch_of, Dispatches, Walks, Share, Sound};
 
 use config::negotiated::RxPolicy;
+use credit::CreditFault;
 use protocol::command::Command;
 use protocol::packet::Packet;
+use refusal::Numbered;
 use slot::ids::{ChannelIds, LocalId, RemoteId};
-use slot::{AckDecision, ChannelFault, ChannelSlot, Readied, is_opening};
+use slot::{ChannelFault, ChannelSlot, is_opening};
 use state::{put_slot, slot_at};
 use table::{Want, place_below};
 
@@ -103,7 +105,12 @@ fn close(state: &mut [u8], n: usize, remote: RemoteId, local: LocalId) -> Dispat
 }
 
 // What an OKAY does to a slot.
-fn readied(s: ChannelSlot, remote: RemoteId, payload: &[u8], policy: RxPolicy) -> Readied
+fn readied(
+    s: ChannelSlot,
+    remote: RemoteId,
+    payload: &[u8],
+    policy: RxPolicy,
+) -> Result<ChannelSlot, CreditFault>
     ensures { result ≡ readied_of s remote payload.now policy }
 {
     let state = s.state;
@@ -129,10 +136,9 @@ fn ready_at(
     if s.is_failed() {
         return DispatchOutcome::Unmatched;
     }
-    let granted = readied(s, remote, payload, policy);
-    match granted {
-        Readied::Bad(credit) => fault(i, s, remote, ChannelFault::BadCredit(credit)),
-        Readied::Slot(credited) => {
+    match readied(s, remote, payload, policy) {
+        Err(credit) => fault(i, s, remote, ChannelFault::BadCredit(credit)),
+        Ok(credited) => {
             put_slot(state, i, credited);
             DispatchOutcome::CreditGranted(i)
         }
@@ -172,6 +178,23 @@ fn ready(
     stray(remote, local)
 }
 
+// A WRTE was buffered: with the length to acknowledge at once, if it is.
+fn buffered(i: usize, s: ChannelSlot, due: Option<usize>) -> DispatchOutcome
+    ensures { result ≡ buffered_at i s due }
+{
+    match due {
+        None => DispatchOutcome::DataBuffered(i),
+        Some(len) => DispatchOutcome::AckWrite(
+            i,
+            ChannelIds {
+                local: s.local,
+                remote: s.remote,
+            },
+            len,
+        ),
+    }
+}
+
 // A WRTE for the slot at place i.
 fn write_at(
     state: &mut [u8],
@@ -190,12 +213,9 @@ fn write_at(
         return DispatchOutcome::Unmatched;
     }
     let wrote = slot_receive::apply_write(s, payload.len(), policy);
-    let decision = wrote.decision;
-    let t = wrote.slot;
-    match decision {
-        AckDecision::Overflow => fault(i, s, remote, ChannelFault::RxOverflow),
-        AckDecision::Early => fault(i, s, remote, ChannelFault::UnexpectedCommand),
-        AckDecision::Hold => {
+    match wrote.decision {
+        Err(why) => fault(i, s, remote, why),
+        Ok(due) => {
             rx_store::buffer(
                 rx,
                 i,
@@ -204,29 +224,8 @@ fn write_at(
                 s.buffered as usize,
                 payload,
             );
-            put_slot(state, i, t);
-            DispatchOutcome::DataBuffered(i)
-        }
-        AckDecision::Now(len) => {
-            rx_store::buffer(
-                rx,
-                i,
-                policy.rx_cap,
-                s.head as usize,
-                s.buffered as usize,
-                payload,
-            );
-            put_slot(state, i, t);
-            let local = s.local;
-            let known = s.remote;
-            DispatchOutcome::AckWrite(
-                i,
-                ChannelIds {
-                    local,
-                    remote: known,
-                },
-                len,
-            )
+            put_slot(state, i, wrote.slot);
+            buffered(i, s, due)
         }
     }
 }

@@ -38,7 +38,7 @@ pub fn send_okay(
     let remote = ids.remote;
     if delayed {
         let mut credit = [0u8; 4];
-        le::put_u32(&mut credit, 0, len);
+        le::put(&mut credit, 0, len);
         return Packet::put_at(
             out,
             at,

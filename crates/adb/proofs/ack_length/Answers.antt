@@ -1,10 +1,7 @@
+use Rattle.std.proofs.Common.{◌≡◌, refl, ◌∙◌, Some, None, unwrap_or}
 use Rattle.connection.specs.Answer.{ack_length}
 use Rattle.adb.proofs.ack_length.Goals as goal
 
-pub returns-in-Len : goal.returns-in-Len
+pub returns : goal.returns
 unfolding ack_length
-returns-in-Len c = rw c.in-Len.is
-
-pub returns-in-Nothing : goal.returns-in-Nothing
-unfolding ack_length
-returns-in-Nothing c = rw c.in-Nothing.is
+returns c = c.unwrap_or.ensures ∙ elim c.args.ack as (λ ack. unwrap_or ack 0 ≡ ack_length ack) [ Some _ ↦ refl | None ↦ refl ]

@@ -1,7 +1,6 @@
-use Rattle.adb.proofs.ExportLaws.{answer-is}
+use Rattle.adb.specs.Export.{answer_bytes}
 use Rattle.adb.proofs.answered.Goals as goal
 
 pub returns : goal.returns
-returns c =
-    let said = answer-is c.args.answer.now _ c.args.reply c.values_of.result c.values_of.ensures c.put_answer.ensures in
-    (c.number.ensures, said.0, said.1)
+unfolding answer_bytes
+returns c = let said = rw c.numbers_of.ensures at c.put_answer.ensures in (c.number.ensures, said.0, said.1)

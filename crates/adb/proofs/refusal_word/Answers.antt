@@ -1,3 +1,6 @@
+use Rattle.std.proofs.Common.{◌≡◌, ℕ, refl}
+use Rattle.connection.specs.declared.Refusal.{Refusal}
+use Rattle.connection.specs.declared.Refusal.TheVariants.{InvalidCommand, InvalidMagic, PayloadTooLarge, InvalidChecksum, BadCredit, UnexpectedCommand, BadConfig, StoreShort, OutShort, ChannelClosed, ChannelRxOverflow, NoFreeChannels, BrokenState}
 use Rattle.connection.specs.Answer.{refusal_word}
 use Rattle.adb.proofs.refusal_word.Goals as goal
 
@@ -5,50 +8,21 @@ pub returns-in-InvalidCommand : goal.returns-in-InvalidCommand
 unfolding refusal_word
 returns-in-InvalidCommand c = rw c.in-InvalidCommand.is
 
-pub returns-in-InvalidMagic : goal.returns-in-InvalidMagic
+others : (refusal : Refusal) → ((word : ℕ) → refusal ≡ InvalidCommand word → ⊥) → 0 ≡ refusal_word refusal
 unfolding refusal_word
-returns-in-InvalidMagic c = rw c.in-InvalidMagic.is
+others (InvalidCommand word) other = absurd (other word refl)
+others InvalidMagic other = refl
+others PayloadTooLarge other = refl
+others InvalidChecksum other = refl
+others (BadCredit f) other = refl
+others UnexpectedCommand other = refl
+others BadConfig other = refl
+others StoreShort other = refl
+others OutShort other = refl
+others ChannelClosed other = refl
+others ChannelRxOverflow other = refl
+others NoFreeChannels other = refl
+others BrokenState other = refl
 
-pub returns-in-PayloadTooLarge : goal.returns-in-PayloadTooLarge
-unfolding refusal_word
-returns-in-PayloadTooLarge c = rw c.in-PayloadTooLarge.is
-
-pub returns-in-InvalidChecksum : goal.returns-in-InvalidChecksum
-unfolding refusal_word
-returns-in-InvalidChecksum c = rw c.in-InvalidChecksum.is
-
-pub returns-in-BadCredit : goal.returns-in-BadCredit
-unfolding refusal_word
-returns-in-BadCredit c = rw c.in-BadCredit.is
-
-pub returns-in-UnexpectedCommand : goal.returns-in-UnexpectedCommand
-unfolding refusal_word
-returns-in-UnexpectedCommand c = rw c.in-UnexpectedCommand.is
-
-pub returns-in-BadConfig : goal.returns-in-BadConfig
-unfolding refusal_word
-returns-in-BadConfig c = rw c.in-BadConfig.is
-
-pub returns-in-StoreShort : goal.returns-in-StoreShort
-unfolding refusal_word
-returns-in-StoreShort c = rw c.in-StoreShort.is
-
-pub returns-in-OutShort : goal.returns-in-OutShort
-unfolding refusal_word
-returns-in-OutShort c = rw c.in-OutShort.is
-
-pub returns-in-ChannelClosed : goal.returns-in-ChannelClosed
-unfolding refusal_word
-returns-in-ChannelClosed c = rw c.in-ChannelClosed.is
-
-pub returns-in-ChannelRxOverflow : goal.returns-in-ChannelRxOverflow
-unfolding refusal_word
-returns-in-ChannelRxOverflow c = rw c.in-ChannelRxOverflow.is
-
-pub returns-in-NoFreeChannels : goal.returns-in-NoFreeChannels
-unfolding refusal_word
-returns-in-NoFreeChannels c = rw c.in-NoFreeChannels.is
-
-pub returns-in-BrokenState : goal.returns-in-BrokenState
-unfolding refusal_word
-returns-in-BrokenState c = rw c.in-BrokenState.is
+pub returns-in_default : goal.returns-in_default
+returns-in_default c = others c.args.refusal c.in_default.not-InvalidCommand

@@ -1,4 +1,5 @@
-use Rattle.adb_pcap.proofs.ExportLaws.{read_short, read_done}
+use Rattle.adb_pcap.proofs.ExportLaws.{small_each, read_short, read_done}
+use borrow.Author.Rules.{rules}
 use native.Mathlib.Omega.{arith}
 use Rattle.adb_pcap.proofs.adb_pcap_read_record.Goals as goal
 
@@ -6,4 +7,5 @@ pub returns-then-answer-lt32 : goal.returns-then-answer-lt32
 returns-then-answer-lt32 c = read_short c.args.received.now c.args.answer.now (omega arith)
 
 pub returns : goal.returns
-returns c = read_done c.args.received.now c.args.answer.now _ c.read_record-read.result _ _ (omega arith) c.read_record-read.ensures c.said_of.ensures c.put_said.ensures c.number.ensures
+returns c =
+    read_done c.args.received.now c.args.answer.now _ c.read_record-read.result c.said_of.result _ (omega arith) c.read_record-read.ensures c.said_of.ensures (small_each c.said_of.result (λ k. search rules)) c.put_all.ensures c.read_number_of.ensures

@@ -9,4 +9,4 @@ returns-then-answer-lt8 c = write-short c.args.kind c.args.payload.now c.args.ou
 pub returns : goal.returns
 returns c =
     write_done c.args.kind c.args.payload.now c.args.out.now c.args.answer.now _ _ c.write_frame-written.result _ _
-    (omega arith) c.write_frame-written.ensures c.count_of.ensures (search rules) c.put_usize.ensures c.number.ensures
+    (omega arith) c.write_frame-written.ensures c.unwrap_or.ensures (search rules) c.put.ensures c.number_of.ensures

@@ -6,21 +6,21 @@ use Rattle.call_accept.proofs.accept.Goals as goal
 pub accept_step-requires : goal.accept_step-requires
 accept_step-requires c =
     let k = admitted-goes c.args.state.now c.args.rx.now c.args.store.now _ _ c.admit-admitted.result
-    c.admit-admitted.ensures c.in-Yes.is in (
+    c.admit-admitted.ensures c.in-Ok.is in (
       goes-admits c.args.state.now c.args.rx.now c.args.store.now _ _ k
           (λ j. (c.slice_known-1.given j).fits),
       k.header,
     )
 
-pub returns-in-No : goal.returns-in-No
+pub returns-in-Err : goal.returns-in-Err
 unfolding accept_outcome
-returns-in-No c =
+returns-in-Err c =
     refused-leaves c.args.state.now c.args.rx.now c.args.store.now _ (agreed_in c.args.state.now) _ _ _ _
-    c.admit-admitted.result _ c.admit-admitted.ensures c.in-No.is c.refused.ensures
+    c.admit-admitted.result _ c.admit-admitted.ensures c.in-Err.is c.refused.ensures
 
-pub returns-in-Yes : goal.returns-in-Yes
+pub returns-in-Ok : goal.returns-in-Ok
 unfolding accept_outcome
-returns-in-Yes c =
+returns-in-Ok c =
     goes-leaves c.args.state.now c.args.rx.now c.args.store.now _ (agreed_in c.args.state.now) _ _ _ _ _ _ _ _ _ _
     (admitted-goes c.args.state.now c.args.rx.now c.args.store.now _ _ c.admit-admitted.result
-    c.admit-admitted.ensures c.in-Yes.is) c.accept_step.ensures
+    c.admit-admitted.ensures c.in-Ok.is) c.accept_step.ensures

@@ -9,19 +9,19 @@ get-found-requires c = looks c.args.state.now c.args.rx.now c.args.store.now c.a
 pub store_slot-requires : goal.store_slot-requires
 store_slot-requires c = (
   close-place c.args.state.now c.args.rx.now c.args.store.now c.args.out.now c.args.h c.requires.1
-      c.args.ch c.get-found.result c.get-found.ensures c.requires.0 _ c.in-Slot.is,
+      c.args.ch c.get-found.result c.get-found.ensures c.requires.0 _ c.in-Some.is,
   c.requires.0.state-fits,
 )
 
-pub returns-in-Slot : goal.returns-in-Slot
-returns-in-Slot c =
+pub returns-in-Some : goal.returns-in-Some
+returns-in-Some c =
     close-leaves c.args.state.now c.args.rx.now c.args.store.now c.args.out.now c.args.h c.requires.1
-    c.args.ch c.get-found.result c.get-found.ensures c.requires.0 _ c.in-Slot.is c.emptied-gone.result
+    c.args.ch c.get-found.result c.get-found.ensures c.requires.0 _ c.in-Some.is c.emptied-gone.result
     c.ids_in.result _ _ _ _ c.ids_in.ensures c.put_close-end.ensures c.emptied-gone.ensures
     c.store_slot.ensures refl
 
-pub returns-in-Nothing : goal.returns-in-Nothing
-returns-in-Nothing c =
+pub returns-in-None : goal.returns-in-None
+returns-in-None c =
     close-refuses c.args.state.now c.args.rx.now c.args.store.now c.args.out.now c.args.h c.requires.1
-    c.args.ch c.get-found.result c.get-found.ensures _ _ c.in-Nothing.is c.put_header.ensures
+    c.args.ch c.get-found.result c.get-found.ensures _ _ c.in-None.is c.put_header.ensures
     c.refused.ensures

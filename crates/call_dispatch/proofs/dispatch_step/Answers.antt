@@ -8,33 +8,33 @@ use Rattle.call_dispatch.proofs.dispatch_step.Goals as goal
 pub payload-payload-requires : goal.payload-payload-requires
 payload-payload-requires c =
     (packet-room c.args.received.now c.args.h.negotiated.config.max_payload c.recv_pkt-found.result _
-    c.recv_pkt-found.ensures c.in-Packet.is).whole
+    c.recv_pkt-found.ensures c.in-Ok.is).whole
 
 pub act_on-acted-requires : goal.act_on-acted-requires
 act_on-acted-requires c =
     let k = c.requires.0.room in call-room c.args.state.now c.args.rx.now c.args.store.now c.args.out.now
     c.args.h c.requires.1 c.args.received.now c.payload-payload.result.now _ 0 c.requires.0
     (packet-room c.args.received.now c.args.h.negotiated.config.max_payload c.recv_pkt-found.result _
-    c.recv_pkt-found.ensures c.in-Packet.is) c.payload-payload.ensures (omega arith)
+    c.recv_pkt-found.ensures c.in-Ok.is) c.payload-payload.ensures (omega arith)
 
-pub put_header-requires-in-Packet : goal.put_header-requires-in-Packet
-put_header-requires-in-Packet c = omega (arith, c.requires, c.state-in-Packet-1.given)
+pub put_header-requires-in-Ok : goal.put_header-requires-in-Ok
+put_header-requires-in-Ok c = omega (arith, c.requires, c.state-in-Ok-1.given)
 
 pub frame_len-used-requires : goal.frame_len-used-requires
 frame_len-used-requires c =
     (packet-room c.args.received.now c.args.h.negotiated.config.max_payload c.recv_pkt-found.result _
-    c.recv_pkt-found.ensures c.in-Packet.is).most
+    c.recv_pkt-found.ensures c.in-Ok.is).most
 
-pub returns-in-Stop : goal.returns-in-Stop
-returns-in-Stop c =
+pub returns-in-Err : goal.returns-in-Err
+returns-in-Err c =
     dispatch-stops c.args.state.now c.args.rx.now c.args.store.now c.args.out.now c.args.h
-    c.requires.1 c.args.received.now c.recv_pkt-found.result c.recv_pkt-found.ensures _ _ _ _ c.in-Stop.is
+    c.requires.1 c.args.received.now c.recv_pkt-found.result c.recv_pkt-found.ensures _ _ _ _ c.in-Err.is
     c.put_header.ensures refl
 
-pub returns-in-Packet : goal.returns-in-Packet
-returns-in-Packet c =
+pub returns-in-Ok : goal.returns-in-Ok
+returns-in-Ok c =
     dispatch-acts c.args.state.now c.args.rx.now c.args.store.now c.args.out.now c.args.h c.requires.1
     c.args.received.now c.recv_pkt-found.result c.recv_pkt-found.ensures _ c.payload-payload.result.now
-    c.act_on-acted.result c.unless_fault.result _ _ _ _ _ _ c.in-Packet.is c.payload-payload.ensures
-    c.act_on-acted.ensures c.unless_fault.ensures c.put_header-in-Packet.ensures
+    c.act_on-acted.result c.unless_fault.result _ _ _ _ _ _ c.in-Ok.is c.payload-payload.ensures
+    c.act_on-acted.ensures c.unless_fault.ensures c.put_header-in-Ok.ensures
     (ap (λ (x : ℕ). record { answer = c.unless_fault.result; used = x; written = c.act_on-acted.result.end }) c.frame_len-used.ensures)

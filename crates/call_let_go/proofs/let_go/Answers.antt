@@ -7,21 +7,21 @@ use Rattle.call_let_go.proofs.let_go.Goals as goal
 pub let_go_step-requires : goal.let_go_step-requires
 let_go_step-requires c =
     let k = admitted-goes c.args.state.now c.args.rx.now c.args.store.now 56 _ c.admit-admitted.result
-    c.admit-admitted.ensures c.in-Yes.is in (
+    c.admit-admitted.ensures c.in-Ok.is in (
       goes-admits c.args.state.now c.args.rx.now c.args.store.now 56 _ k
           (λ j. (c.slice_known-1.given j).fits),
       k.header,
     )
 
-pub returns-in-No : goal.returns-in-No
+pub returns-in-Err : goal.returns-in-Err
 unfolding let_go_outcome
-returns-in-No c =
+returns-in-Err c =
     wide-refuses c.args.state.now c.args.rx.now c.args.store.now (agreed_in c.args.state.now) _ _ _ _
-    c.admit-admitted.result _ c.admit-admitted.ensures c.in-No.is c.refused.ensures
+    c.admit-admitted.result _ c.admit-admitted.ensures c.in-Err.is c.refused.ensures
 
-pub returns-in-Yes : goal.returns-in-Yes
+pub returns-in-Ok : goal.returns-in-Ok
 unfolding let_go_outcome
-returns-in-Yes c =
+returns-in-Ok c =
     wide-leaves c.args.state.now c.args.rx.now c.args.store.now (agreed_in c.args.state.now) _ _ _ _ _ _ _ _ _ _
     (admitted-goes c.args.state.now c.args.rx.now c.args.store.now 56 _ c.admit-admitted.result
-    c.admit-admitted.ensures c.in-Yes.is) c.let_go_step.ensures
+    c.admit-admitted.ensures c.in-Ok.is) c.let_go_step.ensures

@@ -8,6 +8,3 @@ use Rattle.call_make.proofs.clear_slots.Given as goal
 
 abbrev pub invariant-loop-i : goal.invariant-loop-i
 invariant-loop-i l = (l.i ≤ 64) × (length l.state ≡ length l.initial.state) × (l.state ≡ put l.initial.state header_len (empty_slots l.i))
-
-abbrev pub decreases-loop-i : goal.decreases-loop-i
-decreases-loop-i l = 64 - l.i

@@ -9,17 +9,17 @@ open_packet-requires c = (
   c.requires.2,
   await-packet c.args.state.now c.args.rx.now c.args.store.now
       c.args.out.now c.args.h c.requires.1 c.args.received.now c.recv_pkt-found.result
-      c.recv_pkt-found.ensures _ c.in-Packet.is,
+      c.recv_pkt-found.ensures _ c.in-Ok.is,
 )
 
-pub returns-in-Stop : goal.returns-in-Stop
-returns-in-Stop c =
+pub returns-in-Err : goal.returns-in-Err
+returns-in-Err c =
     await-stops c.args.state.now c.args.rx.now c.args.store.now c.args.out.now c.args.h c.requires.1
     c.args.received.now c.recv_pkt-found.result c.recv_pkt-found.ensures _ _ c.still_pending.result _ _
-    c.in-Stop.is c.still_pending.ensures c.put_header.ensures refl
+    c.in-Err.is c.still_pending.ensures c.put_header.ensures refl
 
-pub returns-in-Packet : goal.returns-in-Packet
-returns-in-Packet c =
+pub returns-in-Ok : goal.returns-in-Ok
+returns-in-Ok c =
     await-goes c.args.state.now c.args.rx.now c.args.store.now c.args.out.now c.args.h c.requires.1
-    c.args.received.now c.recv_pkt-found.result c.recv_pkt-found.ensures _ _ _ _ _ _ c.in-Packet.is
+    c.args.received.now c.recv_pkt-found.result c.recv_pkt-found.ensures _ _ _ _ _ _ c.in-Ok.is
     c.open_packet.ensures

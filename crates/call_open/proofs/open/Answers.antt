@@ -7,20 +7,20 @@ pub open_step-requires : goal.open_step-requires
 open_step-requires c = (
   goes-admits c.args.state.now c.args.rx.now c.args.store.now _ _
       (admitted-goes c.args.state.now c.args.rx.now c.args.store.now _ _ c.admit-admitted.result
-      c.admit-admitted.ensures c.in-Yes.is) (λ j. (c.slice_known-1.given j).fits),
+      c.admit-admitted.ensures c.in-Ok.is) (λ j. (c.slice_known-1.given j).fits),
   (admitted-goes c.args.state.now c.args.rx.now c.args.store.now _ _ c.admit-admitted.result
-      c.admit-admitted.ensures c.in-Yes.is).header,
+      c.admit-admitted.ensures c.in-Ok.is).header,
 )
 
-pub returns-in-No : goal.returns-in-No
+pub returns-in-Err : goal.returns-in-Err
 unfolding open_outcome
-returns-in-No c =
+returns-in-Err c =
     refused-leaves c.args.state.now c.args.rx.now c.args.store.now _ (agreed_in c.args.state.now) _ _ _ _
-    c.admit-admitted.result _ c.admit-admitted.ensures c.in-No.is c.refused.ensures
+    c.admit-admitted.result _ c.admit-admitted.ensures c.in-Err.is c.refused.ensures
 
-pub returns-in-Yes : goal.returns-in-Yes
+pub returns-in-Ok : goal.returns-in-Ok
 unfolding open_outcome
-returns-in-Yes c =
+returns-in-Ok c =
     goes-leaves c.args.state.now c.args.rx.now c.args.store.now _ (agreed_in c.args.state.now) _ _ _ _ _ _ _ _ _ _
     (admitted-goes c.args.state.now c.args.rx.now c.args.store.now _ _ c.admit-admitted.result
-    c.admit-admitted.ensures c.in-Yes.is) c.open_step.ensures
+    c.admit-admitted.ensures c.in-Ok.is) c.open_step.ensures

@@ -11,14 +11,14 @@ allocate-free-requires c =
 pub returns-then-len : goal.returns-then-len
 returns-then-len c =
     open-large c.args.state.now c.args.rx.now c.args.store.now c.args.out.now c.args.h c.requires.1
-    c.args.destination.now c.allocate-free.result c.allocate-free.ensures _ c.in-Channel.is
+    c.args.destination.now c.allocate-free.result c.allocate-free.ensures _ c.in-Ok.is
     c.numbered.result _ _ c.if-len.true c.numbered.ensures c.put_header-then-len.ensures
     c.refused-then-len.ensures
 
 pub returns-then-out-len : goal.returns-then-out-len
 returns-then-out-len c =
     open-short c.args.state.now c.args.rx.now c.args.store.now c.args.out.now c.args.h c.requires.1
-    c.args.destination.now c.allocate-free.result c.allocate-free.ensures _ c.in-Channel.is c.if-len.false
+    c.args.destination.now c.allocate-free.result c.allocate-free.ensures _ c.in-Ok.is c.if-len.false
     _ c.if-out-len.true c.refused-then-out-len.ensures
 
 pub put_open-end-requires : goal.put_open-end-requires
@@ -28,18 +28,18 @@ put_open-end-requires c = (
   record { small = c.if-len.false; fits = c.if-out-len.false },
 )
 
-pub put_header-requires-in-Channel : goal.put_header-requires-in-Channel
-put_header-requires-in-Channel c = omega (arith, c.requires, c.out-1.given)
+pub put_header-requires-in-Ok : goal.put_header-requires-in-Ok
+put_header-requires-in-Ok c = omega (arith, c.requires, c.out-1.given)
 
-pub returns-in-NoFree : goal.returns-in-NoFree
-returns-in-NoFree c =
+pub returns-in-Err : goal.returns-in-Err
+returns-in-Err c =
     open_none c.args.state.now c.args.rx.now c.args.store.now c.args.out.now c.args.h c.requires.1
-    c.args.destination.now c.allocate-free.result c.allocate-free.ensures _ _ c.in-NoFree.is
+    c.args.destination.now c.allocate-free.result c.allocate-free.ensures _ _ c.in-Err.is
     c.put_header.ensures c.refused.ensures
 
 pub returns-else-out-len : goal.returns-else-out-len
 returns-else-out-len c =
     open-sends c.args.state.now c.args.rx.now c.args.store.now c.args.out.now c.args.h c.requires.1
-    c.args.destination.now c.allocate-free.result c.allocate-free.ensures _ c.in-Channel.is c.if-len.false
-    c.numbered-in-Channel.result c.pending_for.result _ _ _ _ c.if-out-len.false c.put_open-end.ensures
-    c.numbered-in-Channel.ensures c.pending_for.ensures c.put_header-in-Channel.ensures refl
+    c.args.destination.now c.allocate-free.result c.allocate-free.ensures _ c.in-Ok.is c.if-len.false
+    c.numbered-in-Ok.result c.pending_for.result _ _ _ _ c.if-out-len.false c.put_open-end.ensures
+    c.numbered-in-Ok.ensures c.pending_for.ensures c.put_header-in-Ok.ensures refl

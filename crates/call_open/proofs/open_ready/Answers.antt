@@ -33,24 +33,24 @@ store_slot-requires c =
 pub close_open-end-requires : goal.close_open-end-requires
 close_open-end-requires c = let k = c.requires.0.room in let j = c.requires.0.state-fits in (j, omega arith)
 
-pub returns-in-Slot : goal.returns-in-Slot
-returns-in-Slot c =
+pub returns-in-Ok : goal.returns-in-Ok
+returns-in-Ok c =
     ready-fills c.args.state.now c.args.rx.now c.args.store.now c.args.out.now c.args.h c.requires.1
     c.args.received.now c.args.packet c.pending_channel-ch.result c.pending_channel-ch.ensures
     c.payload-payload.result.now c.payload-payload.ensures c.rx_policy.result c.rx_policy.ensures
     c.opening-opening.result c.opening-opening.ensures c.accept_open_ready-readied.result
-    c.accept_open_ready-readied.ensures _ c.drop_pending.result _ _ c.in-Slot.is
+    c.accept_open_ready-readied.ensures _ c.drop_pending.result _ _ c.in-Ok.is
     c.drop_pending.ensures c.store_slot.ensures
     (ap (λ (x : ℕ). record { answer = Opened c.pending_channel-ch.result; used = x; written = 0 })
     c.frame_len-used.ensures)
 
-pub returns-in-Bad : goal.returns-in-Bad
-returns-in-Bad c =
+pub returns-in-Err : goal.returns-in-Err
+returns-in-Err c =
     ready-bad c.args.state.now c.args.rx.now c.args.store.now c.args.out.now c.args.h c.requires.1
     c.args.received.now c.args.packet c.pending_channel-ch.result c.pending_channel-ch.ensures
     c.payload-payload.result.now c.payload-payload.ensures c.rx_policy.result c.rx_policy.ensures
     c.opening-opening.result c.opening-opening.ensures c.accept_open_ready-readied.result
-    c.accept_open_ready-readied.ensures _ _ _ _ _ c.requires.0.room c.in-Bad.is
+    c.accept_open_ready-readied.ensures _ _ _ _ _ c.requires.0.room c.in-Err.is
     c.close_open-end.ensures.0 c.close_open-end.ensures.1
-    (ap (λ (x : ℕ). record { answer = Refused (BadCredit c.in-Bad.fault); used = x; written = c.close_open-end.result })
+    (ap (λ (x : ℕ). record { answer = Refused (BadCredit c.in-Err.fault); used = x; written = c.close_open-end.result })
     c.frame_len-used.ensures)

@@ -10,8 +10,8 @@ returns-then-is_own c =
     and-goes _ _ _ (sym (own_is _ _ _ c.args.packet.arg1 c.args.s.local.0 c.is_write.ensures
     c.is_own.ensures) ∙ c.if-is_own.true) refl
 
-pub returns : goal.returns
+pub returns-else-is_own : goal.returns-else-is_own
 unfolding is_direct
-returns c =
-    and-stops _ _ (sym (own_is _ _ _ c.args.packet.arg1 c.args.s.local.0 c.is_write.ensures
+returns-else-is_own c =
+    c.if-is_own.false ∙ and-stops _ _ (sym (own_is _ _ _ c.args.packet.arg1 c.args.s.local.0 c.is_write.ensures
     c.is_own.ensures) ∙ c.if-is_own.false)

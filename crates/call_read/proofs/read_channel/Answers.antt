@@ -18,19 +18,19 @@ read_more-requires c =
     first-looks c.args.state.now c.args.rx.now c.args.store.now c.args.out.now c.args.h c.args.ch
     c.args.buf.now c.args.received.now c.requires.0 c.requires.1 c.requires.2 _ _ _ _ _
     (empty _ c.args.h c.args.ch _ 0 _ _ 0 _ _ _ c.take_buffered-tried.result _ _ _
-    (c.take_buffered-tried.ensures c.args.store.now) _ _ c.in-Nothing.is)
+    (c.take_buffered-tried.ensures c.args.store.now) _ _ c.in-Continue.is)
 
-pub returns-in-Replied : goal.returns-in-Replied
-returns-in-Replied c =
+pub returns-in-Break : goal.returns-in-Break
+returns-in-Break c =
     first-replied c.args.state.now c.args.rx.now c.args.store.now c.args.out.now c.args.h
     c.args.ch c.args.buf.now c.args.received.now c.requires.0 c.requires.1 c.requires.2 _ _ _ _
     (replied _ c.args.h c.args.ch _ 0 _ _ 0 _ _ _ c.take_buffered-tried.result _ _ _
-    (c.take_buffered-tried.ensures c.args.store.now) _ c.in-Replied.is)
+    (c.take_buffered-tried.ensures c.args.store.now) _ c.in-Break.is)
 
-pub returns-in-Nothing : goal.returns-in-Nothing
-returns-in-Nothing c =
+pub returns-in-Continue : goal.returns-in-Continue
+returns-in-Continue c =
     first_more c.args.state.now c.args.rx.now c.args.store.now c.args.out.now c.args.h c.args.ch
     c.args.buf.now c.args.received.now c.requires.0 c.requires.1 c.requires.2 _ _ _ _ _
     (empty _ c.args.h c.args.ch _ 0 _ _ 0 _ _ _ c.take_buffered-tried.result _ _ _
-    (c.take_buffered-tried.ensures c.args.store.now) _ _ c.in-Nothing.is) _ _ _ _ _ _
+    (c.take_buffered-tried.ensures c.args.store.now) _ _ c.in-Continue.is) _ _ _ _ _ _
     c.read_more.ensures

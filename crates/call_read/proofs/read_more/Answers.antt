@@ -16,17 +16,17 @@ read_packet-requires c = (
   c.requires.1,
   found-is c.args.state.now c.args.rx.now c.args.store.now c.args.out.now
       c.args.h c.args.ch c.args.s _ c.args.at c.requires.0 c.requires.1 c.args.received.now
-      c.recv_pkt-found.result c.recv_pkt-found.ensures _ c.in-Packet.is,
+      c.recv_pkt-found.result c.recv_pkt-found.ensures _ c.in-Ok.is,
 )
 
-pub returns-in-Stop : goal.returns-in-Stop
-returns-in-Stop c =
+pub returns-in-Err : goal.returns-in-Err
+returns-in-Err c =
     look-stops c.args.state.now c.args.rx.now c.args.store.now c.args.out.now c.args.h c.args.ch
     c.args.s _ c.args.at c.requires.0 c.requires.1 c.args.received.now c.recv_pkt-found.result
-    c.recv_pkt-found.ensures _ _ c.args.buf.now _ _ c.in-Stop.is c.store_slot.ensures refl
+    c.recv_pkt-found.ensures _ _ c.args.buf.now _ _ c.in-Err.is c.store_slot.ensures refl
 
-pub returns-in-Packet : goal.returns-in-Packet
-returns-in-Packet c =
+pub returns-in-Ok : goal.returns-in-Ok
+returns-in-Ok c =
     look-found c.args.state.now c.args.rx.now c.args.store.now c.args.out.now c.args.h c.args.ch
     c.args.s _ c.args.at c.requires.0 c.requires.1 c.args.received.now c.recv_pkt-found.result
-    c.recv_pkt-found.ensures _ c.args.buf.now _ _ _ _ _ _ c.in-Packet.is c.read_packet.ensures
+    c.recv_pkt-found.ensures _ c.args.buf.now _ _ _ _ _ _ c.in-Ok.is c.read_packet.ensures

@@ -11,22 +11,22 @@ read_channel-requires c = (
   c.requires.0,
   c.requires.1,
   (found-there c.args.state.now c.args.rx.now c.args.store.now c.args.h
-      c.requires.1 c.args.ch c.get-found.result c.get-found.ensures _ c.in-Slot.is),
+      c.requires.1 c.args.ch c.get-found.result c.get-found.ensures _ c.in-Some.is),
   (found-slot c.args.state.now c.args.rx.now c.args.store.now c.args.h c.requires.1 c.args.ch
-      c.get-found.result c.get-found.ensures _ c.in-Slot.is),
+      c.get-found.result c.get-found.ensures _ c.in-Some.is),
 )
 
-pub returns-in-Slot : goal.returns-in-Slot
-returns-in-Slot c =
+pub returns-in-Some : goal.returns-in-Some
+returns-in-Some c =
     step-reads c.args.state.now c.args.rx.now c.args.store.now c.args.out.now c.args.h c.args.ch
     c.args.buf.now c.args.received.now _ _ _ _ _ _
     (found-there c.args.state.now c.args.rx.now c.args.store.now c.args.h c.requires.1 c.args.ch
-    c.get-found.result c.get-found.ensures _ c.in-Slot.is) c.read_channel.ensures
+    c.get-found.result c.get-found.ensures _ c.in-Some.is) c.read_channel.ensures
 
-pub returns-in-Nothing : goal.returns-in-Nothing
-returns-in-Nothing c =
+pub returns-in-None : goal.returns-in-None
+returns-in-None c =
     stops-leaves c.args.state.now c.args.rx.now c.args.store.now c.args.h c.requires.1 c.args.out.now
     c.args.buf.now _ _ 0 _ _ (step-closed c.args.state.now c.args.rx.now c.args.store.now c.args.ch _
     c.args.received.now (found_none c.args.state.now c.args.rx.now c.args.store.now c.args.h
-    c.requires.1 c.args.ch c.get-found.result c.get-found.ensures c.in-Nothing.is))
+    c.requires.1 c.args.ch c.get-found.result c.get-found.ensures c.in-None.is))
     c.put_header.ensures c.refused.ensures

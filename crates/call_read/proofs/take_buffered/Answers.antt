@@ -1,3 +1,6 @@
+use mathlib.Core.Path.{◌≡◌}
+use borrow.Author.Rules.{rules}
+use Rattle.std.specs.Prelude.{Ok, Some, None}
 use Rattle.call_read.proofs.ReadLaws.{ack-due, set-sound, take-room-is, tries-nothing, tries-closed, tries-data}
 use Rattle.call_read.proofs.take_buffered.Goals as goal
 
@@ -17,33 +20,36 @@ take_buffered-taken-requires c =
 
 pub hand_over-requires : goal.hand_over-requires
 hand_over-requires c =
+    let is : c.take_buffered-taken.result ≡ Ok (Some (c.in-Ok-Some.t, c.in-Ok-Some.len)) = search rules in
     take-room-is c.args.h c.args.ch c.args.used c.args.fault c.args.at c.args.state.now
     c.args.rx.now c.args.rx.now c.args.out.now c.args.buf.now c.args.slot
     c.rx_policy-policy.result c.settle_take-settled.result c.requires.1 c.rx_policy-policy.ensures
-    c.settle_take-settled.ensures c.requires.0 _ _ _ c.take_buffered-taken.ensures c.in-Data.is
+    c.settle_take-settled.ensures c.requires.0 _ _ _ c.take_buffered-taken.ensures is
 
-pub store_slot-requires-in-Data : goal.store_slot-requires-in-Data
-store_slot-requires-in-Data c = (c.requires.0.place-fits, c.requires.0.state-fits)
+pub store_slot-requires-in-Err : goal.store_slot-requires-in-Err
+store_slot-requires-in-Err c = (c.requires.0.place-fits, c.requires.0.state-fits)
 
-pub returns-in-Nothing : goal.returns-in-Nothing
-returns-in-Nothing c =
+pub returns-in-Ok-None : goal.returns-in-Ok-None
+returns-in-Ok-None c =
+    let is : c.take_buffered-taken.result ≡ Ok None = search rules in
     λ store. tries-nothing c.args.h c.args.ch c.args.used c.args.fault c.args.at c.args.state.now
     c.args.rx.now store c.args.out.now c.args.buf.now c.args.slot c.rx_policy-policy.result
     c.settle_take-settled.result c.requires.1 c.rx_policy-policy.ensures c.settle_take-settled.ensures c.requires.0 _
-    _ c.put_ack-end.ensures _ c.take_buffered-taken.ensures c.in-Nothing.is
+    _ c.put_ack-end.ensures _ c.take_buffered-taken.ensures is
 
-pub returns-in-Closed : goal.returns-in-Closed
-returns-in-Closed c =
+pub returns-in-Err : goal.returns-in-Err
+returns-in-Err c =
     λ store. tries-closed c.args.h c.args.ch c.args.used c.args.fault c.args.at c.args.state.now
     c.args.rx.now store c.args.out.now c.args.buf.now c.args.slot c.rx_policy-policy.result
     c.settle_take-settled.result c.requires.1 c.rx_policy-policy.ensures c.settle_take-settled.ensures c.requires.0 _
-    _ c.put_ack-end.ensures _ _ c.unless_fault.result c.error_refusal.result _ c.take_buffered-taken.ensures
-    c.in-Closed.is c.error_refusal.ensures c.unless_fault.ensures c.store_slot.ensures
+    _ c.put_ack-end.ensures _ _ c.unless_fault.result c.from.result _ c.take_buffered-taken.ensures
+    c.in-Err.is c.from.ensures c.unless_fault.ensures c.store_slot-in-Err.ensures
 
-pub returns-in-Data : goal.returns-in-Data
-returns-in-Data c =
+pub returns-in-Ok-Some : goal.returns-in-Ok-Some
+returns-in-Ok-Some c =
+    let is : c.take_buffered-taken.result ≡ Ok (Some (c.in-Ok-Some.t, c.in-Ok-Some.len)) = search rules in
     λ store. tries-data c.args.h c.args.ch c.args.used c.args.fault c.args.at c.args.state.now
     c.args.rx.now store c.args.out.now c.args.buf.now c.args.slot c.rx_policy-policy.result
     c.settle_take-settled.result c.requires.1 c.rx_policy-policy.ensures c.settle_take-settled.ensures c.requires.0 _
-    _ c.put_ack-end.ensures _ _ _ _ _ c.take_buffered-taken.ensures c.in-Data.is
-    c.hand_over.ensures c.store_slot-in-Data.ensures
+    _ c.put_ack-end.ensures _ _ _ _ _ c.take_buffered-taken.ensures is
+    c.hand_over.ensures c.store_slot.ensures

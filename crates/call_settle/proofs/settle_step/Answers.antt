@@ -17,21 +17,21 @@ pub store_slot-requires : goal.store_slot-requires
 store_slot-requires c =
     slot-fits c.args.state.now c.args.rx.now c.args.store.now _ c.args.h c.requires.1 c.requires.0
     c.args.ch (found-there c.args.state.now c.args.rx.now c.args.store.now c.args.h c.requires.1
-    c.args.ch c.get-found.result c.get-found.ensures _ c.in-Slot.is)
+    c.args.ch c.get-found.result c.get-found.ensures _ c.in-Some.is)
 
-pub returns-in-Slot : goal.returns-in-Slot
-returns-in-Slot c =
+pub returns-in-Some : goal.returns-in-Some
+returns-in-Some c =
     settle-leaves c.args.state.now c.args.rx.now c.args.store.now _ c.args.h c.requires.1 c.requires.0
     c.args.ch (found-there c.args.state.now c.args.rx.now c.args.store.now c.args.h c.requires.1
-    c.args.ch c.get-found.result c.get-found.ensures _ c.in-Slot.is) _ _ c.rx_policy.result _
+    c.args.ch c.get-found.result c.get-found.ensures _ c.in-Some.is) _ _ c.rx_policy.result _
     c.settle_take-settled.result _ _ _ _ c.requires.0.room
     (found-slot c.args.state.now c.args.rx.now c.args.store.now c.args.h c.requires.1 c.args.ch
-    c.get-found.result c.get-found.ensures _ c.in-Slot.is) c.rx_policy.ensures
+    c.get-found.result c.get-found.ensures _ c.in-Some.is) c.rx_policy.ensures
     c.settle_take-settled.ensures c.put_ack-end.ensures c.store_slot.ensures refl
 
-pub returns-in-Nothing : goal.returns-in-Nothing
-returns-in-Nothing c =
+pub returns-in-None : goal.returns-in-None
+returns-in-None c =
     settle-refuses c.args.state.now c.args.rx.now c.args.store.now c.args.h c.requires.1 c.args.ch
     (found_none c.args.state.now c.args.rx.now c.args.store.now c.args.h c.requires.1 c.args.ch
-    c.get-found.result c.get-found.ensures c.in-Nothing.is) _ c.args.want _ _ c.put_header.ensures
+    c.get-found.result c.get-found.ensures c.in-None.is) _ c.args.want _ _ c.put_header.ensures
     c.refused.ensures

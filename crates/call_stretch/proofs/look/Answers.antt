@@ -1,5 +1,6 @@
 use native.Mathlib.Omega.{arith}
-use mathlib.Core.Path.{sym, ◌∙◌}
+use mathlib.Core.Path.{refl, sym, ◌∙◌}
+use Rattle.std.specs.Prelude.{Ok}
 use lib.ListN.{length-take}
 use Rattle.call_stretch.proofs.LookLaws.{both_long, look-short, look-found}
 use borrow.Author.Rules.{rules}
@@ -28,5 +29,5 @@ shortest-found-requires c = simp length-take (omega (arith, c.requires))
 
 pub returns : goal.returns
 returns c =
-    look-found c.args.state.now c.args.received.now c.args.spare_rx.now c.args.spare_store.now c.args.rx c.args.store c.shortest-found.result c.found_as.result c.shortest-found.new.rx c.shortest-found.new.store
-    (sym c.is_spare_short.ensures ∙ c.if-is_spare_short.false) (λ j. (c.type_inv.state j).fits) (λ j. (c.type_inv.received j).fits) c.shortest-found.ensures c.found_as.ensures (search rules) (search rules)
+    look-found c.args.state.now c.args.received.now c.args.spare_rx.now c.args.spare_store.now c.args.rx c.args.store c.shortest-found.result (Ok c.shortest-found.result) c.shortest-found.new.rx c.shortest-found.new.store
+    (sym c.is_spare_short.ensures ∙ c.if-is_spare_short.false) (λ j. (c.type_inv.state j).fits) (λ j. (c.type_inv.received j).fits) c.shortest-found.ensures refl (search rules) (search rules)

@@ -1,3 +1,6 @@
+use mathlib.Core.Path.{◌≡◌}
+use borrow.Author.Rules.{rules}
+use Rattle.std.specs.Prelude.{Err}
 use Rattle.call_stretch.proofs.LookLaws.{stretch-refused, stretch-looks}
 use Rattle.call.proofs.LeaveLaws.{admitted-goes}
 use Rattle.call.proofs.AdmitLaws.{whole_long}
@@ -5,11 +8,13 @@ use Rattle.call_stretch.proofs.stretch.Goals as goal
 
 pub look-requires : goal.look-requires
 look-requires c =
-    let g = admitted-goes c.args.state.now c.args.rx.now c.args.store.now 56 _ c.admit-admitted.result c.admit-admitted.ensures c.in-Yes.is in
+    let g = admitted-goes c.args.state.now c.args.rx.now c.args.store.now 56 _ c.admit.result c.admit.ensures c.in_ok-admit.was in
     whole_long c.args.state.now g.is-whole
 
-pub returns-in-No : goal.returns-in-No
-returns-in-No c = stretch-refused c.args.state.now c.args.rx.now c.args.store.now c.args.received.now c.args.spare_rx.now c.args.spare_store.now c.admit-admitted.result c.admit-admitted.ensures _ c.in-No.is
+pub returns-in_err-admit : goal.returns-in_err-admit
+returns-in_err-admit c =
+    let is : c.from_residual.result ≡ Err c.in_err-admit.field-0.0 = search rules in
+    rw is (stretch-refused c.args.state.now c.args.rx.now c.args.store.now c.args.received.now c.args.spare_rx.now c.args.spare_store.now c.admit.result c.admit.ensures _ c.in_err-admit.was)
 
-pub returns-in-Yes : goal.returns-in-Yes
-returns-in-Yes c = stretch-looks c.args.state.now c.args.rx.now c.args.store.now c.args.received.now c.args.spare_rx.now c.args.spare_store.now c.admit-admitted.result c.admit-admitted.ensures _ c.in-Yes.is c.look.result _ _ c.look.ensures
+pub returns : goal.returns
+returns c = stretch-looks c.args.state.now c.args.rx.now c.args.store.now c.args.received.now c.args.spare_rx.now c.args.spare_store.now c.admit.result c.admit.ensures _ c.in_ok-admit.was c.look.result _ _ c.look.ensures

@@ -10,13 +10,13 @@ take_there-requires c = (
   c.requires.0,
   c.requires.1,
   (found-there c.args.state.now c.args.rx.now c.args.store.now c.args.h
-      c.requires.1 c.args.ch c.get-found.result c.get-found.ensures _ c.in-Slot.is),
+      c.requires.1 c.args.ch c.get-found.result c.get-found.ensures _ c.in-Some.is),
   (found-slot c.args.state.now c.args.rx.now c.args.store.now c.args.h c.requires.1 c.args.ch
-      c.get-found.result c.get-found.ensures _ c.in-Slot.is),
+      c.get-found.result c.get-found.ensures _ c.in-Some.is),
 )
 
-pub returns-in-Nothing : goal.returns-in-Nothing
-returns-in-Nothing c =
+pub returns-in-None : goal.returns-in-None
+returns-in-None c =
     take-refuses c.args.state.now c.args.rx.now c.args.store.now c.args.h c.requires.1 c.args.ch
     (found_none c.args.state.now c.args.rx.now c.args.store.now c.args.h c.requires.1 c.args.ch
-    c.get-found.result c.get-found.ensures c.in-Nothing.is) _ _ _ c.put_header.ensures c.refused.ensures
+    c.get-found.result c.get-found.ensures c.in-None.is) _ _ _ c.put_header.ensures c.refused.ensures

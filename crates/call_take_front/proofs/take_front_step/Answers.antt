@@ -9,16 +9,16 @@ pop_front-front-requires c = queue-ok c.args.state.now c.args.rx.now c.args.stor
 pub overflow_mul-place : goal.overflow_mul-place
 overflow_mul-place c =
     let k = front-place c.args.state.now c.args.rx.now c.args.store.now c.args.h c.requires.1 c.requires.0
-    c.pop_front-front.result _ c.pop_front-front.ensures _ _ c.in-Open.is in omega arith
+    c.pop_front-front.result _ c.pop_front-front.ensures _ _ c.in-Some.is in omega arith
 
-pub returns-in-Nothing : goal.returns-in-Nothing
-returns-in-Nothing c =
+pub returns-in-None : goal.returns-in-None
+returns-in-None c =
     front-none c.args.state.now c.args.rx.now c.args.store.now c.args.h c.requires.1 c.requires.0
-    c.pop_front-front.result _ c.pop_front-front.ensures _ _ c.in-Nothing.is
+    c.pop_front-front.result _ c.pop_front-front.ensures _ _ c.in-None.is
     c.put_header.ensures refl
 
-pub returns-in-Open : goal.returns-in-Open
-returns-in-Open c =
+pub returns-in-Some : goal.returns-in-Some
+returns-in-Some c =
     front-some c.args.state.now c.args.rx.now c.args.store.now c.args.h c.requires.1 c.requires.0
-    c.pop_front-front.result _ c.pop_front-front.ensures _ _ _ _ c.in-Open.is c.put_header-in-Open.ensures
+    c.pop_front-front.result _ c.pop_front-front.ensures _ _ _ _ c.in-Some.is c.put_header-in-Some.ensures
     refl

@@ -8,16 +8,16 @@ returns-then-is_closed c =
     c.requires c.args.used c.args.s c.is_closed.result c.is_closed.ensures rx store _ _
     c.if-is_closed.true c.store_slot.ensures refl
 
-pub returns-in-Bytes : goal.returns-in-Bytes
-returns-in-Bytes c =
+pub returns-in-Some : goal.returns-in-Some
+returns-in-Some c =
     λ rx store. again-sends c.args.state.now c.args.out.now c.args.bytes.now c.args.ch c.args.h
     c.requires c.args.used c.args.s c.is_closed.result c.is_closed.ensures rx store
     c.if-is_closed.false c.budget-budget.result c.rx_policy.result c.rx_policy.ensures c.budget-budget.ensures
-    _ _ _ _ c.in-Bytes.is (c.send_some.ensures rx store)
+    _ _ _ _ c.in-Some.is (c.send_some.ensures rx store)
 
-pub returns-in-Nothing : goal.returns-in-Nothing
-returns-in-Nothing c =
+pub returns-in-None : goal.returns-in-None
+returns-in-None c =
     λ rx store. again-waits c.args.state.now c.args.out.now c.args.bytes.now c.args.ch c.args.h
     c.requires c.args.used c.args.s c.is_closed.result c.is_closed.ensures rx store
     c.if-is_closed.false c.budget-budget.result c.rx_policy.result c.rx_policy.ensures c.budget-budget.ensures
-    _ _ c.in-Nothing.is c.store_slot-in-Nothing.ensures refl
+    _ _ c.in-None.is c.store_slot-in-None.ensures refl

@@ -7,20 +7,20 @@ write_packet-requires c = (
   c.requires,
   wait-received c.args.state.now c.args.rx.now c.args.store.now c.args.out.now
       c.args.received.now c.args.bytes.now c.args.ch c.args.h c.args.s c.requires.finds.header
-      c.recv_pkt-found.result c.recv_pkt-found.ensures _ c.in-Packet.is,
+      c.recv_pkt-found.result c.recv_pkt-found.ensures _ c.in-Ok.is,
 )
 
-pub returns-in-Stop : goal.returns-in-Stop
-returns-in-Stop c =
+pub returns-in-Err : goal.returns-in-Err
+returns-in-Err c =
     wait-stops c.args.state.now c.args.rx.now c.args.store.now c.args.out.now c.args.received.now
     c.args.bytes.now c.args.ch c.args.h c.args.s c.requires.finds.header c.recv_pkt-found.result
-    c.recv_pkt-found.ensures _ _ _ _ c.if-s.true c.in-Stop.is c.put_header.ensures refl
+    c.recv_pkt-found.ensures _ _ _ _ c.if-s.true c.in-Err.is c.put_header.ensures refl
 
-pub returns-in-Packet : goal.returns-in-Packet
-returns-in-Packet c =
+pub returns-in-Ok : goal.returns-in-Ok
+returns-in-Ok c =
     wait-packet c.args.state.now c.args.rx.now c.args.store.now c.args.out.now c.args.received.now
     c.args.bytes.now c.args.ch c.args.h c.args.s c.requires.finds.header c.recv_pkt-found.result
-    c.recv_pkt-found.ensures _ _ _ _ _ _ c.if-s.true c.in-Packet.is c.write_packet.ensures
+    c.recv_pkt-found.ensures _ _ _ _ _ _ c.if-s.true c.in-Ok.is c.write_packet.ensures
 
 pub returns : goal.returns
 returns c =

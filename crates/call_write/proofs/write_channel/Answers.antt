@@ -23,18 +23,18 @@ wait_ack-requires c =
     on-waits c.args.state.now c.args.rx.now c.args.store.now c.args.out.now c.args.received.now
     c.args.bytes.now c.args.ch c.args.h c.args.s c.requires c.is_closed.result
     c.is_closed.ensures c.if-is_closed.false c.budget-budget.result c.rx_policy.result
-    c.rx_policy.ensures c.budget-budget.ensures c.in-Nothing.is
+    c.rx_policy.ensures c.budget-budget.ensures c.in-None.is
 
-pub returns-in-Bytes : goal.returns-in-Bytes
-returns-in-Bytes c =
+pub returns-in-Some : goal.returns-in-Some
+returns-in-Some c =
     on-sends c.args.state.now c.args.rx.now c.args.store.now c.args.out.now c.args.received.now
     c.args.bytes.now c.args.ch c.args.h c.args.s c.requires c.is_closed.result
     c.is_closed.ensures c.if-is_closed.false c.budget-budget.result c.rx_policy.result
-    c.rx_policy.ensures c.budget-budget.ensures _ _ _ _ c.in-Bytes.is (c.send_some.ensures _ _)
+    c.rx_policy.ensures c.budget-budget.ensures _ _ _ _ c.in-Some.is (c.send_some.ensures _ _)
 
-pub returns-in-Nothing : goal.returns-in-Nothing
-returns-in-Nothing c =
+pub returns-in-None : goal.returns-in-None
+returns-in-None c =
     on-packet c.args.state.now c.args.rx.now c.args.store.now c.args.out.now c.args.received.now
     c.args.bytes.now c.args.ch c.args.h c.args.s c.requires c.is_closed.result
     c.is_closed.ensures c.if-is_closed.false c.budget-budget.result c.rx_policy.result
-    c.rx_policy.ensures c.budget-budget.ensures _ _ _ _ _ c.in-Nothing.is c.wait_ack.ensures
+    c.rx_policy.ensures c.budget-budget.ensures _ _ _ _ _ c.in-None.is c.wait_ack.ensures

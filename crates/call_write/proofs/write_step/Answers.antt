@@ -17,16 +17,16 @@ pub write_channel-requires : goal.write_channel-requires
 write_channel-requires c =
     step-finds c.args.state.now c.args.rx.now c.args.store.now c.args.out.now c.args.received.now
     c.args.bytes.now c.args.ch c.args.h c.requires.0 c.requires.1 c.get-found.result c.get-found.ensures _
-    c.in-Slot.is
+    c.in-Some.is
 
-pub returns-in-Slot : goal.returns-in-Slot
-returns-in-Slot c =
+pub returns-in-Some : goal.returns-in-Some
+returns-in-Some c =
     step-there c.args.state.now c.args.rx.now c.args.store.now c.args.out.now c.args.received.now
     c.args.bytes.now c.args.ch c.args.h c.requires.0 c.requires.1 c.get-found.result c.get-found.ensures
-    (λ z. omega (arith, c.if-bytes-eq0.false)) _ _ _ _ _ _ c.in-Slot.is c.write_channel.ensures
+    (λ z. omega (arith, c.if-bytes-eq0.false)) _ _ _ _ _ _ c.in-Some.is c.write_channel.ensures
 
-pub returns-in-Nothing : goal.returns-in-Nothing
-returns-in-Nothing c =
+pub returns-in-None : goal.returns-in-None
+returns-in-None c =
     step_gone c.args.state.now c.args.rx.now c.args.store.now c.args.out.now c.args.received.now
     c.args.bytes.now c.args.ch c.args.h c.requires.0 c.requires.1 c.get-found.result c.get-found.ensures
-    (λ z. omega (arith, c.if-bytes-eq0.false)) _ _ c.in-Nothing.is c.put_header-in-Nothing.ensures c.refused.ensures
+    (λ z. omega (arith, c.if-bytes-eq0.false)) _ _ c.in-None.is c.put_header-in-None.ensures c.refused.ensures

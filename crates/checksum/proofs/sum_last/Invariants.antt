@@ -1,9 +1,9 @@
-use Rattle.std.proofs.Common.{◌≡◌, ◌+◌, ◌-◌, ◌*◌, ◌≤◌, length, drop}
+use Rattle.std.proofs.Common.{◌≡◌, ◌+◌, ◌*◌, ◌≤◌, length}
 use Rattle.checksum.specs.Checksum.{total}
 use Rattle.checksum.proofs.sum_last.Given as goal
 
-abbrev pub invariant-loop-i : goal.invariant-loop-i
-invariant-loop-i l = (l.i ≤ length l.p) × (l.sum + total (drop l.i l.p) ≡ total (drop l.from l.p)) × (l.sum + 255 * (length l.p - l.i) ≤ 65535)
+abbrev pub invariant-loop-block : goal.invariant-loop-block
+invariant-loop-block l = (l.sum + total l.rest ≡ total l.bytes) × (l.sum + 255 * length l.rest ≤ 255 * length l.bytes)
 
-abbrev pub decreases-loop-i : goal.decreases-loop-i
-decreases-loop-i l = length l.p - l.i
+abbrev pub decreases-loop-block : goal.decreases-loop-block
+decreases-loop-block l = length l.rest

@@ -20,13 +20,13 @@ returns-then-payload-gt4 c = rw (le-ltb (length c.args.payload.now) 4 (omega ari
 pub returns-then-credit-lt0 : goal.returns-then-credit-lt0
 unfolding credit_of
 returns-then-credit-lt0 c =
-    let e = to_z-of_z {w = w32} {z = c.get_i32-credit.result} (search rules) in
+    let e = to_z-of_z {w = w32} {z = c.get-credit.result} (search rules) in
     rw (le-ltb (length c.args.payload.now) 4 (omega arith), le-ltb 4 (length c.args.payload.now) (omega arith))
-    (below-zero c.get_i32-credit.result (rw e at c.if-credit-lt0.true) ∙ ap at_least_zero c.get_i32-credit.ensures)
+    (below-zero c.get-credit.result (rw e at c.if-credit-lt0.true) ∙ ap at_least_zero c.get-credit.ensures)
 
 pub returns : goal.returns
 unfolding credit_of
 returns c =
-    let e = to_z-of_z {w = w32} {z = c.get_i32-credit.result} (search rules) in
+    let e = to_z-of_z {w = w32} {z = c.get-credit.result} (search rules) in
     rw (e, le-ltb (length c.args.payload.now) 4 (omega arith), le-ltb 4 (length c.args.payload.now) (omega arith))
-    (not-below-zero c.get_i32-credit.result (rw e at c.if-credit-lt0.false) ∙ ap at_least_zero c.get_i32-credit.ensures)
+    (not-below-zero c.get-credit.result (rw e at c.if-credit-lt0.false) ∙ ap at_least_zero c.get-credit.ensures)

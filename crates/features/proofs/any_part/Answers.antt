@@ -1,40 +1,16 @@
-use mathlib.Core.Path.{sym, ◌∙◌}
-use native.Mathlib.Omega.{arith}
-use Rattle.features.proofs.FeaturesLaws.{end_fits, any_found, any_none, any-more}
+use Rattle.std.proofs.Common.{◌∙◌, eqb, rules}
+use borrow.Author.Tests.{tests}
+use Rattle.std.specs.Str.{bytes_eq}
+use Rattle.std.proofs.lemmas.Iterator.Search.{any_from_yields_List}
+use Rattle.std.proofs.lemmas.Iterator.Splits.{YieldsList-from_slice_split}
+use Rattle.features.specs.Features.{comma}
+use Rattle.features.proofs.FeaturesLaws.{any-part}
 use Rattle.features.proofs.any_part.Goals as goal
 
-pub slice_bounds-same-start : goal.slice_bounds-same-start
-slice_bounds-same-start c = omega (arith, end_fits _ c.args.list.now c.loop-at.at c.part_end-end.result c.loop-at.invariant.0 c.part_end-end.ensures)
-
-pub slice_bounds-same-end : goal.slice_bounds-same-end
-slice_bounds-same-end c = omega (arith, end_fits _ c.args.list.now c.loop-at.at c.part_end-end.result c.loop-at.invariant.0 c.part_end-end.ensures)
-
-pub returns-then-same : goal.returns-then-same
-returns-then-same c =
-    let a = c.args in
-    let l = c.loop-at in
-    let e = any_found a.list.now l.at c.part_end-end.result l.invariant.0 c.part_end-end.ensures a.name.now
-    (sym c.same.ensures ∙ c.if-same.true) in
-    sym (l.invariant.1 ∙ e)
-
-pub returns-then-end-list : goal.returns-then-end-list
-returns-then-end-list c =
-    let a = c.args in
-    let l = c.loop-at in
-    let e = any_none a.list.now l.at c.part_end-end.result l.invariant.0 c.part_end-end.ensures a.name.now
-    (sym c.same.ensures ∙ c.if-same.false) (omega arith) in
-    sym (l.invariant.1 ∙ e)
-
-pub overflow_add-at : goal.overflow_add-at
-overflow_add-at c = omega (arith, end_fits _ c.args.list.now c.loop-at.at c.part_end-end.result c.loop-at.invariant.0 c.part_end-end.ensures)
-
-pub loop-at-smaller : goal.loop-at-smaller
-loop-at-smaller c = omega (arith, end_fits _ c.args.list.now c.loop-at.at c.part_end-end.result c.loop-at.invariant.0 c.part_end-end.ensures)
-
-pub loop-at-preserved : goal.loop-at-preserved
-loop-at-preserved c =
-    let a = c.args in
-    let l = c.loop-at in
-    let e = any-more a.list.now l.at c.part_end-end.result l.invariant.0 c.part_end-end.ensures a.name.now
-    (sym c.same.ensures ∙ c.if-same.false) (λ z. omega arith) in
-    (omega (arith, end_fits _ c.args.list.now c.loop-at.at c.part_end-end.result c.loop-at.invariant.0 c.part_end-end.ensures), l.invariant.1 ∙ e)
+pub returns : goal.returns
+returns c =
+    let s = c.split.ensures in
+    any_from_yields_List (λ p. bytes_eq p c.args.name.now) _ _ _ c.any.ensures.ran
+    (YieldsList-from_slice_split _ (λ b. eqb b comma) c.args.list.now s.rest s.done s.closure (λ x b q k. search (rules, tests)))
+    (λ x b q k. search (rules, tests))
+    ∙ any-part c.args.list.now c.args.name.now

@@ -12,13 +12,13 @@ pub loop-k-preserved : goal.loop-k-preserved
 loop-k-preserved c = (
   omega arith,
   c.loop-k.invariant.1 ∙ free_step c.loop-k.k c.args.n
-      (take c.args.queued (state_of c.args.state.now).queue) (omega arith) (sym c.is_named.ensures ∙ c.if-is_named.true),
+      (take c.args.queued (state_of c.args.state.now).queue) (omega arith) (sym c.is_named.ensures ∙ c.if-not-is_named.false),
 )
 
-pub returns-else-is_named : goal.returns-else-is_named
-returns-else-is_named c =
+pub returns-then-not-is_named : goal.returns-then-not-is_named
+returns-then-not-is_named c =
     sym (c.loop-k.invariant.1 ∙ free-stop c.loop-k.k c.args.n
-    (take c.args.queued (state_of c.args.state.now).queue) (omega arith) (sym c.is_named.ensures ∙ c.if-is_named.false))
+    (take c.args.queued (state_of c.args.state.now).queue) (omega arith) (sym c.is_named.ensures ∙ c.if-not-is_named.true))
 
 pub returns : goal.returns
 returns c =

@@ -7,6 +7,3 @@ use Rattle.incoming.proofs.free_share.Given as goal
 
 abbrev pub invariant-loop-k : goal.invariant-loop-k
 invariant-loop-k l = (l.k ≤ l.n) × (free_share l.n (take l.queued (state_of l.state).queue) ≡ free_from l.k (l.n - l.k) (take l.queued (state_of l.state).queue))
-
-abbrev pub decreases-loop-k : goal.decreases-loop-k
-decreases-loop-k l = l.n - l.k

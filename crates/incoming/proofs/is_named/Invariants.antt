@@ -7,6 +7,3 @@ use Rattle.incoming.proofs.is_named.Given as goal
 
 abbrev pub invariant-loop-i : goal.invariant-loop-i
 invariant-loop-i l = (l.i ≤ l.queued) × (named l.k (take l.queued (state_of l.state).queue) ≡ named l.k (drop l.i (take l.queued (state_of l.state).queue)))
-
-abbrev pub decreases-loop-i : goal.decreases-loop-i
-decreases-loop-i l = l.queued - l.i

@@ -6,6 +6,3 @@ use Rattle.incoming.proofs.put_first.Given as goal
 
 abbrev pub invariant-loop-i : goal.invariant-loop-i
 invariant-loop-i l = (l.i ≤ l.queued) × (length l.state ≡ length l.initial.state) × Carries l.initial.state l.initial.carried l.i l.state l.carried
-
-abbrev pub decreases-loop-i : goal.decreases-loop-i
-decreases-loop-i l = l.queued - l.i

@@ -1,10 +1,10 @@
 use Rattle.incoming.specs.Incoming.{stays_by}
 use Rattle.incoming.proofs.stays.Goals as goal
 
-pub returns-in-All : goal.returns-in-All
+pub returns-in-None : goal.returns-in-None
 unfolding stays_by
-returns-in-All c = rw c.in-All.is
+returns-in-None c = rw c.in-None.is
 
-pub returns-in-Without : goal.returns-in-Without
+pub returns-in-Some : goal.returns-in-Some
 unfolding stays_by
-returns-in-Without c = rw c.in-Without.is
+returns-in-Some c = rw c.in-Some.is c.ne.ensures

@@ -1,18 +1,15 @@
-use Rattle.pcap.specs.Header.{read_header}
-use borrow.Author.Tests.{lt-ltb, le-ltb}
-use native.Mathlib.Omega.{arith}
-use lib.ListN.{length}
-use mathlib.Core.Path.{sym, ◌∙◌}
+use Rattle.std.proofs.Common.{arith}
+use Rattle.le.specs.Le.{bytes_of}
+use Rattle.pcap.specs.Header.{file_header}
+use Rattle.pcap.proofs.RoundTrip.{header-compared}
 use Rattle.pcap.proofs.read_header.Goals as goal
 
-pub returns-then-received-lt-HEADER_SIZE : goal.returns-then-received-lt-HEADER_SIZE
-unfolding read_header
-returns-then-received-lt-HEADER_SIZE c = rw (lt-ltb (length c.args.received.now) 24 (omega arith))
+pub returns-then-starts_with : goal.returns-then-starts_with
+unfolding file_header bytes_of
+returns-then-starts_with c =
+    rw c.if-starts_with.true at (header-compared c.args.received.now c.starts_with.result (λ k. (c.type_inv.received k).fits) (omega arith) c.starts_with.ensures.value)
 
-pub returns-then-is_other : goal.returns-then-is_other
-unfolding read_header
-returns-then-is_other c = rw (le-ltb (length c.args.received.now) 24 (omega arith), sym c.is_other.ensures ∙ c.if-is_other.true)
-
-pub returns : goal.returns
-unfolding read_header
-returns c = rw (le-ltb (length c.args.received.now) 24 (omega arith), sym c.is_other.ensures ∙ c.if-is_other.false)
+pub returns-else-starts_with : goal.returns-else-starts_with
+unfolding file_header bytes_of
+returns-else-starts_with c =
+    rw c.if-starts_with.false at (header-compared c.args.received.now c.starts_with.result (λ k. (c.type_inv.received k).fits) (omega arith) c.starts_with.ensures.value)

@@ -3,5 +3,5 @@ use Rattle.shell_write.proofs.put_frame.Goals as goal
 
 pub returns : goal.returns
 returns c =
-    put-frame c.args.out.now _ _ _ c.args.kind c.args.payload.now c.requires.fits
-    c.put_u8.ensures c.put_u32.ensures c.copy_at.ensures
+    rw (← c.from.ensures)
+    (put-frame c.args.out.now _ _ _ c.from.result c.args.payload.now c.requires.fits c.put.ensures c.put-2.ensures c.copy_at.ensures)

@@ -1,14 +1,10 @@
+use mathlib.Core.Path.{◌≡◌, refl, ◌∙◌}
+use denote.Enum.Bare.{sameb}
+use Rattle.slot.specs.contracts.ChannelState.{the_type}
+use Rattle.slot.specs.declared.ChannelState.TheVariants.{Opening, Open, Closed}
 use Rattle.slot.specs.Slot.{is_opening}
 use Rattle.slot.proofs.is_opening.Goals as goal
 
-pub returns-in-Opening : goal.returns-in-Opening
+pub returns : goal.returns
 unfolding is_opening
-returns-in-Opening c = rw c.in-Opening.is
-
-pub returns-in-Open : goal.returns-in-Open
-unfolding is_opening
-returns-in-Open c = rw c.in-Open.is
-
-pub returns-in-Closed : goal.returns-in-Closed
-unfolding is_opening
-returns-in-Closed c = rw c.in-Closed.is
+returns c = c.eq.ensures ∙ elim c.args.state as (λ s. sameb the_type s Opening ≡ is_opening s) [ Opening ↦ refl | Open ↦ refl | Closed ↦ refl ]

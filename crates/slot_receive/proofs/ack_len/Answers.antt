@@ -8,7 +8,7 @@ returns-then-slot-eq0 c = rw (eq-eqb c.args.slot.unacked 0 c.if-slot-eq0.true)
 
 pub returns-then-policy : goal.returns-then-policy
 unfolding ack_len_of
-returns-then-policy c = rw (ne_eqb c.args.slot.unacked 0 c.if-slot-eq0.false, c.if-policy.true) (c.some_len.ensures ∙ ap some_len c.least.ensures)
+returns-then-policy c = rw (ne_eqb c.args.slot.unacked 0 c.if-slot-eq0.false, c.if-policy.true) (c.some_len.ensures ∙ ap some_len c.min.ensures)
 
 pub returns-then-remaining-policy : goal.returns-then-remaining-policy
 unfolding ack_len_of

@@ -1,6 +1,7 @@
 use Rattle.rx_store.proofs.Laws.{head-appended}
 use Rattle.slot.proofs.Laws.{wrote-now, wrote-hold}
 use Rattle.std.proofs.Common.{◌+◌, ◌*◌, sym, ◌∙◌, arith, lt-ltb}
+use Rattle.saturate.specs.Saturate.{sat_sum}
 use Rattle.slot.specs.Slot.{held_of, wrote_of}
 use Rattle.slot_receive.proofs.apply_write.Goals as goal
 
@@ -41,9 +42,9 @@ returns-then-acks_now c =
     c.with_numbers.ensures
 
 pub returns : goal.returns
-unfolding held_of
+unfolding held_of sat_sum
 returns c =
     wrote-hold c.args.slot c.args.policy c.args.n c.with_numbers-2.result c.appended_head-head.result
     c.held-held.result c.acks_now.result (sym c.is_opening.ensures ∙ c.if-is_opening.false) (omega (arith, c.held-held.ensures, c.if-policy-held.false, c.requires.held-cap))
-    c.held-held.ensures c.acks_now.ensures c.appended_head-head.ensures c.sat_sum-unacked.result
-    c.if-acks_now.false c.sat_sum-unacked.ensures c.with_numbers-2.ensures
+    c.held-held.ensures c.acks_now.ensures c.appended_head-head.ensures c.saturating_add-unacked.result
+    c.if-acks_now.false c.saturating_add-unacked.ensures c.with_numbers-2.ensures

@@ -1,10 +1,10 @@
 use Rattle.slot.specs.declared.ChannelSlot.{ChannelSlot}
-use Rattle.slot.specs.declared.PendingAck.TheVariants.{Len}
 use Rattle.slot.proofs.Laws.{cond-true, cond-false}
 use Rattle.std.proofs.Common.{sym, ap, ◌∙◌, ap₂, arith, le-leb}
 use borrow.Author.Tests.{lt-leb}
 use Rattle.slot.specs.Slot.{with_total, delivered_of, acked}
 use Rattle.slot_receive.proofs.deliver.Goals as goal
+use Rattle.std.specs.Prelude.{Option, Some, None, Result, Ok, Err}
 
 pub returns-then-slot : goal.returns-then-slot
 unfolding delivered_of
@@ -23,7 +23,7 @@ returns-then-slot-policy c = rw (c.if-policy.false, le-leb c.args.policy.waterma
 pub returns-then-slot-2 : goal.returns-then-slot-2
 unfolding delivered_of
 returns-then-slot-2 c =
-    ap (λ (x : ChannelSlot). acked x (Len c.args.slot.unacked)) c.with_numbers.ensures
+    ap (λ (x : ChannelSlot). acked x (Some c.args.slot.unacked)) c.with_numbers.ensures
     ∙ sym (cond-true _ _ _ c.if-slot-2.true)
     ∙ sym (cond-false _ _ _ (lt-leb c.args.policy.watermark c.args.slot.buffered (omega arith)))
     ∙ sym (cond-false _ _ _ c.if-policy.false)

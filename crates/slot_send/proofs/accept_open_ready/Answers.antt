@@ -1,32 +1,31 @@
 use mir.Val.{SFits}
-use Rattle.slot.specs.declared.ChannelState.TheVariants.{Open}
-use Rattle.slot.specs.declared.Readied.TheVariants.{Slot}
-use mathlib.Core.Path.{refl, sym, ap, ◌∙◌}
-use mir.Syntax.{w32}
-use mir.Facts.{to_z-of_z, sfits_widen}
+use mathlib.Core.Path.{◌≡◌, refl, sym, ap, ◌∙◌}
+use mir.Syntax.{w32, w64}
+use mir.Facts.{to_z-of_z}
 use borrow.Author.Rules.{rules}
+use Rattle.std.specs.Prelude.{Ok, Err}
+use Rattle.slot.specs.declared.ChannelState.TheVariants.{Open}
 use Rattle.slot.specs.Slot.{opened_of, opened_by, with_state}
-use Rattle.slot.proofs.Laws.{widened, opened-is, cond-true, cond-false}
+use Rattle.slot.proofs.Laws.{opened-is, cond-true, cond-false}
 use Rattle.slot_send.proofs.accept_open_ready.Goals as goal
 
-pub overflow_cast-n : goal.overflow_cast-n
-overflow_cast-n c = let f : SFits w32 c.in-Of.n = search rules in rw (to_z-of_z f) (sfits_widen tt f)
-
-pub returns-in-Bad : goal.returns-in-Bad
+pub returns-in_err-credit : goal.returns-in_err-credit
 unfolding opened_of opened_by
-returns-in-Bad c =
-    ap (opened_by c.args.slot c.args.remote) (sym (sym c.parse_ready_credit-credit.ensures ∙ c.in-Bad.is))
-    ∙ sym (cond-true _ _ _ c.if-policy.true)
+returns-in_err-credit c =
+    let is : c.from_residual.result ≡ Err c.in_err-credit.field-0.0 = search rules in
+    is ∙ ap (opened_by c.args.slot c.args.remote) c.in_err-credit.ensures ∙ sym (cond-true _ _ _ c.if-policy.true)
 
-pub returns-in-Of : goal.returns-in-Of
-returns-in-Of c =
+pub returns-then-policy : goal.returns-then-policy
+returns-then-policy c =
     let a = c.args in
-    let z = c.in-Of.n in
+    let z = c.in_ok-credit.credit in
     let f : SFits w32 z = search rules in
-    opened-is a.slot a.remote a.policy a.payload.now z z c.with_state-opened.result c.with_sending.result c.if-policy.true (sym c.parse_ready_credit-credit.ensures ∙ c.in-Of.is) refl (c.with_state-opened.ensures ∙ ap (λ x. with_state x Open) c.with_remote.ensures) (rw (widened z f) at c.with_sending.ensures)
+    let wide = to_z-of_z {w = w64} {z = c.from.result} (record { sfits = c.from.type_inv }) in
+    opened-is a.slot a.remote a.policy a.payload.now z c.from.result c.with_state-opened.result c.with_sending.result c.if-policy.true
+    (sym c.in_ok-credit.ensures) (c.from.ensures ∙ to_z-of_z f) (c.with_state-opened.ensures ∙ ap (λ x. with_state x Open) c.with_remote.ensures)
+    (rw wide at c.with_sending.ensures)
 
 pub returns : goal.returns
 unfolding opened_of
 returns c =
-    ap Slot (c.with_state-opened.ensures ∙ ap (λ x. with_state x Open) c.with_remote.ensures) ∙ sym
-    (cond-false _ _ _ c.if-policy.false)
+    ap Ok (c.with_state-opened.ensures ∙ ap (λ x. with_state x Open) c.with_remote.ensures) ∙ sym (cond-false _ _ _ c.if-policy.false)

@@ -13,9 +13,9 @@ returns-then-n-eq0 c =
     let e = rw (to_z-of_z {w = w64} {z = c.args.slot.send_budget} (search rules)) at c.positive-n.ensures in
     rw (c.if-policy.true, eq-eqb (positive_part c.args.slot.send_budget) 0 (sym e ∙ c.if-n-eq0.true))
 
-pub returns-then-policy : goal.returns-then-policy
+pub returns-else-n-eq0 : goal.returns-else-n-eq0
 unfolding budget_of some_budget
-returns-then-policy c =
+returns-else-n-eq0 c =
     let e = rw (to_z-of_z {w = w64} {z = c.args.slot.send_budget} (search rules)) at c.positive-n.ensures in
     rw (c.if-policy.true, sym e, ne_eqb c.positive-n.result 0 c.if-n-eq0.false)
 

@@ -1,11 +1,12 @@
-use mathlib.Core.Path.{sym, ◌∙◌}
+use mathlib.Core.Path.{sym, ap, ◌∙◌}
 use Rattle.slot.specs.Slot.{reserved_of, reserved_by}
 use Rattle.slot_send.proofs.try_reserve_send.Goals as goal
 
-pub returns-in-Nothing : goal.returns-in-Nothing
+pub returns-in_err-most : goal.returns-in_err-most
 unfolding reserved_of reserved_by
-returns-in-Nothing c = rw (sym c.budget-budget.ensures ∙ c.in-Nothing.is)
+returns-in_err-most c = c.from_residual.ensures ∙ ap (reserved_by c.args.slot c.args.policy c.args.want) c.in_err-most.ensures
 
-pub returns-in-Bytes : goal.returns-in-Bytes
+pub returns : goal.returns
 unfolding reserved_of reserved_by
-returns-in-Bytes c = rw (sym c.budget-budget.ensures ∙ c.in-Bytes.is) (cc)
+returns c =
+    rw (c.spend.ensures, c.min-n.ensures) (ap (reserved_by c.args.slot c.args.policy c.args.want) c.in_ok-most.ensures)

@@ -5,4 +5,4 @@ use Rattle.state.proofs.slot_of.Goals as goal
 
 pub returns : goal.returns
 unfolding slot_of
-returns c = rw (to_z-of_z {w = w64} {z = c.get_i64.result} (record { sfits = c.get_i64.type_inv })) (cc)
+returns c = rw (to_z-of_z {w = w64} {z = c.get-3.result} (record { sfits = c.get-3.type_inv })) (cc)

@@ -10,13 +10,13 @@ pub loop-i-preserved : goal.loop-i-preserved
 loop-i-preserved c = (
   omega arith,
   c.loop-i.invariant.1 ∙ opens-step c.args.state.now c.args.n c.loop-i.i (omega arith) (omega arith)
-      c.args.channels c.args.payload (sym (rw c.queued_at-q.ensures at c.queued_fine.ensures) ∙ c.if-queued_fine.true),
+      c.args.channels c.args.payload (sym (rw c.queued_at-q.ensures at c.queued_fine.ensures) ∙ c.if-not-queued_fine.false),
 )
 
-pub returns-else-queued_fine : goal.returns-else-queued_fine
-returns-else-queued_fine c =
+pub returns-then-not-queued_fine : goal.returns-then-not-queued_fine
+returns-then-not-queued_fine c =
     sym (c.loop-i.invariant.1 ∙ opens-stop c.args.state.now c.args.n c.loop-i.i (omega arith) (omega arith)
-    c.args.channels c.args.payload (sym (rw c.queued_at-q.ensures at c.queued_fine.ensures) ∙ c.if-queued_fine.false))
+    c.args.channels c.args.payload (sym (rw c.queued_at-q.ensures at c.queued_fine.ensures) ∙ c.if-not-queued_fine.true))
 
 pub returns : goal.returns
 returns c =

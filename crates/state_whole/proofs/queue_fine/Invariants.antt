@@ -7,6 +7,3 @@ use Rattle.state_whole.proofs.queue_fine.Given as goal
 
 abbrev pub invariant-loop-i : goal.invariant-loop-i
 invariant-loop-i l = (l.i ≤ l.n) × (queue_fine l.channels l.payload (take l.n (state_of l.state).queue) ≡ queue_fine l.channels l.payload (drop l.i (take l.n (state_of l.state).queue)))
-
-abbrev pub decreases-loop-i : goal.decreases-loop-i
-decreases-loop-i l = l.n - l.i

@@ -10,13 +10,13 @@ pub loop-i-preserved : goal.loop-i-preserved
 loop-i-preserved c = (
   omega arith,
   c.loop-i.invariant.1 ∙ rows_step c.args.channels c.args.cap c.loop-i.i c.args.end
-      c.args.state.now (omega arith) (sym c.row_at_fine.ensures ∙ c.if-row_at_fine.true),
+      c.args.state.now (omega arith) (sym c.row_at_fine.ensures ∙ c.if-not-row_at_fine.false),
 )
 
-pub returns-else-row_at_fine : goal.returns-else-row_at_fine
-returns-else-row_at_fine c =
+pub returns-then-not-row_at_fine : goal.returns-then-not-row_at_fine
+returns-then-not-row_at_fine c =
     sym (c.loop-i.invariant.1 ∙ rows-stop c.args.channels c.args.cap c.loop-i.i c.args.end c.args.state.now
-    (omega arith) (sym c.row_at_fine.ensures ∙ c.if-row_at_fine.false))
+    (omega arith) (sym c.row_at_fine.ensures ∙ c.if-not-row_at_fine.true))
 
 pub returns : goal.returns
 returns c =

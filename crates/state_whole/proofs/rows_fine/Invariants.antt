@@ -7,6 +7,3 @@ use Rattle.state_whole.proofs.rows_fine.Given as goal
 
 abbrev pub invariant-loop-i : goal.invariant-loop-i
 invariant-loop-i l = (l.i ≤ l.end) × (rows_fine l.channels l.cap l.from (l.end - l.from) (drop (header_len + l.from * slot_len) l.state) ≡ rows_fine l.channels l.cap l.i (l.end - l.i) (drop (header_len + l.i * slot_len) l.state))
-
-abbrev pub decreases-loop-i : goal.decreases-loop-i
-decreases-loop-i l = l.end - l.i

@@ -1,5 +1,6 @@
 use mathlib.Core.Path.{refl}
 use native.Mathlib.Omega.{arith}
+use lib.ListN.{length}
 use borrow.Author.Rules.{rules}
 use Rattle.stretch.specs.Stretch.{world_of}
 use Rattle.stretch.proofs.RunLaws.{running-starts, running-goes, running-stops, running-ends}
@@ -28,4 +29,4 @@ loop-i-preserved c = (
 pub returns : goal.returns
 returns c =
     running-ends (world_of c.args.state.now c.args.rx.now c.args.store.now) c.args.received.now c.args.places.now c.loop-i.state c.loop-i.rx c.loop-i.store c.loop-i.i c.loop-i.invariant.3
-    _ (omega arith) refl
+    (length c.args.places.now) (omega arith) (omega arith)

@@ -9,6 +9,3 @@ abbrev pub invariant-loop-i : goal.invariant-loop-i
 invariant-loop-i l =
     (length l.copy ≡ length l.initial.copy) × (length l.rx ≡ length l.initial.rx) × (length l.store ≡ length l.initial.store) × (l.i ≤ length l.places)
     × Best (ends_so (world_of l.state l.initial.rx l.initial.store) l.received l.places l.number) (length l.places) l.first l.count l.i
-
-abbrev pub decreases-loop-i : goal.decreases-loop-i
-decreases-loop-i l = length l.places - l.i

@@ -1,8 +1,9 @@
-use mathlib.Core.Path.{refl, sym, ◌∙◌}
+use mathlib.Core.Path.{◌≡◌, refl, sym, subst, ◌∙◌}
+use Prim.Native.Nat.{ℕ}
 use lib.ListN.{length-set}
 use native.Mathlib.Omega.{arith}
 use borrow.Author.Rules.{rules}
-use Rattle.stretch.specs.Stretch.{world_of}
+use Rattle.stretch.specs.Stretch.{world_of, Tells}
 use Rattle.stretch.proofs.TellLaws.{telling-starts, telling-goes, telling-stops, telling-ends}
 use Rattle.stretch.proofs.tell.Goals as goal
 
@@ -38,4 +39,7 @@ loop-n-preserved c = (
 )
 
 pub returns : goal.returns
-returns c = telling-ends (world_of c.args.state.now c.args.rx.now c.args.store.now) c.args.received.now c.loop-n.state c.loop-n.rx c.loop-n.store c.loop-n.n c.loop-n.at c.loop-n.places c.loop-n.invariant.4 c.loop-n.invariant.3 (omega arith)
+returns c =
+    let all : c.loop-n.n ≡ 32 = omega arith in
+    subst (λ (n : ℕ). Tells (world_of c.args.state.now c.args.rx.now c.args.store.now) c.args.received.now (record { count = n; number = 0 }) c.loop-n.places) all
+    (telling-ends (world_of c.args.state.now c.args.rx.now c.args.store.now) c.args.received.now c.loop-n.state c.loop-n.rx c.loop-n.store c.loop-n.n c.loop-n.at c.loop-n.places c.loop-n.invariant.4 c.loop-n.invariant.3 (omega arith))

@@ -1,7 +1,7 @@
-use Rattle.std.proofs.Common.{◌≡◌, Bool, cond, sym, arith}
+use Rattle.std.proofs.Common.{◌≡◌, Bool, cond, sym, ◌∙◌, arith}
 use Rattle.slot.specs.declared.ChannelSlot.{ChannelSlot}
 use Rattle.state.specs.State.{slot_at}
-use Rattle.table.proofs.Laws.{bit-small, count-step, count-end}
+use Rattle.table.proofs.Laws.{bit-small, bit-is, count-step, count-end}
 use Rattle.table.specs.Table.{in_use}
 use Rattle.table.proofs.in_use.Goals as goal
 
@@ -16,7 +16,7 @@ overflow_add-used c = let z = bit-small c.slot_at-s.result.filled in omega arith
 
 pub loop-i-preserved : goal.loop-i-preserved
 loop-i-preserved c =
-    let z = bit-small c.slot_at-s.result.filled in let e : cond (slot_at c.args.state.now c.loop-i.i).filled 1 0 ≡ c.one_if-used.result = sym (rw c.slot_at-s.ensures at c.one_if-used.ensures) in let k = count-step is_filled c.args.state.now
+    let z = bit-small c.slot_at-s.result.filled in let e : cond (slot_at c.args.state.now c.loop-i.i).filled 1 0 ≡ c.from-used.result = sym (rw c.slot_at-s.ensures at (c.from-used.ensures ∙ bit-is c.slot_at-s.result.filled)) in let k = count-step is_filled c.args.state.now
     c.args.n c.loop-i.i (omega arith) (omega arith) in (omega arith, omega arith, omega arith)
 
 pub returns : goal.returns

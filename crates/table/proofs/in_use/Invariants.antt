@@ -9,6 +9,3 @@ is_filled s = s.filled
 
 abbrev pub invariant-loop-i : goal.invariant-loop-i
 invariant-loop-i l = (l.i ≤ l.n) × (l.used ≤ l.i) × (count_of is_filled (take l.n (state_of l.state).slots) ≡ l.used + count_of is_filled (drop l.i (take l.n (state_of l.state).slots)))
-
-abbrev pub decreases-loop-i : goal.decreases-loop-i
-decreases-loop-i l = l.n - l.i

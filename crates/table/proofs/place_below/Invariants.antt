@@ -5,6 +5,3 @@ use Rattle.table.proofs.place_below.Given as goal
 
 abbrev pub invariant-loop-i : goal.invariant-loop-i
 invariant-loop-i l = (l.i ≤ l.n) × (first (wanted_by l.want) (take l.n (state_of l.state).slots) ≡ l.i + first (wanted_by l.want) (drop l.i (take l.n (state_of l.state).slots)))
-
-abbrev pub decreases-loop-i : goal.decreases-loop-i
-decreases-loop-i l = l.n - l.i

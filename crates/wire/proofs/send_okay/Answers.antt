@@ -4,7 +4,7 @@ use Rattle.wire.proofs.send_okay.Goals as goal
 pub returns-then-delayed : goal.returns-then-delayed
 returns-then-delayed c =
     let a = c.args in
-    delayed-okay _ _ _ _ _ a.len a.ids a.delayed _ c.if-delayed.true c.put_u32.ensures c.put_at.ensures
+    delayed-okay _ _ _ _ _ a.len a.ids a.delayed _ c.if-delayed.true c.put.ensures c.put_at.ensures
 
 pub returns : goal.returns
 returns c =

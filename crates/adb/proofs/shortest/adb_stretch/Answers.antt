@@ -12,4 +12,4 @@ put_answer-requires c = (long-answer _ _ (sym c.is_short.ensures ∙ c.if-is_sho
 pub returns : goal.returns
 returns c =
     stretch-called c.args.state.now c.args.rx.now c.args.opens.now c.args.received.now c.args.spare_rx.now c.args.spare_opens.now c.args.answer.now (sym c.is_short.ensures ∙ c.if-is_short.false)
-    c.stretch-found.result _ _ c.stretch-found.ensures c.stretch_values.result c.stretch_values.ensures _ c.put_answer.ensures _ c.number.ensures
+    c.stretch-found.result _ _ c.stretch-found.ensures c.stretch_numbers.result c.stretch_numbers.ensures _ c.put_answer.ensures _ c.stretched_number.ensures

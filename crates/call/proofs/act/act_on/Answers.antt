@@ -25,32 +25,32 @@ returns-in-StrayReady c =
     c.dispatch-outcome.new.state c.dispatch-outcome.new.rx c.rx_policy.ensures c.dispatch-outcome.ensures _ _ _ _
     c.in-StrayReady.is c.done-in-StrayReady.ensures c.put_close-end.ensures c.requires.room
 
-pub shape_of-state-in-Queued : goal.shape_of-state-in-Queued
-shape_of-state-in-Queued c = omega (arith, c.state-1.given, c.state-in-IncomingOpen-1.given)
+pub shape_of-state-in-Some : goal.shape_of-state-in-Some
+shape_of-state-in-Some c = omega (arith, c.state-1.given, c.state-in-IncomingOpen-1.given)
 
-pub shape_of-rx-in-Queued : goal.shape_of-rx-in-Queued
-shape_of-rx-in-Queued c = omega (arith, c.rx-1.given)
+pub shape_of-rx-in-Some : goal.shape_of-rx-in-Some
+shape_of-rx-in-Some c = omega (arith, c.rx-1.given)
 
-pub returns-in-Queued : goal.returns-in-Queued
-returns-in-Queued c =
+pub returns-in-Some : goal.returns-in-Some
+returns-in-Some c =
     acts-queued c.args.h c.args.state.now c.args.rx.now c.args.store.now c.args.payload.now
     c.args.out.now c.args.at c.args.packet c.rx_policy.result c.dispatch-outcome.result
     c.dispatch-outcome.new.state c.dispatch-outcome.new.rx c.rx_policy.ensures c.dispatch-outcome.ensures _ _ _ _
-    _ _ _ c.in-IncomingOpen.is c.in-Queued.is c.push_back-pushed.ensures c.done-in-Queued.ensures c.requires.room
+    _ _ _ c.in-IncomingOpen.is c.in-Some.is c.push_back-pushed.ensures c.done-in-Some.ensures c.requires.room
 
-pub shape_of-state-in-Full : goal.shape_of-state-in-Full
-shape_of-state-in-Full c = omega (arith, c.state-1.given, c.state-in-IncomingOpen-1.given)
+pub shape_of-state-in-None : goal.shape_of-state-in-None
+shape_of-state-in-None c = omega (arith, c.state-1.given, c.state-in-IncomingOpen-1.given)
 
-pub shape_of-rx-in-Full : goal.shape_of-rx-in-Full
-shape_of-rx-in-Full c = omega (arith, c.rx-1.given)
+pub shape_of-rx-in-None : goal.shape_of-rx-in-None
+shape_of-rx-in-None c = omega (arith, c.rx-1.given)
 
-pub returns-in-Full : goal.returns-in-Full
-returns-in-Full c =
+pub returns-in-None : goal.returns-in-None
+returns-in-None c =
     acts-full c.args.h c.args.state.now c.args.rx.now c.args.store.now c.args.payload.now
     c.args.out.now c.args.at c.args.packet c.rx_policy.result c.dispatch-outcome.result
     c.dispatch-outcome.new.state c.dispatch-outcome.new.rx c.rx_policy.ensures c.dispatch-outcome.ensures _ _ _ _
-    _ _ _ _ c.in-IncomingOpen.is c.in-Full.is c.push_back-pushed.ensures c.done-in-Full.ensures
-    c.put_close-end-in-Full.ensures c.requires.room
+    _ _ _ _ c.in-IncomingOpen.is c.in-None.is c.push_back-pushed.ensures c.done-in-None.ensures
+    c.put_close-end-in-None.ensures c.requires.room
 
 pub returns-in-CancelQueuedOpen : goal.returns-in-CancelQueuedOpen
 returns-in-CancelQueuedOpen c =

@@ -5,12 +5,12 @@ use Rattle.call.proofs.frames.put_ack.Goals as goal
 
 pub put_okay-requires : goal.put_okay-requires
 unfolding is_ack
-put_okay-requires c = c.requires (ap is_ack c.in-Len.is)
+put_okay-requires c = c.requires (ap is_ack c.in-Some.is)
 
-pub returns-in-Nothing : goal.returns-in-Nothing
-returns-in-Nothing c = ack-none c.args.n c.args.s _ _ c.args.ack c.in-Nothing.is
+pub returns-in-None : goal.returns-in-None
+returns-in-None c = ack-none c.args.n c.args.s _ _ c.args.ack c.in-None.is
 
-pub returns-in-Len : goal.returns-in-Len
-returns-in-Len c =
-    ack-some c.args.n c.args.s _ _ _ _ c.args.ack _ _ c.in-Len.is c.ids_in.ensures
+pub returns-in-Some : goal.returns-in-Some
+returns-in-Some c =
+    ack-some c.args.n c.args.s _ _ _ _ c.args.ack _ _ c.in-Some.is c.ids_in.ensures
     c.put_okay.ensures

@@ -3,10 +3,10 @@ use Rattle.connection.specs.declared.Answer.TheVariants.{Refused}
 use Rattle.connection.specs.Calls.{unless_fault}
 use Rattle.call.proofs.recv.unless_fault.Goals as goal
 
-pub returns-in-No : goal.returns-in-No
+pub returns-in-None : goal.returns-in-None
 unfolding unless_fault
-returns-in-No c = rw c.in-No.is
+returns-in-None c = rw c.in-None.is
 
-pub returns-in-By : goal.returns-in-By
+pub returns-in-Some : goal.returns-in-Some
 unfolding unless_fault
-returns-in-By c = rw c.in-By.is (ap Refused c.fault_refusal.ensures)
+returns-in-Some c = rw c.in-Some.is (ap Refused c.from.ensures)

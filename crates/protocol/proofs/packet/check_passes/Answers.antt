@@ -6,6 +6,6 @@ pub returns-then-check-eq0 : goal.returns-then-check-eq0
 unfolding check_passes
 returns-then-check-eq0 c = rw (eq-eqb c.args.check 0 c.if-check-eq0.true)
 
-pub returns : goal.returns
+pub returns-else-check-eq0 : goal.returns-else-check-eq0
 unfolding check_passes
-returns c = rw (ne_eqb c.args.check 0 c.if-check-eq0.false, c.payload_checksum.ensures)
+returns-else-check-eq0 c = rw (ne_eqb c.args.check 0 c.if-check-eq0.false, c.payload_checksum.ensures)

@@ -13,9 +13,9 @@ pub returns-then-message-magic : goal.returns-then-message-magic
 unfolding known_of packet_of
 returns-then-message-magic c = rw (ne_eqb c.args.message.magic (magic_of c.args.command) (λ e. c.if-message-magic.true (e ∙ sym c.magic.ensures)))
 
-pub returns-then-message-least_u32 : goal.returns-then-message-least_u32
+pub returns-then-message-min : goal.returns-then-message-min
 unfolding known_of packet_of
-returns-then-message-least_u32 c =
+returns-then-message-min c =
     rw (
       eq-eqb c.args.message.magic (magic_of c.args.command) (c.if-message-magic.false ∙ c.magic.ensures),
       lt-ltb

@@ -1,9 +1,10 @@
-use native.Mathlib.Omega.{arith}
+use Rattle.std.proofs.Common.{sym, ◌∙◌, eqb-true}
+use borrow.Author.Tests.{eqb-false}
 use Rattle.replay.proofs.TextLaws.{hex-none, hex-some}
 use Rattle.replay.proofs.text.put_hex.Goals as goal
 
-pub returns-then-s-eq0 : goal.returns-then-s-eq0
-returns-then-s-eq0 c = rw (hex-none c.args.s.now (omega arith)) c.put.ensures
+pub returns-then-is_empty : goal.returns-then-is_empty
+returns-then-is_empty c = rw (hex-none c.args.s.now (eqb-true _ _ (sym c.is_empty.ensures ∙ c.if-is_empty.true))) c.put.ensures
 
-pub returns : goal.returns
-returns c = rw (hex-some c.args.s.now (λ z. omega arith)) c.put_bytes.ensures
+pub returns-else-is_empty : goal.returns-else-is_empty
+returns-else-is_empty c = rw (hex-some c.args.s.now (eqb-false _ _ (sym c.is_empty.ensures ∙ c.if-is_empty.false))) c.put_bytes.ensures

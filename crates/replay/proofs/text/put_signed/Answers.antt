@@ -1,20 +1,16 @@
-use mir.Syntax.{w64}
-use mir.Val.{SFits}
 use mir.Facts.{to_z-of_z}
 use Rattle.replay.proofs.TextLaws.{signed-plain, signed-minus, puts-puts}
 use Rattle.replay.proofs.text.put_signed.Goals as goal
 
-pub returns-then-bits-lt9223372036854775808 : goal.returns-then-bits-lt9223372036854775808
-returns-then-bits-lt9223372036854775808 c =
-    let z = c.args.z in
-    let b = rw (to_z-of_z c.ranges.z) at c.bits_of_i64-bits.ensures in
-    let f : SFits w64 z = c.ranges.z in
-    rw (signed-plain z f.sfits (rw b at c.if-bits-lt9223372036854775808.true), ← b) c.put_number.ensures
-
-pub returns : goal.returns
-returns c =
+pub returns-then-z-lt0 : goal.returns-then-z-lt0
+returns-then-z-lt0 c =
     let a = c.args in
-    let b = rw (to_z-of_z c.ranges.z) at c.bits_of_i64-bits.ensures in
-    let f : SFits w64 a.z = c.ranges.z in
-    rw (signed-minus a.z f.sfits (rw b at c.if-bits-lt9223372036854775808.false), ← b)
-    (puts-puts a.line.now a.at _ _ _ _ _ _ c.put-end.ensures c.put_number-2.ensures)
+    let s = rw (to_z-of_z c.ranges.z) at c.if-z-lt0.true in
+    let p = rw (c.unsigned_abs.ensures.value, to_z-of_z c.ranges.z) at c.put_number.ensures in
+    rw (signed-minus a.z s) (puts-puts a.line.now a.at _ _ _ _ _ _ c.put-end.ensures p)
+
+pub returns-else-z-lt0 : goal.returns-else-z-lt0
+returns-else-z-lt0 c =
+    let s = rw (to_z-of_z c.ranges.z) at c.if-z-lt0.false in
+    let p = rw (c.unsigned_abs-else-z-lt0.ensures.value, to_z-of_z c.ranges.z) at c.put_number-else-z-lt0.ensures in
+    rw (signed-plain c.args.z s) p

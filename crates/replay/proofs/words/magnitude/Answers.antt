@@ -6,23 +6,23 @@ use Rattle.replay.specs.Words.{grown}
 use Rattle.replay.proofs.WordsLaws.{spelled-held, spelled_step, spelled-end}
 use Rattle.replay.proofs.words.magnitude.Goals as goal
 
-pub loop-i-init : goal.loop-i-init
-loop-i-init c = (omega arith, omega arith, refl)
+pub loop-b-init : goal.loop-b-init
+loop-b-init c = (omega arith, omega arith, refl)
 
-pub loop-i-preserved : goal.loop-i-preserved
-loop-i-preserved c =
+pub loop-b-preserved : goal.loop-b-preserved
+loop-b-preserved c =
     let s = c.args.s.now in
-    let l = c.loop-i in
+    let l = c.loop-b in
     let g = c.grow-n.ensures in (
       omega arith,
       omega arith,
-      rw g (spelled-held (grown l.n (get_or s l.i 0)) 0xffff_ffff_ffff_ffff (drop (l.i + 1) s) ∙ rw
-          (← spelled_step s l.i l.n (omega arith)) l.invariant.2),
+      rw g (spelled-held (grown l.n (get_or s l.b-index 0)) 0xffff_ffff_ffff_ffff (drop (l.b-index + 1) s) ∙ rw
+          (← spelled_step s l.b-index l.n (omega arith)) l.invariant.2),
     )
 
 pub returns : goal.returns
 returns c =
-    let l = c.loop-i in
-    let e = spelled-end c.args.s.now l.i l.n (omega arith) in
+    let l = c.loop-b in
+    let e = spelled-end c.args.s.now l.b-index l.n (omega arith) in
     let i = rw e at l.invariant.2 in
     omega arith

@@ -10,7 +10,7 @@ returns-then-is_negative c =
     rw c.below.ensures (to_z-of_z {w = w64} (record { sfits = held_fits _ }) ∙ signed_below c.args.s.now _
     (sym c.is_negative.ensures ∙ c.if-is_negative.true) c.magnitude-n.ensures)
 
-pub returns : goal.returns
-returns c =
+pub returns-else-is_negative : goal.returns-else-is_negative
+returns-else-is_negative c =
     rw c.above.ensures (to_z-of_z {w = w64} (record { sfits = held_fits _ }) ∙ signed_above c.args.s.now _
     (sym c.is_negative.ensures ∙ c.if-is_negative.false) c.magnitude-n.ensures)

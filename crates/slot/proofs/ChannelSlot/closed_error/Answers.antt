@@ -1,10 +1,10 @@
 use Rattle.slot.specs.Slot.{error_of}
 use Rattle.slot.proofs.ChannelSlot.closed_error.Goals as goal
 
-pub returns-in-No : goal.returns-in-No
+pub returns-in-None : goal.returns-in-None
 unfolding error_of
-returns-in-No c = rw c.in-No.is
+returns-in-None c = rw c.in-None.is
 
-pub returns-in-By : goal.returns-in-By
+pub returns-in-Some : goal.returns-in-Some
 unfolding error_of
-returns-in-By c = rw c.in-By.is
+returns-in-Some c = rw c.in-Some.is

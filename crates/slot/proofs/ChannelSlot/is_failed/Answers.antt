@@ -1,10 +1,7 @@
+use Rattle.std.proofs.Common.{◌≡◌, refl, ◌∙◌, Some, None, is_some}
 use Rattle.slot.specs.Slot.{is_failed}
 use Rattle.slot.proofs.ChannelSlot.is_failed.Goals as goal
 
-pub returns-in-No : goal.returns-in-No
+pub returns : goal.returns
 unfolding is_failed
-returns-in-No c = rw c.in-No.is
-
-pub returns-in-By : goal.returns-in-By
-unfolding is_failed
-returns-in-By c = rw c.in-By.is
+returns c = c.is_some.ensures ∙ elim c.args.self.failed as (λ f. is_some f ≡ is_failed f) [ None ↦ refl | Some _ ↦ refl ]

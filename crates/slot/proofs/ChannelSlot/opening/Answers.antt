@@ -1,7 +1,6 @@
-use mathlib.Core.Path.{refl}
-use Rattle.slot.specs.Slot.{opening_slot}
+use Rattle.slot.specs.Slot.{empty_slot, opening_slot}
 use Rattle.slot.proofs.ChannelSlot.opening.Goals as goal
 
 pub returns : goal.returns
-unfolding opening_slot
-returns c = refl
+unfolding empty_slot opening_slot
+returns c = rw c.empty.ensures

@@ -1,9 +1,12 @@
-use mathlib.Core.Path.{ap}
-use lib.Dec.{eqb}
+use mathlib.Core.Path.{◌≡◌, refl, ◌∙◌}
+use denote.Enum.Bare.{sameb}
 use Rattle.le.specs.Le.{num_of}
+use Rattle.protocol.specs.contracts.command.Command.{the_type}
+use Rattle.protocol.specs.declared.command.Command.TheVariants.{Ready}
 use Rattle.protocol.specs.Command.{letters_of, word_of, is_the, is_ready}
+use Rattle.protocol.proofs.CommandLaws.{by_command}
 use Rattle.protocol.proofs.command.Command.is_ready.Goals as goal
 
 pub returns : goal.returns
 unfolding is_ready is_the word_of letters_of num_of
-returns c = ap (λ w. eqb w 0x5941_4b4f) c.word.ensures
+returns c = c.eq.ensures ∙ by_command (λ d. sameb the_type d Ready ≡ is_ready d) refl refl refl refl refl refl refl refl c.args.self

@@ -1,6 +1,9 @@
 use native.Mathlib.Omega.{arith}
-use mathlib.Core.Path.{sym, ◌∙◌}
+use mathlib.Core.Path.{◌≡◌, ◌∙◌}
+use borrow.Author.Rules.{rules}
 use borrow.Author.Tests.{lt-ltb}
+use Rattle.std.specs.Prelude.{Ok, Err}
+use Rattle.protocol.specs.declared.packet.DecodeError.TheVariants.{InvalidCommand}
 use Rattle.protocol.specs.Packet.{decode_of, named_of}
 use Rattle.protocol.proofs.PacketLaws.{named-decode}
 use Rattle.protocol.proofs.packet.Packet.decode.Goals as goal
@@ -9,14 +12,16 @@ pub returns-then-received-lt-MESSAGE_SIZE : goal.returns-then-received-lt-MESSAG
 unfolding decode_of
 returns-then-received-lt-MESSAGE_SIZE c = rw (lt-ltb _ _ c.if-received-lt-MESSAGE_SIZE.true)
 
-pub returns-in-Invalid : goal.returns-in-Invalid
+pub returns-in_err-command : goal.returns-in_err-command
 unfolding named_of
-returns-in-Invalid c =
-    named-decode c.args.received.now c.args.max_payload c.read-message.result _ (omega arith) c.read-message.ensures
-    (sym c.in-Invalid.is ∙ c.from_word-named.ensures)
+returns-in_err-command c =
+    let unknown = c.in_err-command.field-0.0 in
+    let is : c.from_residual.result ≡ Err (InvalidCommand unknown.0) = search rules in
+    is ∙ named-decode c.args.received.now c.args.max_payload c.read-message.result (Err unknown) (omega arith) c.read-message.ensures
+    c.in_err-command.ensures
 
-pub returns-in-Known : goal.returns-in-Known
+pub returns : goal.returns
 unfolding named_of
-returns-in-Known c =
-    c.decode_known.ensures ∙ named-decode c.args.received.now c.args.max_payload c.read-message.result _ (omega arith)
-    c.read-message.ensures (sym c.in-Known.is ∙ c.from_word-named.ensures)
+returns c =
+    c.decode_known.ensures ∙ named-decode c.args.received.now c.args.max_payload c.read-message.result (Ok c.in_ok-command.command) (omega arith)
+    c.read-message.ensures c.in_ok-command.ensures

@@ -1,4 +1,3 @@
-use native.Mathlib.Omega.{arith}
 use borrow.Author.Tests.{lt-ltb, le-ltb}
 use Rattle.protocol.specs.Packet.{missing_of}
 use Rattle.protocol.proofs.packet.Packet.missing.Goals as goal
@@ -7,10 +6,6 @@ pub returns-then-received-lt-MESSAGE_SIZE : goal.returns-then-received-lt-MESSAG
 unfolding missing_of
 returns-then-received-lt-MESSAGE_SIZE c = rw (lt-ltb _ _ c.if-received-lt-MESSAGE_SIZE.true)
 
-pub returns-then-data_length-here : goal.returns-then-data_length-here
-unfolding missing_of
-returns-then-data_length-here c = rw (le-ltb _ _ c.if-received-lt-MESSAGE_SIZE.false) (omega arith)
-
 pub returns : goal.returns
 unfolding missing_of
-returns c = rw (le-ltb _ _ c.if-received-lt-MESSAGE_SIZE.false) (omega arith)
+returns c = rw (le-ltb _ _ c.if-received-lt-MESSAGE_SIZE.false, c.saturating_sub.ensures, c.get.ensures)

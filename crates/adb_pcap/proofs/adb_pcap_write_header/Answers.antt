@@ -1,5 +1,0 @@
-use Rattle.adb_pcap.proofs.ExportLaws.{write_done}
-use Rattle.adb_pcap.proofs.adb_pcap_write_header.Goals as goal
-
-pub returns : goal.returns
-returns c = write_done _ c.write_header.result _ _ c.write_header.ensures c.number.ensures

@@ -1,6 +1,0 @@
-use native.Mathlib.Omega.{arith}
-use Rattle.le.proofs.Laws.{put_byte}
-use Rattle.le.proofs.put_u8.Goals as goal
-
-pub returns : goal.returns
-returns c = put_byte c.args.s.now c.args.at c.args.x c.requires (omega arith)

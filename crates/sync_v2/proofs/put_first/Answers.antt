@@ -1,6 +1,0 @@
-use native.Mathlib.Omega.{arith}
-use Rattle.sync_v2.proofs.AnswerLaws.{words-put}
-use Rattle.sync_v2.proofs.put_first.Goals as goal
-
-pub returns : goal.returns
-returns c = words-put c.args.answer.now 0 _ _ _ _ _ _ _ _ (omega (arith, c.requires)) c.put_usize.ensures c.put_usize-2.ensures c.put_usize-3.ensures c.put_u64.ensures
