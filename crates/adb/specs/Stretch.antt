@@ -5,6 +5,7 @@ use Rattle.le.specs.Rows.{flat}
 use Rattle.call_stretch.specs.Promise.{stretched_number, stretched_values, is_refused, stretch_of, Spares}
 use Rattle.adb.specs.Export.{said_in, is_short}
 use Rattle.connection.specs.declared.Refusal.{Refusal}
+use Rattle.stretch.specs.declared.Stretch.{Stretch}
 
 -- the number, the answer's bytes and what they say, and whether the call was refused
 pub record Found : Type 0 where
@@ -14,11 +15,11 @@ pub record Found : Type 0 where
   pub refused : Bool
 
 -- an answer's six numbers: 0 used, 0 written, then the first frame's place and the count
-abbrev pub found_numbers : Result (Option (ℕ × ℕ)) Refusal → List ℕ
+abbrev pub found_numbers : Result (Option Stretch) Refusal → List ℕ
 found_numbers s = 0 ∷ 0 ∷ stretched_values s
 
 -- what is answered for a stretch, for none, or for a refusal
-unfoldable pub answered_by : Result (Option (ℕ × ℕ)) Refusal → List ℕ → Found
+unfoldable pub answered_by : Result (Option Stretch) Refusal → List ℕ → Found
 answered_by s answer =
     record { number = stretched_number s; answer = put answer 0 (flat (bytes_of 8) (found_numbers s)); said = found_numbers s; refused = is_refused s }
 

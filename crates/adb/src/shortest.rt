@@ -7,11 +7,11 @@ use crate::{is_short, put_answer};
 use call_stretch::{Stretched, stretch, stretched_number};
 
 // What is said of a stretch: nothing is used or written, and two values of the answer.
-fn stretch_numbers(found: Stretched) -> [u64; 6]
-    ensures { result ≡ 0 ∷ 0 ∷ stretched_values found }
+fn stretch_numbers(stretched: Stretched) -> [u64; 6]
+    ensures { result ≡ 0 ∷ 0 ∷ stretched_values stretched }
 {
-    match found {
-        Ok(Some((first, count))) => [0, 0, first as u64, count as u64, 0, 0],
+    match stretched {
+        Ok(Some(found)) => [0, 0, found.first as u64, found.count as u64, 0, 0],
         Ok(None) => [0; 6],
         Err(_) => [0; 6],
     }

@@ -18,6 +18,7 @@ use Rattle.connection.specs.declared.Refusal.{Refusal}
 use Rattle.connection.specs.declared.Refusal.TheVariants.{StoreShort}
 use Rattle.connection.proofs.Stores.{bytes-sound}
 use Rattle.call.specs.Promise.{admitted}
+use Rattle.stretch.specs.declared.Stretch.{Stretch}
 use Rattle.stretch.specs.Stretch.{world_of, shortest_of}
 use Rattle.stretch.proofs.SearchLaws.{shortest-like}
 use Rattle.call_stretch.specs.Promise.{is_refused, found_as, own_bytes, spare_short, looked_at, stretched_by, stretch_of, Spares, Looks, LookLooks, StretchLooks}
@@ -59,16 +60,16 @@ look-short state received spare_rx spare_store rx store e rx₀ store₀ a b =
 
 -- ---- the search, in the first bytes of the spare stores
 
-found-not : (f : Option (ℕ × ℕ)) → is_refused (found_as f) ≡ true → ⊥
+found-not : (f : Option Stretch) → is_refused (found_as f) ≡ true → ⊥
 unfolding is_refused
-found-not (Some (first, count)) e = absurd (never e)
+found-not (Some s) e = absurd (never e)
 found-not None e = absurd (never e)
 
-found-spares : (n : ℕ) (f : Option (ℕ × ℕ)) (r : Result (Option (ℕ × ℕ)) Refusal) (before front : List ℕ) → r ≡ found_as f → length front ≡ n → Spares n (is_refused r) before (front ++ drop n before)
+found-spares : (n : ℕ) (f : Option Stretch) (r : Result (Option Stretch) Refusal) (before front : List ℕ) → r ≡ found_as f → length front ≡ n → Spares n (is_refused r) before (front ++ drop n before)
 found-spares n f r before front e h =
     record { behind = drop_at front (drop n before) n h; kept = λ t. absurd (found-not f (sym (ap is_refused e) ∙ t)) }
 
-pub look-found : (state received spare_rx spare_store : List ℕ) (rx store : ℕ) (f : Option (ℕ × ℕ)) (r : Result (Option (ℕ × ℕ)) Refusal) (front front_store : List ℕ)
+pub look-found : (state received spare_rx spare_store : List ℕ) (rx store : ℕ) (f : Option Stretch) (r : Result (Option Stretch) Refusal) (front front_store : List ℕ)
     → spare_short rx store (length spare_rx) (length spare_store) ≡ false → Bytes state → Bytes received
     → f ≡ shortest_of (world_of (own_bytes state) (take rx spare_rx) (take store spare_store)) received → r ≡ found_as f
     → length front ≡ length (take rx spare_rx) → length front_store ≡ length (take store spare_store)
@@ -86,8 +87,8 @@ look-found state received spare_rx spare_store rx store f r front front_store e 
     ∙ sym (cond-false _ _ _ (ap (λ (x : ℕ). spare_short x (length store₀) (length spare_rx) (length spare_store)) a ∙ ap (λ (x : ℕ). spare_short rx x (length spare_rx) (length spare_store)) b ∙ e)) in
     record {
       answer-is = is;
-      rx-spared = subst (λ (x : Result (Option (ℕ × ℕ)) Refusal). Spares rx (is_refused x) spare_rx (front ++ drop rx spare_rx)) is (found-spares rx f r spare_rx front h (c ∙ m ∙ a));
-      store-spared = subst (λ (x : Result (Option (ℕ × ℕ)) Refusal). Spares store (is_refused x) spare_store (front_store ++ drop store spare_store)) is (found-spares store f r spare_store front_store h (d ∙ n ∙ b));
+      rx-spared = subst (λ (x : Result (Option Stretch) Refusal). Spares rx (is_refused x) spare_rx (front ++ drop rx spare_rx)) is (found-spares rx f r spare_rx front h (c ∙ m ∙ a));
+      store-spared = subst (λ (x : Result (Option Stretch) Refusal). Spares store (is_refused x) spare_store (front_store ++ drop store spare_store)) is (found-spares store f r spare_store front_store h (d ∙ n ∙ b));
     }
 
 -- ---- the call
@@ -102,11 +103,11 @@ module _ (state rx store received spare_rx spare_store : List ℕ) (a : Result H
         store-spared = refused-spares (length store) _ spare_store;
       }
 
-  pub stretch-looks : (h : Header) → a ≡ Ok h → (r : Result (Option (ℕ × ℕ)) Refusal) (spare_rx₂ spare_store₂ : List ℕ)
+  pub stretch-looks : (h : Header) → a ≡ Ok h → (r : Result (Option Stretch) Refusal) (spare_rx₂ spare_store₂ : List ℕ)
       → LookLooks state (length rx) (length store) received spare_rx spare_store r spare_rx₂ spare_store₂
       → StretchLooks state rx store received spare_rx spare_store r spare_rx₂ spare_store₂
   unfolding stretch_of stretched_by
   stretch-looks h f r spare_rx₂ spare_store₂ g =
       let looked = looked_at (world_of (own_bytes state) rx store) received (length spare_rx) (length spare_store) in
-      subst (λ (x : Result (Option (ℕ × ℕ)) Refusal). Looks x (length rx) (length store) spare_rx spare_store r spare_rx₂ spare_store₂) (sym (ap (λ (y : Result Header Refusal). stretched_by y looked) (sym e ∙ f)))
+      subst (λ (x : Result (Option Stretch) Refusal). Looks x (length rx) (length store) spare_rx spare_store r spare_rx₂ spare_store₂) (sym (ap (λ (y : Result Header Refusal). stretched_by y looked) (sym e ∙ f)))
       (g rx store refl refl)

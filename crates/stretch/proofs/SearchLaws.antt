@@ -15,12 +15,13 @@ use Rattle.le.proofs.RowLaws.{never}
 use Rattle.slot.proofs.Laws.{cond-true, cond-false}
 use Rattle.connection.proofs.Stores.{Sound, bytes-sound}
 use Rattle.stretch.specs.declared.Ran.{Ran}
-use Rattle.stretch.specs.Stretch.{World, world_of, frames_in, ends_in, Stretch, of_count, from_count, stretches_of, first_of, ends_so, shortest_in, is_counted, shortest_of, run_of, Inside, Tells, is_shorter, Searches}
+use Rattle.stretch.specs.declared.Stretch.{Stretch}
+use Rattle.stretch.specs.Stretch.{World, world_of, frames_in, ends_in, of_count, from_count, stretches_of, first_of, ends_so, shortest_in, is_counted, shortest_of, run_of, Inside, Tells, is_shorter, Searches}
 use Rattle.stretch.proofs.RunLaws.{ends-take, ends-run, run-some, run-few, run-like, ends-like, places-like}
 use Rattle.stretch.proofs.TellLaws.{places-inside, places-few}
 use Rattle.stretch.proofs.TestLaws.{counted-some}
 use Rattle.stretch.proofs.TurnLaws.{Like}
-use Rattle.std.specs.Prelude.{Option, Some, None, Result, Ok, Err}
+use Rattle.std.specs.Prelude.{Option, Some, None}
 
 -- ---- the search, by any test
 
@@ -40,12 +41,12 @@ module _ (t : Stretch → Bool) where
   first-skips n i (suc m) rest f = rw (f i (omega arith) (omega arith)) (first-skips n (suc i) m rest (λ j a b. f j (omega arith) (omega arith)))
 
   first_finds : (n i m place : ℕ) (rest : List Stretch) → i ≤ place → place < i + m → ((j : ℕ) → j < place → t (stretch j n) ≡ false) → t (stretch place n) ≡ true
-      → first_of t (of_count n i m ++ rest) ≡ Some (place, n)
+      → first_of t (of_count n i m ++ rest) ≡ Some (stretch place n)
   unfolding first_of of_count
   first_finds n i zero place rest a b f g = absurd (omega arith)
   first_finds n i (suc m) place rest a b f g =
       by-test (eqb i place)
-      (λ e. let z = eqb-true i place e in subst (λ (j : ℕ). cond (t (stretch j n)) (Some (j, n)) (first_of t (of_count n (suc i) m ++ rest)) ≡ (Some (place, n))) (sym z) (rw g refl))
+      (λ e. let z = eqb-true i place e in subst (λ (j : ℕ). cond (t (stretch j n)) (Some (stretch j n)) (first_of t (of_count n (suc i) m ++ rest)) ≡ (Some (stretch place n))) (sym z) (rw g refl))
       (λ e. let z = eqb-false i place e in
       rw (f i (before i place a z)) (first_finds n (suc i) m place rest (before i place a z) (omega arith) f g))
 
@@ -58,19 +59,19 @@ module _ (t : Stretch → Bool) where
     pub earlier : (i : ℕ) → i < first → t (stretch i count) ≡ false
 
   module _ (k first count : ℕ) (b : Best k first count k) where
-    from-finds : (n m : ℕ) → n + m ≡ k + 1 → 1 ≤ n → n ≤ count → first_of t (from_count n m) ≡ Some (first, count)
+    from-finds : (n m : ℕ) → n + m ≡ k + 1 → 1 ≤ n → n ≤ count → first_of t (from_count n m) ≡ Some (stretch first count)
     unfolding from_count
     from-finds n zero e o h = let f = b.fits in absurd (omega arith)
     from-finds n (suc m) e o h =
         let f = b.fits in
         by-test (eqb n count)
         (λ u. let z = eqb-true n count u in
-        subst (λ (x : ℕ). first_of t (of_count x 0 (suc m) ++ from_count (suc n) m) ≡ (Some (first, count))) (sym z)
+        subst (λ (x : ℕ). first_of t (of_count x 0 (suc m) ++ from_count (suc n) m) ≡ (Some (stretch first count))) (sym z)
         (first_finds count 0 (suc m) first (from_count (suc n) m) (omega arith) (omega arith) b.earlier b.here))
         (λ u. let z = before n count h (eqb-false n count u) in
         first-skips n 0 (suc m) (from_count (suc n) m) (λ j a c. b.fewer j n (omega arith) z) ∙ from-finds (suc n) m (omega arith) (omega arith) z)
 
-    pub best-found : (Some (first, count)) ≡ first_of t (stretches_of k)
+    pub best-found : (Some (stretch first count)) ≡ first_of t (stretches_of k)
     unfolding stretches_of
     best-found = let o = b.some in sym (from-finds 1 k (omega arith) (omega arith) (omega arith))
 
@@ -160,7 +161,7 @@ module _ (w : World) (received ps : List ℕ) (x : ℕ) (some : 0 < x) where
             (λ u. subst (λ (y : ℕ). test (stretch y n) ≡ false) (same_place j i a (ltb-false j i u)) (from-here n c))
 
   -- a run from every start was looked at
-  pub best-is : (first count i : ℕ) → Best test (length ps) first count i → length ps ≤ i → i ≤ length ps → (Some (first, count)) ≡ shortest_in w received ps x
+  pub best-is : (first count i : ℕ) → Best test (length ps) first count i → length ps ≤ i → i ≤ length ps → (Some (stretch first count)) ≡ shortest_in w received ps x
   unfolding shortest_in
   best-is first count i b h k =
       let e : i ≡ length ps = omega arith in
@@ -171,7 +172,7 @@ module _ (w : World) (received ps : List ℕ) (x : ℕ) (some : 0 < x) where
 first-same : (t u : Stretch → Bool) → ((s : Stretch) → t s ≡ u s) → (ss : List Stretch) → first_of t ss ≡ first_of u ss
 unfolding first_of
 first-same t u f [] = refl
-first-same t u f (s ∷ ss) = rw (f s) (ap (λ (y : Option (ℕ × ℕ)). cond (u s) (Some (s.first, s.count)) y) (first-same t u f ss))
+first-same t u f (s ∷ ss) = rw (f s) (ap (λ (y : Option Stretch). cond (u s) (Some s) y) (first-same t u f ss))
 
 module _ (w v : World) (k : Like w v) (s : Sound w.state) (received : List ℕ) (y : Bytes received) where
   pub shortest-in-like : (ps : List ℕ) (x : ℕ) → shortest_in w received ps x ≡ shortest_in v received ps x
@@ -188,7 +189,7 @@ module _ (w v : World) (k : Like w v) (s : Sound w.state) (received : List ℕ) 
       let e : ends_in w received (frames_in w received) ≡ ends_in v received (frames_in v received) = ap (ends_in w received) frames ∙ ends in
       ap (λ (n : ℕ). cond (is_counted n) (shortest_in w received (frames_in w received) n) None) e
       ∙ ap (λ (ps : List ℕ). cond (is_counted (ends_in v received (frames_in v received))) (shortest_in w received ps (ends_in v received (frames_in v received))) None) frames
-      ∙ ap (λ (r : Option (ℕ × ℕ)). cond (is_counted (ends_in v received (frames_in v received))) r None) (shortest-in-like (frames_in v received) (ends_in v received (frames_in v received)))
+      ∙ ap (λ (r : Option Stretch). cond (is_counted (ends_in v received (frames_in v received))) r None) (shortest-in-like (frames_in v received) (ends_in v received (frames_in v received)))
 
 -- ---- a run on the copy, begun anew
 
@@ -250,7 +251,7 @@ module _ (copy state rx store received places : List ℕ) (told : Ran) (e : copy
           copy_is = c;
         }
 
-    pub found-is : (r : Option (ℕ × ℕ)) → r ≡ shortest_in later received (take told.count places) told.number → r ≡ shortest_of given received
+    pub found-is : (r : Option Stretch) → r ≡ shortest_in later received (take told.count places) told.number → r ≡ shortest_of given received
     unfolding shortest_of
     found-is r g =
         g ∙ ap (λ (ps : List ℕ). shortest_in later received ps told.number) tells.places-are

@@ -1,12 +1,13 @@
 -- The shortest stretch that still refuses (docs/SCOPE.md, 14). Received frames are dispatched, one packet a call, up to the first
 -- refusal; of the neighbouring ones among them, the fewest that end in the same number are wanted. Assumes nothing.
-use Rattle.std.specs.Prelude.{ℕ, zero, suc, ◌+◌, ◌≤◌, ◌<◌, ◌≡◌, Bool, false, cond, ◌&&◌, ◌||◌, List, [], ◌∷◌, ◌++◌, eqb, leb, ltb, length, take, drop, get_or, Option, Some, None, Result, Ok, Err}
+use Rattle.std.specs.Prelude.{ℕ, zero, suc, ◌+◌, ◌≤◌, ◌<◌, ◌≡◌, Bool, false, cond, ◌&&◌, ◌||◌, List, [], ◌∷◌, ◌++◌, eqb, leb, ltb, length, take, drop, get_or, Option, Some, None}
 use Rattle.state.specs.Change.{put_all}
 use Rattle.state.specs.State.{state_of}
 use Rattle.state_whole.specs.Whole.{is_whole}
 use Rattle.connection.specs.Answer.{answer_number}
 use Rattle.connection.specs.Calls.{Outcome, dispatch_outcome}
 use Rattle.stretch.specs.declared.Ran.{Ran}
+use Rattle.stretch.specs.declared.Stretch.{Stretch}
 use Rattle.stretch.specs.declared.Turn.{Turn}
 
 -- ---- one packet
@@ -60,11 +61,6 @@ ends_in w received (p ∷ ps) =
 
 -- ---- the stretches
 
--- a stretch of frames: the first one's place among them, from 0, and how many
-pub record Stretch : Type 0 where
-  pub first : ℕ
-  pub count : ℕ
-
 -- m stretches of n frames, the first at place i
 unfoldable pub of_count : ℕ → ℕ → ℕ → List Stretch
 of_count n i zero = []
@@ -80,16 +76,16 @@ unfoldable pub stretches_of : ℕ → List Stretch
 stretches_of k = from_count 1 k
 
 -- the first of them that passes a test
-unfoldable pub first_of : (Stretch → Bool) → List Stretch → Option (ℕ × ℕ)
+unfoldable pub first_of : (Stretch → Bool) → List Stretch → Option Stretch
 first_of t [] = None
-first_of t (s ∷ ss) = cond (t s) (Some (s.first, s.count)) (first_of t ss)
+first_of t (s ∷ ss) = cond (t s) (Some s) (first_of t ss)
 
 -- a stretch's frames, dispatched from this state, end in x
 unfoldable pub ends_so : World → List ℕ → List ℕ → ℕ → Stretch → Bool
 ends_so w received ps x s = eqb (ends_in w received (take s.count (drop s.first ps))) x
 
 -- of frames that end in x, the fewest neighbouring ones that do; of equally many the earliest
-unfoldable pub shortest_in : World → List ℕ → List ℕ → ℕ → Option (ℕ × ℕ)
+unfoldable pub shortest_in : World → List ℕ → List ℕ → ℕ → Option Stretch
 shortest_in w received ps x = first_of (ends_so w received ps x) (stretches_of (length ps))
 
 -- refusals that count: 1 to 5, 11, 20, 21
@@ -97,7 +93,7 @@ unfoldable pub is_counted : ℕ → Bool
 is_counted x = cond (ltb x 1) false (leb x 5 || eqb x 11 || eqb x 20 || eqb x 21)
 
 -- the answer: nothing where the frames end in no such refusal
-unfoldable pub shortest_of : World → List ℕ → Option (ℕ × ℕ)
+unfoldable pub shortest_of : World → List ℕ → Option Stretch
 shortest_of w received =
     cond (is_counted (ends_in w received (frames_in w received))) (shortest_in w received (frames_in w received) (ends_in w received (frames_in w received)))
     None

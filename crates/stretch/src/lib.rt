@@ -10,7 +10,11 @@ use call_dispatch::dispatch;
 use state::STATE_LEN;
 
 // A stretch: the first frame's place, from 0, and the count.
-pub type Stretch = (usize, usize);
+#[derive(Clone, Copy, Debug, PartialEq, Eq)]
+pub struct Stretch {
+    pub first: usize,
+    pub count: usize,
+}
 
 // What one packet's dispatch answered, and the bytes that it used.
 #[derive(Clone, Copy)]
@@ -54,9 +58,8 @@ fn run(state: &mut [u8], rx: &mut [u8], store: &mut [u8], received: &[u8], place
     ensures { result ≡ run_of (world_of state.old rx.old store.old) received.now
         places.now }
 {
-    for i in 0..places.len() {
-        let at = places[i];
-        let turn = dispatch_at(state, rx, store, received, at);
+    for (i, at) in places.iter().enumerate() {
+        let turn = dispatch_at(state, rx, store, received, *at);
         if turn.number != 0 {
             return Ran {
                 count: i + 1,
@@ -100,31 +103,18 @@ fn tell(
     }
 }
 
+#[tactic(auto, unfolding(crate::specs::Stretch::is_shorter))]
 fn is_shorter(ran: Ran, number: u32, count: usize) -> bool
     ensures { result ≡ is_shorter ran number count }
 {
-    if ran.number != number {
-        return false;
-    }
-    ran.count < count
+    ran.number == number && ran.count < count
 }
 
+#[tactic(auto, unfolding(crate::specs::Stretch::is_counted))]
 fn is_counted(number: u32) -> bool
     ensures { result ≡ is_counted number }
 {
-    if number < 1 {
-        return false;
-    }
-    if number <= 5 {
-        return true;
-    }
-    if number == 11 {
-        return true;
-    }
-    if number == 20 {
-        return true;
-    }
-    number == 21
+    matches!(number, 1..=5 | 11 | 20 | 21)
 }
 
 // One run from each start: the first refusal from there, if it has the number. The fewest frames are kept, of equally many the
@@ -152,7 +142,7 @@ fn search(
             count = ran.count;
         }
     }
-    Some((first, count))
+    Some(Stretch { first, count })
 }
 
 // The shortest stretch, from a state's own bytes. The stores are worked in, and their bytes left as that leaves them.
