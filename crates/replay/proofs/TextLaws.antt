@@ -1,7 +1,7 @@
 -- Laws of text that is put into lent bytes, and of numbers and bytes as text. Assumes nothing.
 use mathlib.Core.Path.{◌≡◌, refl, sym, ap, ◌∙◌}
 use mathlib.Core.List.{List, [], ◌∷◌, ◌++◌, append_assoc, append-nil}
-use Prim.Native.Nat.{ℕ, zero, suc, ◌+◌, ◌-◌, ◌*◌, ◌/◌, ◌^◌, ◌≤◌, ◌<◌, min}
+use Prim.Native.Nat.{ℕ, zero, suc, ◌+◌, ◌-◌, ◌*◌, ◌/◌, ◌%◌, ◌^◌, ◌≤◌, ◌<◌, min}
 use native.Mathlib.Nat.{pow-suc, one-le-pow}
 use native.Mathlib.Numerals.{add-one}
 use native.Mathlib.Omega.{arith}
@@ -10,11 +10,13 @@ use lib.IntN.{ℤ, pos, negsuc}
 use lib.Signed.{lt_z}
 use mathlib.Core.Bool.{true, false}
 use Rattle.std.specs.Prelude.{unsigned_abs}
-use lib.ListN.{length, take, get_or, length-append, length-take}
+use lib.ListN.{length, take, drop, get_or, length-append, length-take, length-drop, drop_of_length-le}
 use lib.Seq.{take_all, take-nil, take-append-le, take-append-add, take-suc}
 use borrow.Author.Tests.{ltb-true, ltb-false, lt-ltb, le-ltb}
+use Rattle.std.specs.Fmt.{digits, padded_integral, format_spec}
+use Rattle.std.proofs.lemmas.Fmt.{hex_byte}
 use Rattle.io.specs.Digits.{last_digits, IsDigitCount}
-use Rattle.le.specs.Le.{put}
+use Rattle.le.specs.Le.{put, part}
 use Rattle.le.proofs.Parts.{by-test, put-none, put-put, length-put}
 use Rattle.replay.specs.Text.{fitting, Puts, places, decimal_of, signed_text, hex_of, hex_text}
 
@@ -153,3 +155,22 @@ pub hex-some : (s : List ℕ) → (length s ≡ 0 → ⊥) → hex_text s ≡ he
 unfolding hex_text
 hex-some [] h = absurd (h refl)
 hex-some (b ∷ s) h = refl
+
+-- n bytes from place at, where they are counted first
+pub cut-is : (s : List ℕ) (at n a m : ℕ) → a ≡ min at (length s) → m ≡ min n (length s - a) → take m (take (length s - a) (drop a s)) ≡ part s at n
+unfolding part
+cut-is s at n a m e f =
+    let d = drop a s in
+    let l : length d ≡ length s - a = length-drop a s in
+    let all : take (length s - a) d ≡ d = take_all (length s - a) d (omega arith) in
+    let k : min n (length d) ≡ m = omega arith in
+    let few : take n d ≡ take m d = take_min n d ∙ ap (λ (j : ℕ). take j d) k in
+    let same : d ≡ drop at s =
+    by-test (ltb (length s) at)
+    (λ t. drop_of_length-le s {i = a} (omega (arith, ltb-true)) ∙ sym (drop_of_length-le s {i = at} (omega (arith, ltb-true))))
+    (λ t. let b : a ≡ at = omega (arith, ltb-false) in rw b) in
+    rw all (sym few ∙ ap (take n) same)
+
+-- what `{:02x}` writes of a byte
+pub hex-pair : (b : ℕ) → b < 256 → padded_integral (format_spec 32 0 4 2 (2 ^ 64 - 1)) false [] (digits 16 false b) ≡ last_digits 16 2 b
+hex-pair b h = let e : b / 16 % 16 ≡ b / 16 = omega arith in rw e (hex_byte false b h)

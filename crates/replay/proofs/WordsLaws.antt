@@ -2,7 +2,7 @@
 use mathlib.Core.Path.{◌≡◌, refl, sym, ap, subst, ◌∙◌}
 use mathlib.Core.Bool.{true, false}
 use mathlib.Core.List.{List, [], ◌∷◌}
-use Prim.Native.Nat.{ℕ, zero, suc, ◌+◌, ◌-◌, ◌*◌, ◌^◌, ◌≤◌, ◌<◌, min}
+use Prim.Native.Nat.{ℕ, zero, suc, ◌+◌, ◌-◌, ◌*◌, ◌/◌, ◌^◌, ◌≤◌, ◌<◌, min}
 use native.Mathlib.Numerals.{add-one}
 use native.Mathlib.Omega.{arith}
 use Rattle.std.proofs.Common.{Option, Some, None, Bor, option_map, unwrap_or, slice_get}
@@ -12,8 +12,8 @@ use lib.IntN.{pos, negsuc, neg_ℤ}
 use lib.ListN.{length, take, drop, get_or, set, length-take, length-drop, drop_of_length-le}
 use lib.Signed.{mag}
 use lib.Seq.{drop-cons, take_all, paste, paste-suc}
-use borrow.Author.Tests.{ltb-true, ltb-false, lt-ltb, le-ltb}
-use Rattle.le.specs.Le.{put, part, signed}
+use borrow.Author.Tests.{ltb-true, ltb-false}
+use Rattle.le.specs.Le.{put, part}
 use Rattle.le.proofs.Parts.{by-test}
 use Rattle.saturate.specs.Saturate.{clamp}
 use Rattle.saturate.proofs.Laws.{held_fits}
@@ -118,18 +118,6 @@ pub spelled-end : (s : List ℕ) (i n : ℕ) → length s ≤ i → spelled n (d
 unfolding spelled
 spelled-end s i n h = rw (drop_of_length-le s h)
 
--- 64 bits that stand for n and for -n
-pub above-is : (n : ℕ) → signed 63 (min n 0x7fff_ffff_ffff_ffff) ≡ clamp (pos n)
-unfolding signed clamp
-above-is n = rw (lt-ltb (min n 0x7fff_ffff_ffff_ffff) (2 ^ 63) (omega arith))
-
-pub below-is : (n : ℕ) → 0 < n → signed 63 (0xffff_ffff_ffff_ffff - min (n - 1) 0x7fff_ffff_ffff_ffff) ≡ clamp (neg_ℤ (pos n))
-unfolding signed clamp
-below-is zero h = absurd (omega arith)
-below-is (suc m) h =
-    let e : 2 * 2 ^ 63 - 1 - (0xffff_ffff_ffff_ffff - min (suc m - 1) 0x7fff_ffff_ffff_ffff) ≡ min m 0x7fff_ffff_ffff_ffff = omega arith in
-    rw (le-ltb (0xffff_ffff_ffff_ffff - min (suc m - 1) 0x7fff_ffff_ffff_ffff) (2 ^ 63) (omega arith), e)
-
 -- a number that was held within 64 bits without a sign
 pub above-held : (n : ℕ) → clamp (pos (min n 0xffff_ffff_ffff_ffff)) ≡ clamp (pos n)
 unfolding clamp
@@ -142,15 +130,12 @@ below-held (suc n) =
     let e : min (suc n) 0xffff_ffff_ffff_ffff ≡ suc (min n 0xffff_ffff_ffff_fffe) = omega arith in
     rw e (ap negsuc (omega arith))
 
--- fewer than two digits spell nothing
-unhexed-few : (l : List ℕ) → length l < 2 → unhexed l ≡ []
+-- two digits spell a byte
+pub length-unhexed : (l : List ℕ) → length (unhexed l) ≡ length l / 2
 unfolding unhexed
-unhexed-few [] h = refl
-unhexed-few (a ∷ []) h = refl
-unhexed-few (a ∷ b ∷ l) h = absurd (omega arith)
-
-pub unhexed-end : (s : List ℕ) (i : ℕ) → length s - i < 2 → unhexed (drop i s) ≡ []
-unhexed-end s i h = unhexed-few (drop i s) (omega (arith, length-drop i s))
+length-unhexed [] = refl
+length-unhexed (a ∷ []) = refl
+length-unhexed (a ∷ b ∷ l) = omega (arith, length-unhexed l)
 
 -- two digits more
 pub unhexed-step : (s : List ℕ) (i : ℕ) → i + 1 < length s
@@ -189,12 +174,6 @@ stored d u n e =
 pub digit_low : (b : ℕ) → is_digit b ≡ true → 48 ≤ b
 unfolding is_digit
 digit_low b h = by-test (ltb b 48) (λ t. absurd (subst T (sym (rw t at h)) tt)) (λ t. ltb-false b 48 t)
-
--- -0
-pub below-zero : (n : ℕ) → n ≡ 0 → pos 0 ≡ clamp (neg_ℤ (pos n))
-unfolding clamp
-below-zero zero h = ap pos (omega arith)
-below-zero (suc n) h = absurd (omega arith)
 
 -- a number behind a sign, and one with none
 pub signed_below : (w : List ℕ) (n : ℕ) → is_negative w ≡ true → n ≡ min (spelled 0 w) 0xffff_ffff_ffff_ffff → clamp (neg_ℤ (pos n)) ≡ signed_of w

@@ -1,8 +1,13 @@
-// A line, built in lent bytes, as replay_sync and replay_shell write theirs. Each writer puts as much of its text as fits from `at` on,
-// and answers where it ends.
-ghost use Rattle.std.specs.Prelude.{◌≡◌, ◌++◌, ◌<◌, take};
+// Numbers and bytes as text: `Hex` for what a program prints, and writers of a line in lent bytes. Each of those puts as much of its
+// text as fits from `at` on, and answers where it ends.
+ghost use Rattle.std.specs.Prelude.{◌≡◌, ◌++◌, ◌<◌, take, Some};
+ghost use Rattle.std.specs.Fmt.{HasWritten, IsPlainFormatter};
+ghost use Rattle.std.specs.Result.{IsOk};
 ghost use Rattle.io.specs.Digits.{last_digits, hex_digit_ascii};
+ghost use Rattle.le.specs.Le.{part};
 ghost use Rattle.replay.specs.Text.{Puts, decimal_of, signed_text, hex_of, hex_text};
+
+use std::fmt;
 
 pub fn put(line: &mut [u8], at: usize, s: &[u8]) -> usize
     ensures { Puts line.old at s.now line.new result }
@@ -79,6 +84,39 @@ pub fn put_hex(line: &mut [u8], at: usize, s: &[u8]) -> usize
     } else {
         put_bytes(line, at, s)
     }
+}
+
+// A byte's two digits. Not in the loop below, where a proof does not know that what stands behind `self` is below 256.
+fn write_byte<W: fmt::Write>(f: &mut fmt::Formatter<W>, b: u8) -> fmt::Result
+    ensures { IsPlainFormatter f.old → IsOk result → HasWritten W.write_str_gives f.old (last_digits 16 2 b) f.new }
+{
+    write!(f, "{b:02x}")
+}
+
+// Bytes in hexadecimal, "-" for none, as a Display: what a program prints has room for all of it.
+#[derive(Clone, Copy)]
+pub struct Hex<'a>(pub &'a [u8]);
+
+impl fmt::Display for Hex<'_> {
+    ghost output = { λ h. Some (hex_text h.0.now) };
+
+    fn fmt<W: fmt::Write>(&self, f: &mut fmt::Formatter<W>) -> fmt::Result {
+        if self.0.is_empty() {
+            return f.write_str("-");
+        }
+        for b in self.0 {
+            write_byte(f, *b)?;
+        }
+        Ok(())
+    }
+}
+
+// n bytes from `at` on, or as many as there are.
+pub fn cut(s: &[u8], at: usize, n: usize) -> &[u8]
+    ensures { result.now ≡ part s.now at n }
+{
+    let rest = &s[at.min(s.len())..];
+    &rest[..n.min(rest.len())]
 }
 
 // What was put before `end`.

@@ -46,19 +46,14 @@ fn magnitude(s: &[u8]) -> usize
 fn above(n: usize) -> i64
     ensures { result ≡ clamp (pos n) }
 {
-    (n.min(0x7fff_ffff_ffff_ffff) as u64).cast_signed()
+    0_i64.saturating_add_unsigned(n as u64)
 }
 
 // -n, held within 64 bits and a sign.
 fn below(n: usize) -> i64
     ensures { result ≡ clamp (neg_ℤ (pos n)) }
 {
-    if n == 0 {
-        0
-    } else {
-        let flipped = (n - 1).min(0x7fff_ffff_ffff_ffff);
-        ((usize::MAX - flipped) as u64).cast_signed()
-    }
+    0_i64.saturating_sub_unsigned(n as u64)
 }
 
 #[tactic(auto, unfolding(crate::specs::Words::is_negative))]
@@ -95,15 +90,9 @@ fn unhex(s: &[u8], out: &mut [u8]) -> usize
     ensures puts { Puts out.old 0 (unhexed s.now) out.new result }
     ensures prefix_len { IsPrefixLen result out.new }
 {
-    let mut i = 0;
-    let mut n = 0;
-    while n < out.len() {
-        if s.len() - i < 2 {
-            return n;
-        }
-        out[n] = byte(s[i], s[i + 1]);
-        i += 2;
-        n += 1;
+    let n = out.len().min(s.len() / 2);
+    for i in 0..n {
+        out[i] = byte(s[2 * i], s[2 * i + 1]);
     }
     n
 }
@@ -112,7 +101,7 @@ fn unhex(s: &[u8], out: &mut [u8]) -> usize
 pub fn number_at(line: &[u8], k: usize) -> u32
     ensures { result ≡ min (spelled 0 (word_of line.now k)) 0xffff_ffff }
 {
-    magnitude(word(line, k)).min(0xffff_ffff) as u32
+    u32::try_from(magnitude(word(line, k))).unwrap_or(u32::MAX)
 }
 
 pub fn size_at(line: &[u8], k: usize) -> usize

@@ -6,8 +6,8 @@ use intake::read_full;
 use protocol::command::Command;
 use protocol::packet::{DecodeError, Packet};
 use refusal::Numbered;
+use replay::text::Hex;
 use replay::words::{bytes_at, number_at};
-use std::fmt;
 use std::io::Write;
 
 // What a line asks for.
@@ -19,33 +19,14 @@ enum Call {
 }
 
 impl Call {
-    // The call that a line's first word names.
+    // The call that a line's first letter tells.
     fn of(line: &[u8]) -> Option<Call> {
-        if line.starts_with(b"decode ") {
-            Some(Call::Decode)
-        } else if line.starts_with(b"missing ") {
-            Some(Call::Missing)
-        } else if line.starts_with(b"has_feature ") {
-            Some(Call::HasFeature)
-        } else {
-            None
+        match line.first() {
+            Some(b'd') => Some(Call::Decode),
+            Some(b'm') => Some(Call::Missing),
+            Some(_) => Some(Call::HasFeature),
+            None => None,
         }
-    }
-}
-
-// Bytes in hexadecimal, "-" for none.
-#[derive(Clone, Copy)]
-struct Hex<'a>(&'a [u8]);
-
-impl fmt::Display for Hex<'_> {
-    fn fmt<W: fmt::Write>(&self, f: &mut fmt::Formatter<W>) -> fmt::Result {
-        if self.0.is_empty() {
-            return f.write_str("-");
-        }
-        for b in self.0 {
-            write!(f, "{b:02x}")?;
-        }
-        Ok(())
     }
 }
 

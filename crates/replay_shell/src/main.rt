@@ -3,91 +3,79 @@
 // a session the output, the errors and the exit's data, each gathered piece by piece, and the unfinished rest.
 #![tactic(auto)]
 
-ghost use Rattle.std.specs.Prelude.{◌+◌, ◌≤◌, ◌<◌, length};
+ghost use Rattle.std.specs.Prelude.{◌+◌, ◌≤◌, length};
 ghost use Rattle.replay_shell.specs.Bounds.{Room};
 
 use console::Gathered;
 use intake::read_full;
 use refusal::{Numbered, number_of};
-use replay::scan::find;
-use replay::text::{put, put_field, put_hex, written};
+use replay::text::{Hex, cut, written};
 use replay::words::{bytes_at, number_at, size_at};
 use shell::{Frame, Kind};
 use std::io;
 use std::io::Write;
 
-fn put_used(out: &mut [u8], at: usize, used: usize) -> usize {
-    let end = put_field(out, at, b" used=", used as u64);
-    put(out, end, b"\n")
+// What a line asks for.
+#[derive(Clone, Copy, PartialEq, Eq)]
+enum Call {
+    Read,
+    Session,
+    Write,
+    // A write of zero bytes.
+    Zeros,
 }
 
-fn refused(out: &mut [u8], number: u32) -> usize {
-    let end = put_field(out, 0, b"refused ", number as u64);
-    put_used(out, end, 0)
-}
-
-fn waiting(out: &mut [u8]) -> usize {
-    let end = put(out, 0, b"waiting");
-    put_used(out, end, 0)
-}
-
-fn data_of(received: &[u8], at: usize, length: usize) -> &[u8] {
-    if at <= received.len() {
-        if length <= received.len() - at {
-            let end = at + length;
-            return &received[at..end];
+impl Call {
+    // The call that a line's first letter tells.
+    fn of(line: &[u8]) -> Option<Call> {
+        match line.first() {
+            Some(b'r') => Some(Call::Read),
+            Some(b's') => Some(Call::Session),
+            Some(b'w') => Some(Call::Write),
+            Some(_) => Some(Call::Zeros),
+            None => None,
         }
     }
-    &received[0..0]
-}
-
-fn put_frame(out: &mut [u8], frame: Frame, payload: &[u8]) -> usize {
-    let end = put_field(out, 0, b"frame kind=", u64::from(u8::from(frame.kind)));
-    let end = put(out, end, b" data=");
-    let end = put_hex(out, end, payload);
-    put_field(out, end, b" code=", u64::from(frame.code.unwrap_or(0)))
 }
 
 // A frame that was read, and its bytes as the writer makes them.
-fn whole(out: &mut [u8], frame: Frame, payload: &[u8], back: &mut [u8]) -> usize {
-    let end = put_frame(out, frame, payload);
-    let kind = u32::from(u8::from(frame.kind));
-    let n = shell_write::write_frame(kind, payload, back).unwrap_or(0);
-    let end = put(out, end, b" back=");
-    let end = put_hex(out, end, written(back, n));
-    put_used(out, end, frame.used)
+fn whole<W: Write>(
+    output: &mut W,
+    frame: Frame,
+    received: &[u8],
+    back: &mut [u8],
+) -> io::Result<()> {
+    let payload = cut(received, frame.at, frame.length);
+    let kind = u8::from(frame.kind);
+    let code = frame.code.unwrap_or(0);
+    let n = shell_write::write_frame(u32::from(kind), payload, back).unwrap_or(0);
+    write!(
+        output,
+        "frame kind={kind} data={} code={code}",
+        Hex(payload)
+    )?;
+    writeln!(
+        output,
+        " back={} used={}",
+        Hex(written(back, n)),
+        frame.used
+    )
 }
 
-fn read(out: &mut [u8], received: &[u8], back: &mut [u8]) -> usize {
+fn read<W: Write>(output: &mut W, received: &[u8], back: &mut [u8]) -> io::Result<()> {
     match shell::read_frame(received) {
-        Ok(None) => waiting(out),
-        Ok(Some(frame)) => whole(out, frame, data_of(received, frame.at, frame.length), back),
-        Err(refusal) => refused(out, refusal.number()),
+        Ok(None) => writeln!(output, "waiting used=0"),
+        Ok(Some(frame)) => whole(output, frame, received, back),
+        Err(refusal) => writeln!(output, "refused {} used=0", refusal.number()),
     }
 }
 
 // The answer of a write, and all bytes that it was lent.
-fn write(out: &mut [u8], kind: u32, payload: &[u8], back: &mut [u8]) -> usize {
+fn write<W: Write>(output: &mut W, kind: u32, payload: &[u8], back: &mut [u8]) -> io::Result<()> {
     let answer = shell_write::write_frame(kind, payload, back);
-    let end = put_field(out, 0, b"written ", u64::from(number_of(answer)));
-    let end = put_field(out, end, b" n=", answer.unwrap_or(0) as u64);
-    let end = put(out, end, b" out=");
-    let end = put_hex(out, end, back);
-    put(out, end, b"\n")
-}
-
-// The end of the next piece: a byte further at least, within `all`.
-fn next_end(end: usize, piece: usize, all: usize) -> usize
-    requires { end < all }
-    ensures { (end < result) × (result ≤ all) }
-{
-    if piece == 0 {
-        return end + 1;
-    }
-    if piece < all - end {
-        return end + piece;
-    }
-    all
+    let number = number_of(answer);
+    let n = answer.unwrap_or(0);
+    writeln!(output, "written {number} n={n} out={}", Hex(back))
 }
 
 // A piece with the rest before it, gathered behind what is there.
@@ -105,8 +93,8 @@ fn show(kind: Kind, received: &[u8], piece: usize, out: &mut [u8]) -> Gathered
     let mut used = 0;
     let mut end = 0;
     let mut gathered = 0;
-    while end < received.len() {
-        end = next_end(end, piece, received.len());
+    for arrived in received.chunks(piece.max(1)) {
+        end += arrived.len();
         let g = show_piece(kind, &received[used..end], out, gathered);
         used += g.used;
         gathered += g.length;
@@ -125,95 +113,75 @@ fn show(kind: Kind, received: &[u8], piece: usize, out: &mut [u8]) -> Gathered
     }
 }
 
-// One kind's data.
-fn put_kind(
-    out: &mut [u8],
-    at: usize,
-    kind: Kind,
+// A session's output, errors and exit data, each gathered from the start, and how the session ended.
+fn session<W: Write>(
+    output: &mut W,
     received: &[u8],
     piece: usize,
     back: &mut [u8],
-) -> usize
-    requires { length received.now ≤ length back.old }
-{
-    let shown = show(kind, received, piece, back);
-    put_hex(out, at, written(back, shown.length))
-}
-
-// The exit's data, and how the session ended.
-fn put_exit(out: &mut [u8], at: usize, received: &[u8], piece: usize, back: &mut [u8]) -> usize
-    requires { length received.now ≤ length back.old }
-{
-    let shown = show(Kind::Exit, received, piece, back);
-    let end = put(out, at, b" exit=");
-    let end = put_hex(out, end, written(back, shown.length));
-    let number = shown.refusal.map_or(100, |refusal| refusal.number());
-    let end = put_field(out, end, b" ending=", u64::from(number));
-    put_used(out, end, shown.used)
-}
-
-fn session(out: &mut [u8], received: &[u8], piece: usize, back: &mut [u8]) -> usize {
+) -> io::Result<()> {
     if received.len() > back.len() {
-        return 0;
+        return Ok(());
     }
-    let end = put(out, 0, b"session output=");
-    let end = put_kind(out, end, Kind::Output, received, piece, back);
-    let end = put(out, end, b" errors=");
-    let end = put_kind(out, end, Kind::Errors, received, piece, back);
-    put_exit(out, end, received, piece, back)
+    let shown = show(Kind::Output, received, piece, back);
+    write!(
+        output,
+        "session output={}",
+        Hex(written(back, shown.length))
+    )?;
+    let shown = show(Kind::Errors, received, piece, back);
+    write!(output, " errors={}", Hex(written(back, shown.length)))?;
+    let shown = show(Kind::Exit, received, piece, back);
+    let ending = shown.refusal.map_or(100, |refusal| refusal.number());
+    let exit = Hex(written(back, shown.length));
+    writeln!(output, " exit={exit} ending={ending} used={}", shown.used)
 }
 
-// How long the data of a write is: zero bytes, or those that the line spells, which are put into `first`.
-fn data_length(line: &[u8], kind: u8, first: &mut [u8]) -> usize
-    ensures { result ≤ length first.new }
-{
-    if kind == b'w' {
-        return bytes_at(line, 2, first);
-    }
-    size_at(line, 2).min(first.len())
-}
-
-fn write_call(line: &[u8], payload: &[u8], back: &mut [u8], out: &mut [u8]) -> usize {
-    let k = size_at(line, 3).min(back.len());
-    write(out, number_at(line, 1), payload, &mut back[..k])
+// The room for a frame that word 3 spells.
+fn room<'a>(line: &[u8], back: &'a mut [u8]) -> &'a mut [u8] {
+    let n = size_at(line, 3).min(back.len());
+    &mut back[..n]
 }
 
 // One call: `read` and bytes; `session`, a piece's length and bytes; `write` or `zeros`, a kind, data in hexadecimal or a count of
-// zero bytes, and the room for the frame.
-fn call(line: &[u8], first: &mut [u8], back: &mut [u8], out: &mut [u8]) -> usize {
-    if line.len() == 0 {
-        return 0;
-    }
-    let kind = line[0];
-    if kind == b'r' {
-        let n = bytes_at(line, 1, first);
-        return read(out, &first[..n], back);
-    }
-    if kind == b's' {
-        let n = bytes_at(line, 2, first);
-        return session(out, &first[..n], size_at(line, 1), back);
-    }
-    let n = data_length(line, kind, first);
-    write_call(line, &first[0..n], back, out)
-}
-
+// zero bytes, and the room for the frame. A line that names none has no answer.
 fn answer<W: Write>(output: &mut W, line: &[u8]) -> io::Result<()> {
     let mut first = replay::space();
     let mut back = replay::space();
-    let mut out = replay::space();
-    let end = call(line, &mut first, &mut back, &mut out);
-    output.write_all(written(&out, end))
+    match Call::of(line) {
+        Some(Call::Read) => {
+            let n = bytes_at(line, 1, &mut first);
+            read(output, &first[..n], &mut back)
+        }
+        Some(Call::Session) => {
+            let n = bytes_at(line, 2, &mut first);
+            session(output, &first[..n], size_at(line, 1), &mut back)
+        }
+        Some(Call::Write) => {
+            let n = bytes_at(line, 2, &mut first);
+            write(
+                output,
+                number_at(line, 1),
+                &first[..n],
+                room(line, &mut back),
+            )
+        }
+        Some(Call::Zeros) => {
+            let n = size_at(line, 2).min(first.len());
+            write(
+                output,
+                number_at(line, 1),
+                &first[..n],
+                room(line, &mut back),
+            )
+        }
+        None => Ok(()),
+    }
 }
 
 fn replay<W: Write>(output: &mut W, script: &[u8]) -> io::Result<()> {
-    let mut at = 0;
-    while at < script.len() {
-        let end = find(script, at, script.len(), b'\n');
-        answer(output, &script[at..end])?;
-        if end == script.len() {
-            return Ok(());
-        }
-        at = end + 1;
+    for line in script.split(|b| *b == b'\n') {
+        answer(output, line)?;
     }
     Ok(())
 }

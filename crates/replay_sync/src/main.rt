@@ -4,17 +4,44 @@
 
 pub mod wide;
 
-ghost use Rattle.std.specs.Prelude.{◌≤◌, length};
-
 use exchange::{Exchange, SyncId};
 use intake::read_full;
 use refusal::{Numbered, number_of};
-use replay::scan::find;
-use replay::text::{put, put_field, put_hex, written};
+use replay::text::{Hex, cut, written};
 use replay::words::{bytes_at, number_at, size_at};
-use std::io;
 use std::io::Write;
-use sync::{Fields, FileMode, Message, StatV1};
+use std::{fmt, io};
+use sync::{Fields, FileMode, Message, StatV1, Whole};
+use wide::Wide;
+
+// What a line asks for.
+#[derive(Clone, Copy, PartialEq, Eq)]
+enum Call {
+    Read,
+    // Of a message with fields of the first stat layout.
+    Write,
+    // Of one with fields of the second.
+    WriteV2,
+    // A write of zero bytes.
+    Zeros,
+    Narrow,
+    Widen,
+}
+
+impl Call {
+    // The call that a line's first letter tells.
+    fn of(line: &[u8]) -> Option<Call> {
+        match line.first() {
+            Some(b'r') => Some(Call::Read),
+            Some(b'v') => Some(Call::WriteV2),
+            Some(b'z') => Some(Call::Zeros),
+            Some(b'n') => Some(Call::Narrow),
+            Some(b'o') => Some(Call::Widen),
+            Some(_) => Some(Call::Write),
+            None => None,
+        }
+    }
+}
 
 // The id that a number of a line names.
 fn id_of(n: u32) -> SyncId {
@@ -35,28 +62,44 @@ fn id_of(n: u32) -> SyncId {
     }
 }
 
-fn put_stat(out: &mut [u8], at: usize, s: StatV1) -> usize {
-    let mode = s.mode;
-    let end = put_field(out, at, b" mode=", mode.0 as u64);
-    let end = put_field(out, end, b" size=", s.size as u64);
-    put_field(out, end, b" mtime=", s.mtime as u64)
+// An id's four letters.
+#[derive(Clone, Copy)]
+struct Letters(SyncId);
+
+impl fmt::Display for Letters {
+    fn fmt<W: fmt::Write>(&self, f: &mut fmt::Formatter<W>) -> fmt::Result {
+        for b in self.0.letters() {
+            f.write_char(char::from(*b))?;
+        }
+        Ok(())
+    }
 }
 
-fn put_end(out: &mut [u8], at: usize, s: StatV1, last: u32) -> usize {
-    let end = put_stat(out, at, s);
-    put_field(out, end, b" last=", last as u64)
+// A stat of the first layout, each of its numbers behind a space and its name.
+#[derive(Clone, Copy)]
+pub struct Stat(StatV1);
+
+impl fmt::Display for Stat {
+    fn fmt<W: fmt::Write>(&self, f: &mut fmt::Formatter<W>) -> fmt::Result {
+        let s = self.0;
+        write!(f, " mode={} size={} mtime={}", s.mode.0, s.size, s.mtime)
+    }
 }
 
-fn put_fields(out: &mut [u8], at: usize, f: Fields) -> usize {
-    match f {
-        Fields::Text => at,
-        Fields::Number(n) => put_field(out, at, b" number=", n as u64),
-        Fields::Stat(s) => put_stat(out, at, s),
-        Fields::Entry(s) => put_stat(out, at, s),
-        Fields::End(s, last) => put_end(out, at, s, last),
-        Fields::StatV2(s) => wide::put_stat(out, at, s),
-        Fields::EntryV2(s) => wide::put_stat(out, at, s),
-        Fields::EndV2(s, last) => wide::put_end(out, at, s, last),
+// A message's fields, as a stat.
+#[derive(Clone, Copy)]
+struct Shown(Fields);
+
+impl fmt::Display for Shown {
+    fn fmt<W: fmt::Write>(&self, f: &mut fmt::Formatter<W>) -> fmt::Result {
+        match self.0 {
+            Fields::Text => Ok(()),
+            Fields::Number(n) => write!(f, " number={n}"),
+            Fields::Stat(s) | Fields::Entry(s) => write!(f, "{}", Stat(s)),
+            Fields::End(s, last) => write!(f, "{} last={last}", Stat(s)),
+            Fields::StatV2(s) | Fields::EntryV2(s) => write!(f, "{}", Wide(s)),
+            Fields::EndV2(s, last) => write!(f, "{} last={last}", Wide(s)),
+        }
     }
 }
 
@@ -77,89 +120,52 @@ fn fields_of(kind: u32, a: u32, b: u32, c: u32, d: u32) -> Fields {
     }
 }
 
-fn put_used(out: &mut [u8], at: usize, used: usize) -> usize {
-    let end = put_field(out, at, b" used=", used as u64);
-    put(out, end, b"\n")
-}
-
-fn refused(out: &mut [u8], number: u32) -> usize {
-    let end = put_field(out, 0, b"refused ", number as u64);
-    put_used(out, end, 0)
-}
-
-fn waiting(out: &mut [u8]) -> usize {
-    let end = put(out, 0, b"waiting");
-    put_used(out, end, 0)
-}
-
-fn text_of(received: &[u8], at: usize, length: usize) -> &[u8] {
-    if at <= received.len() {
-        if length <= received.len() - at {
-            let end = at + length;
-            return &received[at..end];
-        }
-    }
-    &received[0..0]
-}
-
-fn put_message(out: &mut [u8], m: Message, text: &[u8]) -> usize {
-    let id = m.id;
-    let fields = m.fields;
-    let end = put(out, 0, b"message id=");
-    let end = put(out, end, id.letters());
-    let end = put_fields(out, end, fields);
-    let end = put(out, end, b" text=");
-    put_hex(out, end, text)
-}
-
-fn whole(
-    out: &mut [u8],
+// A message that was read, and its bytes as the writer makes them.
+fn whole<W: Write>(
+    output: &mut W,
     x: Exchange,
-    m: Message,
-    text: &[u8],
-    used: usize,
+    w: Whole,
+    received: &[u8],
     back: &mut [u8],
-) -> usize {
-    let end = put_message(out, m, text);
-    let n = sync_write::write(m, x, text, back).unwrap_or(0);
-    let end = put(out, end, b" back=");
-    let end = put_hex(out, end, written(back, n));
-    put_used(out, end, used)
+) -> io::Result<()> {
+    let Message { id, fields } = w.message;
+    let text = cut(received, w.at, w.length);
+    let n = sync_write::write(w.message, x, text, back).unwrap_or(0);
+    write!(
+        output,
+        "message id={}{} text={}",
+        Letters(id),
+        Shown(fields),
+        Hex(text)
+    )?;
+    writeln!(output, " back={} used={}", Hex(written(back, n)), w.used)
 }
 
-fn read(out: &mut [u8], x: Exchange, received: &[u8], back: &mut [u8]) -> usize {
-    let answer = Message::read(x, received);
-    match answer {
-        Ok(None) => waiting(out),
-        Err(refusal) => refused(out, refusal.number()),
-        Ok(Some(w)) => whole(
-            out,
-            x,
-            w.message,
-            text_of(received, w.at, w.length),
-            w.used,
-            back,
-        ),
+fn read<W: Write>(output: &mut W, x: Exchange, received: &[u8], back: &mut [u8]) -> io::Result<()> {
+    match Message::read(x, received) {
+        Ok(None) => writeln!(output, "waiting used=0"),
+        Ok(Some(w)) => whole(output, x, w, received, back),
+        Err(refusal) => writeln!(output, "refused {} used=0", refusal.number()),
     }
 }
 
 // The answer of a write, and all bytes that it was lent.
-fn write(out: &mut [u8], x: Exchange, m: Message, text: &[u8], back: &mut [u8]) -> usize {
+fn write<W: Write>(
+    output: &mut W,
+    x: Exchange,
+    m: Message,
+    text: &[u8],
+    back: &mut [u8],
+) -> io::Result<()> {
     let answer = sync_write::write(m, x, text, back);
-    let end = put_field(out, 0, b"written ", number_of(answer) as u64);
-    let end = put_field(out, end, b" n=", answer.unwrap_or(0) as u64);
-    let end = put(out, end, b" out=");
-    let end = put_hex(out, end, back);
-    put(out, end, b"\n")
+    let number = number_of(answer);
+    let n = answer.unwrap_or(0);
+    writeln!(output, "written {number} n={n} out={}", Hex(back))
 }
 
-// The message that a line's words 2 to 7 name, or, of the second stat layout, 2 to 15.
-fn message_of(line: &[u8], kind: u8) -> Message {
+// The message that a line's words 2 to 7 name.
+fn message_of(line: &[u8]) -> Message {
     let id = id_of(number_at(line, 2));
-    if kind == b'v' {
-        let fields = wide::fields_at(line);
-        return Message { id, fields };
-    }
     let a = number_at(line, 4);
     let b = number_at(line, 5);
     let c = number_at(line, 6);
@@ -168,94 +174,78 @@ fn message_of(line: &[u8], kind: u8) -> Message {
     Message { id, fields }
 }
 
-fn at_most(n: usize, max: usize) -> usize
-    ensures { result ≤ max }
-{
-    if n < max {
-        return n;
-    }
-    max
-}
-
-// How long the text of a write is: zero bytes, or those that the line spells, which are put into `first`.
-fn text_length(line: &[u8], kind: u8, first: &mut [u8]) -> usize
-    ensures { result ≤ length first.new }
-{
-    if kind == b'z' {
-        return at_most(size_at(line, 8), first.len());
-    }
-    bytes_at(line, text_place(kind), first)
-}
-
-// Which word of a write is its text; the next is its room.
-fn text_place(kind: u8) -> usize
-    ensures { result ≤ 16 }
-{
-    if kind == b'v' {
-        return 16;
-    }
-    8
-}
-
-fn write_call(
-    line: &[u8],
-    kind: u8,
-    x: Exchange,
-    text: &[u8],
-    back: &mut [u8],
-    out: &mut [u8],
-) -> usize {
-    let k = at_most(size_at(line, text_place(kind) + 1), back.len());
-    write(out, x, message_of(line, kind), text, &mut back[0..k])
+// The message that words 2 to 15 name, with fields of the second stat layout.
+fn message_v2_of(line: &[u8]) -> Message {
+    let id = id_of(number_at(line, 2));
+    let fields = wide::fields_at(line);
+    Message { id, fields }
 }
 
 fn exchange_of(n: u32) -> Exchange {
     if n < 5 {
-        return Exchange::from_number(n);
+        Exchange::from_number(n)
+    } else {
+        Exchange::from_v2_number(n)
     }
-    Exchange::from_v2_number(n)
+}
+
+// The room for a message that word k spells.
+fn room<'a>(line: &[u8], k: usize, back: &'a mut [u8]) -> &'a mut [u8] {
+    let n = size_at(line, k).min(back.len());
+    &mut back[..n]
 }
 
 // One call: a word, an exchange's number, then the bytes to read; or an id, fields, a text and the room for the message, with
 // the text in hexadecimal (write, v2 for the second stat layout) or as a count of zero bytes (zeros). Or a conversion: narrow
-// and a stat in the places that v2 has it, or old and a mode, a size and a time.
-fn call(line: &[u8], first: &mut [u8], back: &mut [u8], out: &mut [u8]) -> usize {
-    if line.len() == 0 {
-        return 0;
-    }
-    let kind = line[0];
-    if kind == b'n' {
-        return wide::narrow(line, out);
-    }
-    if kind == b'o' {
-        return wide::widen(line, out);
-    }
-    let x = exchange_of(number_at(line, 1));
-    if kind == b'r' {
-        let n = bytes_at(line, 2, first);
-        return read(out, x, &first[..n], back);
-    }
-    let n = text_length(line, kind, first);
-    write_call(line, kind, x, &first[0..n], back, out)
-}
-
+// and a stat in the places that v2 has it, or old and a mode, a size and a time. A line that names none has no answer.
 fn answer<W: Write>(output: &mut W, line: &[u8]) -> io::Result<()> {
     let mut first = replay::space();
     let mut back = replay::space();
-    let mut out = replay::space();
-    let end = call(line, &mut first, &mut back, &mut out);
-    output.write_all(written(&out, end))
+    let x = exchange_of(number_at(line, 1));
+    match Call::of(line) {
+        Some(Call::Read) => {
+            let n = bytes_at(line, 2, &mut first);
+            read(output, x, &first[..n], &mut back)
+        }
+        Some(Call::Write) => {
+            let n = bytes_at(line, 8, &mut first);
+            write(
+                output,
+                x,
+                message_of(line),
+                &first[..n],
+                room(line, 9, &mut back),
+            )
+        }
+        Some(Call::WriteV2) => {
+            let n = bytes_at(line, 16, &mut first);
+            write(
+                output,
+                x,
+                message_v2_of(line),
+                &first[..n],
+                room(line, 17, &mut back),
+            )
+        }
+        Some(Call::Zeros) => {
+            let n = size_at(line, 8).min(first.len());
+            write(
+                output,
+                x,
+                message_of(line),
+                &first[..n],
+                room(line, 9, &mut back),
+            )
+        }
+        Some(Call::Narrow) => wide::narrow(output, line),
+        Some(Call::Widen) => wide::widen(output, line),
+        None => Ok(()),
+    }
 }
 
 fn replay<W: Write>(output: &mut W, script: &[u8]) -> io::Result<()> {
-    let mut at = 0;
-    while at < script.len() {
-        let end = find(script, at, script.len(), b'\n');
-        answer(output, &script[at..end])?;
-        if end == script.len() {
-            return Ok(());
-        }
-        at = end + 1;
+    for line in script.split(|b| *b == b'\n') {
+        answer(output, line)?;
     }
     Ok(())
 }

@@ -1,41 +1,30 @@
 // The second stat layout in a line, and the calls of the conversion.
-use refusal::number_of;
-use replay::text::{put, put_field, put_signed};
+use crate::Stat;
+use refusal::Numbered;
 use replay::words::{number_at, signed_at, size_at};
-use stat_convert::NarrowError;
+use std::io::Write;
+use std::{fmt, io};
 use sync::{Fields, FileMode, StatV1, StatV2};
 
-fn put_time(out: &mut [u8], at: usize, name: &[u8], time: i64) -> usize {
-    let end = put(out, at, name);
-    put_signed(out, end, time)
-}
+// A stat of the second layout, each of its numbers behind a space and its name.
+#[derive(Clone, Copy)]
+pub struct Wide(pub StatV2);
 
-fn put_about(out: &mut [u8], at: usize, s: StatV2) -> usize {
-    let mode = s.mode;
-    let end = put_field(out, at, b" error=", s.error as u64);
-    let end = put_field(out, end, b" dev=", s.dev);
-    let end = put_field(out, end, b" ino=", s.ino);
-    let end = put_field(out, end, b" mode=", mode.0 as u64);
-    put_field(out, end, b" nlink=", s.nlink as u64)
-}
-
-fn put_times(out: &mut [u8], at: usize, s: StatV2) -> usize {
-    let end = put_time(out, at, b" atime=", s.atime);
-    let end = put_time(out, end, b" mtime=", s.mtime);
-    put_time(out, end, b" ctime=", s.ctime)
-}
-
-pub fn put_stat(out: &mut [u8], at: usize, s: StatV2) -> usize {
-    let end = put_about(out, at, s);
-    let end = put_field(out, end, b" uid=", s.uid as u64);
-    let end = put_field(out, end, b" gid=", s.gid as u64);
-    let end = put_field(out, end, b" size=", s.size);
-    put_times(out, end, s)
-}
-
-pub fn put_end(out: &mut [u8], at: usize, s: StatV2, last: u32) -> usize {
-    let end = put_stat(out, at, s);
-    put_field(out, end, b" last=", last as u64)
+impl fmt::Display for Wide {
+    fn fmt<W: fmt::Write>(&self, f: &mut fmt::Formatter<W>) -> fmt::Result {
+        let s = self.0;
+        write!(f, " error={} dev={} ino={}", s.error, s.dev, s.ino)?;
+        write!(
+            f,
+            " mode={} nlink={} uid={} gid={}",
+            s.mode.0, s.nlink, s.uid, s.gid
+        )?;
+        write!(
+            f,
+            " size={} atime={} mtime={} ctime={}",
+            s.size, s.atime, s.mtime, s.ctime
+        )
+    }
 }
 
 // The stat that words 4 to 14 of a line spell.
@@ -66,28 +55,17 @@ pub fn fields_at(line: &[u8]) -> Fields {
     }
 }
 
-fn put_narrowed(out: &mut [u8], n: Result<StatV1, NarrowError>) -> usize {
-    let end = put_field(out, 0, b"narrowed ", number_of(n) as u64);
-    match n {
-        Ok(s) => {
-            let end = put_field(out, end, b" mode=", s.mode.0 as u64);
-            let end = put_field(out, end, b" size=", s.size as u64);
-            put_field(out, end, b" mtime=", s.mtime as u64)
-        }
-        Err(_) => end,
+pub fn narrow<W: Write>(output: &mut W, line: &[u8]) -> io::Result<()> {
+    match stat_convert::narrow(stat_at(line)) {
+        Ok(stat) => writeln!(output, "narrowed 0{}", Stat(stat)),
+        Err(refusal) => writeln!(output, "narrowed {}", refusal.number()),
     }
 }
 
-pub fn narrow(line: &[u8], out: &mut [u8]) -> usize {
-    let end = put_narrowed(out, stat_convert::narrow(stat_at(line)));
-    put(out, end, b"\n")
-}
-
-pub fn widen(line: &[u8], out: &mut [u8]) -> usize {
+pub fn widen<W: Write>(output: &mut W, line: &[u8]) -> io::Result<()> {
     let mode = FileMode(number_at(line, 1));
     let size = number_at(line, 2);
     let mtime = number_at(line, 3);
-    let end = put(out, 0, b"widened");
-    let end = put_stat(out, end, stat_convert::widen(StatV1 { mode, size, mtime }));
-    put(out, end, b"\n")
+    let stat = stat_convert::widen(StatV1 { mode, size, mtime });
+    writeln!(output, "widened{}", Wide(stat))
 }

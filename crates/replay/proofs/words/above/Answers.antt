@@ -1,13 +1,13 @@
-use Rattle.std.proofs.Common.{◌<◌, ◌^◌, refl, ap, ◌∙◌, arith}
-use mir.Facts.{to_z-of_z}
+use mathlib.Core.Path.{ap, ◌∙◌}
+use lib.IntN.{pos, +ℤ_idl}
 use mir.Syntax.{w64}
-use Rattle.le.specs.Le.{signed}
-use Rattle.le.proofs.Laws.{is-signed, signed-small}
-use Rattle.replay.proofs.WordsLaws.{above-is}
+use mir.Facts.{to_z-of_z}
+use borrow.Author.Rules.{rules}
+use Rattle.saturate.specs.Saturate.{clamp}
+use Rattle.saturate.proofs.Laws.{is-clamp}
 use Rattle.replay.proofs.words.above.Goals as goal
 
 pub returns : goal.returns
 returns c =
-    let h : c.min.result < 2 ^ 64 = omega arith in
-    let s = c.cast_signed.ensures ∙ is-signed w64 c.min.result refl in
-    rw s (to_z-of_z {w = w64} (record { sfits = signed-small 63 _ h }) ∙ ap (signed 63) c.min.ensures ∙ above-is c.args.n)
+    let r = c.saturating_add_unsigned in
+    rw (to_z-of_z {w = w64} {z = r.result} (search rules)) (r.ensures ∙ is-clamp _ ∙ ap clamp (+ℤ_idl (pos c.args.n)))

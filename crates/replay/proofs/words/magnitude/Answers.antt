@@ -1,13 +1,10 @@
-use mathlib.Core.Path.{refl, ◌∙◌}
+use mathlib.Core.Path.{◌∙◌}
 use Prim.Native.Nat.{◌+◌}
 use native.Mathlib.Omega.{arith}
 use lib.ListN.{drop, get_or}
 use Rattle.replay.specs.Words.{grown}
 use Rattle.replay.proofs.WordsLaws.{spelled-held, spelled_step, spelled-end}
 use Rattle.replay.proofs.words.magnitude.Goals as goal
-
-pub loop-b-init : goal.loop-b-init
-loop-b-init c = (omega arith, omega arith, refl)
 
 pub loop-b-preserved : goal.loop-b-preserved
 loop-b-preserved c =

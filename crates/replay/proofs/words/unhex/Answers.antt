@@ -1,49 +1,31 @@
-use mathlib.Core.Path.{◌≡◌, refl, sym, ap, ◌∙◌}
-use Prim.Native.Nat.{ℕ, ◌<◌, ◌+◌}
+use mathlib.Core.Path.{◌≡◌, sym, ap, ◌∙◌}
+use Prim.Native.Nat.{ℕ, ◌<◌, ◌+◌, ◌*◌}
 use native.Mathlib.Omega.{arith}
 use mathlib.Core.List.{List, ◌∷◌}
-use lib.ListN.{length, drop, set, length-set, length-take, length-drop}
-use lib.Seq.{paste-zero}
+use lib.ListN.{length, drop, set, length-set}
 use Rattle.replay.specs.Words.{unhexed}
-use Rattle.replay.proofs.WordsLaws.{stored, store-fits, store_step, store-rest, unhexed-step, unhexed-end}
+use Rattle.replay.proofs.WordsLaws.{stored, store_step, store-rest, unhexed-step, length-unhexed}
 use Rattle.replay.proofs.words.unhex.Goals as goal
 
-pub loop-n-init : goal.loop-n-init
-loop-n-init c = (omega arith, refl, omega arith, omega arith, paste-zero c.args.out.now 0 (unhexed c.args.s.now), refl)
-
-pub returns-then-s-i-lt2 : goal.returns-then-s-i-lt2
-returns-then-s-i-lt2 c =
+pub loop-i-preserved : goal.loop-i-preserved
+loop-i-preserved c =
     let s = c.args.s.now in
     let d = c.args.out.now in
-    let l = c.loop-n in
-    let z = ap length (l.invariant.5 ∙ unhexed-end s l.i (omega arith)) in
-    let w = length-drop l.n (unhexed s) in
-    record { puts = rw l.invariant.4 (stored d (unhexed s) l.n (omega arith)); prefix_len = (omega arith, simp length-take (omega arith)) }
-
-pub loop-n-smaller : goal.loop-n-smaller
-loop-n-smaller c = simp length-set (omega arith)
-
-pub loop-n-preserved : goal.loop-n-preserved
-loop-n-preserved c =
-    let s = c.args.s.now in
-    let d = c.args.out.now in
-    let l = c.loop-n in
+    let l = c.loop-i in
     let v = c.byte.result in
-    let e : drop l.n (unhexed s) ≡ v ∷ unhexed (drop (l.i + 2) s) = l.invariant.5 ∙ unhexed-step s l.i (omega arith) ∙ ap
-    (λ (x : ℕ). x ∷ unhexed (drop (l.i + 2) s)) (sym c.byte.ensures) in
-    let h : l.n < length d = omega arith in
-    let f = store-fits d (unhexed s) l.n v (unhexed (drop (l.i + 2) s)) h e in (
-      omega arith,
+    let rest = unhexed (drop (2 * l.i + 2) s) in
+    let e : drop l.i (unhexed s) ≡ v ∷ rest = l.invariant.2 ∙ unhexed-step s (2 * l.i) (omega arith) ∙ ap (λ (x : ℕ). x ∷ rest) (sym c.byte.ensures) in
+    let h : l.i < length d = omega arith in
+    let two : 2 * (l.i + 1) ≡ 2 * l.i + 2 = omega arith in (
       simp length-set (omega arith),
-      omega arith,
-      omega arith,
-      ap (λ (o : List ℕ). set o l.n v) l.invariant.4 ∙ store_step d (unhexed s) l.n v (unhexed (drop (l.i + 2) s)) h e,
-      store-rest d (unhexed s) l.n v (unhexed (drop (l.i + 2) s)) h e,
+      ap (λ (o : List ℕ). set o l.i v) l.invariant.1 ∙ store_step d (unhexed s) l.i v rest h e,
+      rw two (store-rest d (unhexed s) l.i v rest h e),
     )
 
-pub returns : goal.returns
-returns c =
+pub returns-clause-puts : goal.returns-clause-puts
+returns-clause-puts c =
     let s = c.args.s.now in
-    let d = c.args.out.now in
-    let l = c.loop-n in
-    record { puts = rw l.invariant.4 (stored d (unhexed s) l.n (omega arith)); prefix_len = (omega arith, simp length-take (omega arith)) }
+    let l = c.loop-i in
+    let k = length-unhexed s in
+    let n : l.i ≡ c.min-n.result = omega arith in
+    rw (l.invariant.1, n) (stored c.args.out.now (unhexed s) c.min-n.result (omega arith))
