@@ -46,10 +46,6 @@ reads_more d m ys at end k j r held more o i e inside =
       more-is = more ∙ came (end - at) k ∙ ap (ltb (end - at)) (sym end_is);
     }
 
--- what a reader of the bytes held used is held
-pub used-held : (d : List ℕ) (at end n : ℕ) → at ≤ end → n ≤ length (take (end - at) (drop at d)) → at + n ≤ end
-used-held d at end n h g = let k = length-take (end - at) (drop at d) in omega arith
-
 -- what a read put behind the front stands there
 pub behind : (m ys : List ℕ) (n j k : ℕ) → n ≤ length m → k ≤ length ys → take k (drop n (put_mid n j m ys)) ≡ take k ys
 behind m ys n j k within fits =

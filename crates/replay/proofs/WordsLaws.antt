@@ -2,7 +2,7 @@
 use mathlib.Core.Path.{◌≡◌, refl, sym, ap, subst, ◌∙◌}
 use mathlib.Core.Bool.{true, false}
 use mathlib.Core.List.{List, [], ◌∷◌}
-use Prim.Native.Nat.{ℕ, zero, suc, ◌+◌, ◌-◌, ◌*◌, ◌/◌, ◌^◌, ◌≤◌, ◌<◌, min}
+use Prim.Native.Nat.{ℕ, zero, suc, ◌+◌, ◌-◌, ◌*◌, ◌/◌, ◌≤◌, ◌<◌, min}
 use native.Mathlib.Numerals.{add-one}
 use native.Mathlib.Omega.{arith}
 use Rattle.std.proofs.Common.{Option, Some, None, Bor, option_map, unwrap_or, slice_get}
@@ -10,13 +10,11 @@ use Rattle.std.specs.List.{position, position_or_len, slice_split}
 use lib.Dec.{T, eqb, ltb}
 use lib.IntN.{pos, negsuc, neg_ℤ}
 use lib.ListN.{length, take, drop, get_or, set, length-take, length-drop, drop_of_length-le}
-use lib.Signed.{mag}
 use lib.Seq.{drop-cons, take_all, paste, paste-suc}
 use borrow.Author.Tests.{ltb-true, ltb-false}
 use Rattle.le.specs.Le.{put, part}
 use Rattle.le.proofs.Parts.{by-test}
 use Rattle.saturate.specs.Saturate.{clamp}
-use Rattle.saturate.proofs.Laws.{held_fits}
 use Rattle.replay.specs.Text.{Puts}
 use Rattle.replay.specs.Words.{index_of, from_word, word_of, is_digit, grown, spelled, is_negative, signed_of, nibble_of, unhexed}
 use Rattle.replay.proofs.TextLaws.{puts-take}
@@ -183,7 +181,3 @@ signed_below w n t e = rw (t, e) (below-held (spelled 0 w))
 pub signed_above : (w : List ℕ) (n : ℕ) → is_negative w ≡ false → n ≡ min (spelled 0 w) 0xffff_ffff_ffff_ffff → clamp (pos n) ≡ signed_of w
 unfolding signed_of
 signed_above w n t e = rw (t, e) (above-held (spelled 0 w))
-
-pub signed-small : (w : List ℕ) → mag (signed_of w) < 2 ^ 63
-unfolding signed_of
-signed-small w = held_fits _
