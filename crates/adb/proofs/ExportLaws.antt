@@ -1,28 +1,28 @@
 -- What the exported functions cite. Assumes nothing.
 use mathlib.Core.Path.{◌≡◌, refl, sym, ap, subst, ◌∙◌}
 use mathlib.Core.Bool.{Bool, true, false, ◌||◌, true≢false}
-use mathlib.Core.List.{List, [], ◌∷◌, ◌++◌, append_assoc, append-nil}
-use Prim.Native.Nat.{ℕ, suc, ◌+◌, ◌%◌, ◌^◌, ◌≤◌, ◌<◌}
+use mathlib.Core.List.{List, [], ◌∷◌}
+use Prim.Native.Nat.{ℕ, suc, ◌%◌, ◌≤◌}
 use native.Mathlib.Nat.{zero-add}
 use native.Mathlib.Omega.{arith}
 use lib.Dec.{ltb}
-use lib.ListN.{length, drop, get_or, length-append}
-use borrow.Author.Tests.{lt-ltb, le-ltb, ltb-false}
-use Rattle.le.specs.Le.{num_of, bytes_of, put, Bytes}
-use Rattle.le.proofs.Laws.{length-bytes_of, write_read}
-use Rattle.le.proofs.Parts.{put-put}
+use lib.ListN.{length}
+use borrow.Author.Tests.{ltb-false}
+use Rattle.le.specs.Le.{num_of, put, Bytes}
 use Rattle.config.specs.declared.ConnectionConfig.{ConnectionConfig}
 use Rattle.slot.proofs.Laws.{cond-true, cond-false}
-use Rattle.le.specs.Rows.{flat, rows}
-use Rattle.le.proofs.RowLaws.{Every, rows-flat}
+use Rattle.le.specs.Rows.{rows}
 use Rattle.state_whole.specs.Whole.{is_whole}
 use Rattle.table.specs.declared.ChannelId.{ChannelId}
 use Rattle.connection.specs.declared.Answer.{Answer}
 use Rattle.call.specs.declared.Reply.{Reply}
-use Rattle.connection.specs.Answer.{answer_number, answer_values}
+use Rattle.connection.specs.Answer.{refusal_number, answer_number}
 use Rattle.connection.specs.Calls.{Outcome, written_by, open_outcome, dispatch_outcome, settle_outcome, take_outcome, read_outcome, write_outcome, close_outcome, take_front_outcome, numbers_outcome, accept_outcome, reject_outcome, let_go_outcome}
 use Rattle.call.specs.Promise.{lent_of, agreed_in, Leaves}
-use Rattle.call_make.specs.Make.{make_in, Makes}
+use Rattle.call_make.specs.Make.{make_in, answered, Makes}
+use Rattle.connection.specs.declared.Refusal.{Refusal}
+use Rattle.refusal.specs.Refusal.{number_of as number_by}
+use Rattle.std.specs.Prelude.{Result, Ok, Err}
 use Rattle.history.specs.Run.{bytes_in, Call, open_call, dispatch_call, settle_call, take_call, read_call, write_call, close_call, front_taken, look_call, numbers_look, look_outcome, accept_call, reject_call, let_go_call, World, outcome, after}
 use Rattle.adb.specs.Export.{world_of, numbers_of, answer_bytes, said_in, is_short, Exported, called, exported, Does, is_yes, MakesState}
 use Rattle.state.specs.State.{state_len}
@@ -40,27 +40,12 @@ bytes_same (x ∷ l) y =
 
 -- ---- the answer's bytes
 
-pub each-fits : (l : List ℕ) → ((i : ℕ) → get_or l i 0 < 2 ^ 64) → Every (λ (x : ℕ). x < 2 ^ 64) l
-each-fits [] h = tt
-each-fits (x ∷ l) h = (h 0, each-fits l (λ i. h (suc i)))
-
--- they say its numbers
-pub answer-said : (d d₂ numbers : List ℕ) → 48 ≤ length d → length numbers ≡ 6 → Every (λ (x : ℕ). x < 2 ^ 64) numbers
-    → d₂ ≡ put d 0 (flat (bytes_of 8) numbers) → said_in d₂ ≡ numbers
-unfolding said_in put
-answer-said d d₂ numbers k n fit e =
-    ap said_in e ∙ ap (λ (m : ℕ). rows 8 num_of m (flat (bytes_of 8) numbers ++ drop (0 + length (flat (bytes_of 8) numbers)) d)) (sym n)
-    ∙ rows-flat 8 (bytes_of 8) num_of (λ (x : ℕ). x < 2 ^ 64) (λ x. length-bytes_of 8 x) (λ x q. write_read 8 x q) numbers (drop (0 + length (flat (bytes_of 8) numbers)) d) fit
+-- six numbers, read back as rows, are what the answer says
+pub said-six : (d numbers : List ℕ) → length numbers ≡ 6 → rows 8 num_of (length numbers) d ≡ numbers → said_in d ≡ numbers
+unfolding said_in
+said-six d numbers n e = ap (λ (k : ℕ). rows 8 num_of k d) (sym n) ∙ e
 
 -- ---- too few bytes
-
-pub short-state : (s a : ℕ) → s < state_len → true ≡ is_short s a
-unfolding is_short
-short-state s a h = sym (ap (λ (t : Bool). t || ltb a 48) (lt-ltb s state_len h))
-
-pub short-answer : (s a : ℕ) → state_len ≤ s → ltb a 48 ≡ is_short s a
-unfolding is_short
-short-answer s a h = sym (ap (λ (t : Bool). t || ltb a 48) (le-ltb s state_len h))
 
 pub long-answer : (s a : ℕ) → is_short s a ≡ false → (state_len ≤ s) × (48 ≤ a)
 unfolding is_short
@@ -171,8 +156,14 @@ module _ (state rx store : List ℕ) where
 
 -- ---- make
 
-pub makes-is : (c : ConnectionConfig) (a b h : ℕ) (host device said-device : Bool) (state state' : List ℕ) (said : Answer) (r : ℕ) → host ≡ is_yes h
-    → device ≡ said-device → Makes (make_in c a b host device state) said state' → r ≡ answer_number said → MakesState (make_in c a b (is_yes h) said-device state) r state'
+-- the number of what it answers
+made-number : (said : Result (Unit {0}) Refusal) → number_by refusal_number said ≡ answer_number (answered said)
+unfolding answer_number
+made-number (Ok done) = refl
+made-number (Err refusal) = refl
+
+pub makes-is : (c : ConnectionConfig) (a b h : ℕ) (host device said-device : Bool) (state state' : List ℕ) (said : Result (Unit {0}) Refusal) (r : ℕ) → host ≡ is_yes h
+    → device ≡ said-device → Makes (make_in c a b host device state) said state' → r ≡ number_by refusal_number said → MakesState (make_in c a b (is_yes h) said-device state) r state'
 makes-is c a b h host device said-device state state' said r e f g k =
     let g₁ = subst (λ (x : Bool). Makes (make_in c a b (is_yes h) x state) said state') f (subst (λ (x : Bool). Makes (make_in c a b x device state) said state') e g) in
-    record { number_is = k ∙ ap answer_number g₁.answer-is; state-is = g₁.state-is }
+    record { number_is = k ∙ made-number said ∙ ap answer_number g₁.answer-is; state-is = g₁.state-is }

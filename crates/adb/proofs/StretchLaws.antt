@@ -13,7 +13,7 @@ use Rattle.adb.specs.Export.{said_in, is_short}
 use Rattle.adb.specs.Stretch.{Found, found_numbers, answered_by, stretch_found, Stretches, AdbStretchDoes}
 use Rattle.connection.specs.declared.Refusal.{Refusal}
 use Rattle.stretch.specs.declared.Stretch.{Stretch}
-use Rattle.std.specs.Prelude.{Option, Some, None, Result, Ok, Err}
+use Rattle.std.specs.Prelude.{Option, Result}
 
 module _ (state rx opens received spare_rx spare_opens answer : List ℕ) where
   pub stretch-short : is_short (length state) (length answer) ≡ true → AdbStretchDoes state rx opens received spare_rx spare_opens answer 8 spare_rx spare_opens answer

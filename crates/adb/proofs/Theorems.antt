@@ -12,7 +12,7 @@ use Rattle.config.specs.declared.negotiated.Negotiated.{Negotiated}
 use Rattle.config.specs.declared.negotiated.RxPolicy.{RxPolicy}
 use Rattle.config.specs.Config.{within_limits}
 use Rattle.slot.proofs.Laws.{cond-true, cond-false}
-use Rattle.connection.specs.Answer.{refusal_number, answer_number}
+use Rattle.connection.specs.Answer.{answer_number}
 use Rattle.connection.specs.Calls.{Made, make_of}
 use Rattle.call_make.specs.Make.{make_in}
 use Rattle.history.specs.Book.{Ledger, clean, book_at, entry, ledger_of}

@@ -1,6 +1,6 @@
 -- What the exported functions leave (docs/ARCHITECTURE.md, "The C interface"), in the terms of the calls' definitions and of
 -- the theorems over lists of calls. Assumes nothing.
-use Rattle.std.specs.Prelude.{ℕ, ◌≡◌, Bool, cond, ◌||◌, List, [], ◌∷◌, ltb, length}
+use Rattle.std.specs.Prelude.{ℕ, ◌≡◌, Bool, cond, ◌||◌, List, ◌∷◌, ltb, length}
 use Rattle.le.specs.Le.{num_of, bytes_of, put}
 use Rattle.le.specs.Rows.{flat, rows}
 use Rattle.connection.specs.declared.Answer.{Answer}

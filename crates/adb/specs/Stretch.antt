@@ -1,5 +1,5 @@
 -- What `adb_stretch` leaves (docs/SCOPE.md, 14). State and stores are lent to be looked at. Assumes nothing.
-use Rattle.std.specs.Prelude.{ℕ, ◌≡◌, Bool, true, cond, List, ◌∷◌, length, Option, Some, None, Result, Ok, Err}
+use Rattle.std.specs.Prelude.{ℕ, ◌≡◌, Bool, true, cond, List, ◌∷◌, length, Option, Result}
 use Rattle.le.specs.Le.{bytes_of, put}
 use Rattle.le.specs.Rows.{flat}
 use Rattle.call_stretch.specs.Promise.{stretched_number, stretched_values, is_refused, stretch_of, Spares}

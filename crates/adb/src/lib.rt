@@ -1,5 +1,7 @@
 // The C interface (include/adb.h). Every buffer comes as a pointer and its length. A state or an answer that is too short is
-// refused by 8 ahead of all else, and nothing is touched.
+// refused by 8 ahead of all else, and nothing is touched: each export has these lines itself, since one function around the calls would
+// take the call as a closure over all that was lent. Answers are numbers, flags bytes, and a channel is two numbers, as C has them.
+// `as u64` widens a usize: std has no From for it.
 #![tactic(auto)]
 
 pub mod shortest;
@@ -9,10 +11,11 @@ ghost use Rattle.le.specs.Le.{bytes_of, put};
 ghost use Rattle.le.specs.Rows.{flat};
 ghost use Rattle.connection.specs.Answer.{answer_number, ack_length, refusal_word};
 ghost use Rattle.adb.specs.Export.{numbers_of, answer_bytes, said_in, is_short, is_yes};
-ghost use Rattle.adb.specs.Promise.{AdbMakeFromCnxnDoes};
+ghost use Rattle.adb.specs.Promise.{channel_of, limits_of, AdbMakeFromCnxnDoes};
 ghost use Rattle.adb.specs.Promise.{AdbCloseDoes, AdbDispatchDoes, AdbMakeDoes, AdbOpenDoes, AdbReadDoes, AdbSettleDoes, AdbTakeDoes};
 ghost use Rattle.adb.specs.Promise.{AdbTakeFrontDoes, AdbNumbersDoes, AdbWriteDoes, AdbAcceptDoes, AdbRejectDoes, AdbLetGoDoes};
 
+use c_answer::ANSWER_SHORT;
 use call::Reply;
 use call_accept::accept;
 use call_close::close;
@@ -29,16 +32,19 @@ use call_take_front::take_front;
 use call_write::write;
 use config::ConnectionConfig;
 use connection::{Answer, Refusal};
+use refusal::number_of;
 use slot::ids::LocalId;
 use state::STATE_LEN;
 use table::ChannelId;
 
+#[tactic(auto, unfolding(connection::specs::Answer::ack_length))]
 fn ack_length(ack: Option<usize>) -> u64
     ensures { result ≡ ack_length ack }
 {
     ack.unwrap_or(0) as u64
 }
 
+#[tactic(auto, unfolding(connection::specs::Answer::refusal_word))]
 fn refusal_word(refusal: Refusal) -> u64
     ensures { result ≡ refusal_word refusal }
 {
@@ -49,6 +55,7 @@ fn refusal_word(refusal: Refusal) -> u64
 }
 
 // An answer's six numbers: used, written, then the answer's four values.
+#[tactic(auto, unfolding(connection::specs::Answer::answer_values))]
 fn numbers_of(reply: Reply) -> [u64; 6]
     ensures { result ≡ numbers_of reply.used reply.written reply.answer }
 {
@@ -82,14 +89,6 @@ fn numbers_of(reply: Reply) -> [u64; 6]
     }
 }
 
-// The answer's 48 bytes.
-fn put_answer(answer: &mut [u8], numbers: &[u64; 6])
-    requires { 48 ≤ length answer.old }
-    ensures { (answer.new ≡ put answer.old 0 (flat (bytes_of 8) numbers.now)) × (said_in answer.new ≡ numbers.now) }
-{
-    le::put_all(answer, 0, numbers);
-}
-
 // The answer's 48 bytes, and the call's number.
 fn answered(answer: &mut [u8], reply: Reply) -> u32
     requires { 48 ≤ length answer.old }
@@ -97,17 +96,25 @@ fn answered(answer: &mut [u8], reply: Reply) -> u32
         (answer.new ≡ put answer.old 0 (answer_bytes reply.used reply.written reply.answer)) ×
         (said_in answer.new ≡ numbers_of reply.used reply.written reply.answer) }
 {
-    put_answer(answer, &numbers_of(reply));
+    c_answer::put(answer, &numbers_of(reply));
     reply.answer.number()
 }
 
+#[tactic(auto, unfolding(crate::specs::Export::is_short))]
 fn is_short(state: usize, answer: usize) -> bool
     ensures { result ≡ is_short state answer }
 {
-    if state < STATE_LEN {
-        return true;
+    state < STATE_LEN || answer < 48
+}
+
+// The channel that C names by its slot and its local number.
+fn channel_of(slot: usize, local: u32) -> ChannelId
+    ensures { result ≡ channel_of slot local }
+{
+    ChannelId {
+        slot,
+        local: LocalId(local),
     }
-    answer < 48
 }
 
 // Opens a channel, or goes on with the pending open.
@@ -126,7 +133,7 @@ pub extern "C" fn adb_open(
         opens.new out.new answer.new }
 {
     if is_short(state.len(), answer.len()) {
-        return 8;
+        return ANSWER_SHORT;
     }
     let reply = open(state, rx, opens, destination, received, out);
     answered(answer, reply)
@@ -147,7 +154,7 @@ pub extern "C" fn adb_dispatch(
         answer.new }
 {
     if is_short(state.len(), answer.len()) {
-        return 8;
+        return ANSWER_SHORT;
     }
     let reply = dispatch(state, rx, opens, received, out);
     answered(answer, reply)
@@ -169,12 +176,9 @@ pub extern "C" fn adb_settle(
         out.old answer.old result state.new out.new answer.new }
 {
     if is_short(state.len(), answer.len()) {
-        return 8;
+        return ANSWER_SHORT;
     }
-    let ch = ChannelId {
-        slot,
-        local: LocalId(local),
-    };
+    let ch = channel_of(slot, local);
     let reply = settle(state, rx, opens, ch, want, out);
     answered(answer, reply)
 }
@@ -194,12 +198,9 @@ pub extern "C" fn adb_take(
         answer.old result state.new buf.new answer.new }
 {
     if is_short(state.len(), answer.len()) {
-        return 8;
+        return ANSWER_SHORT;
     }
-    let ch = ChannelId {
-        slot,
-        local: LocalId(local),
-    };
+    let ch = channel_of(slot, local);
     let reply = take(state, rx, opens, ch, buf);
     answered(answer, reply)
 }
@@ -222,12 +223,9 @@ pub extern "C" fn adb_read(
         out.new buf.new answer.new }
 {
     if is_short(state.len(), answer.len()) {
-        return 8;
+        return ANSWER_SHORT;
     }
-    let ch = ChannelId {
-        slot,
-        local: LocalId(local),
-    };
+    let ch = channel_of(slot, local);
     let reply = read(state, rx, opens, ch, received, out, buf);
     answered(answer, reply)
 }
@@ -250,12 +248,9 @@ pub extern "C" fn adb_write(
         opens.new out.new answer.new }
 {
     if is_short(state.len(), answer.len()) {
-        return 8;
+        return ANSWER_SHORT;
     }
-    let ch = ChannelId {
-        slot,
-        local: LocalId(local),
-    };
+    let ch = channel_of(slot, local);
     let reply = write(state, rx, opens, ch, bytes, received, out);
     answered(answer, reply)
 }
@@ -275,12 +270,9 @@ pub extern "C" fn adb_close(
         answer.old result state.new out.new answer.new }
 {
     if is_short(state.len(), answer.len()) {
-        return 8;
+        return ANSWER_SHORT;
     }
-    let ch = ChannelId {
-        slot,
-        local: LocalId(local),
-    };
+    let ch = channel_of(slot, local);
     let reply = close(state, rx, opens, ch, out);
     answered(answer, reply)
 }
@@ -297,7 +289,7 @@ pub extern "C" fn adb_take_front(
         state.new answer.new }
 {
     if is_short(state.len(), answer.len()) {
-        return 8;
+        return ANSWER_SHORT;
     }
     let reply = take_front(state, rx, opens);
     answered(answer, reply)
@@ -317,12 +309,9 @@ pub extern "C" fn adb_numbers(
         answer.new }
 {
     if is_short(state.len(), answer.len()) {
-        return 8;
+        return ANSWER_SHORT;
     }
-    let ch = ChannelId {
-        slot,
-        local: LocalId(local),
-    };
+    let ch = channel_of(slot, local);
     let reply = numbers(state, rx, opens, ch);
     answered(answer, reply)
 }
@@ -340,13 +329,13 @@ pub extern "C" fn adb_accept(
         state.new out.new answer.new }
 {
     if is_short(state.len(), answer.len()) {
-        return 8;
+        return ANSWER_SHORT;
     }
     let reply = accept(state, rx, opens, out);
     answered(answer, reply)
 }
 
-// It is refused.
+// The open that was taken is refused.
 #[unsafe(no_mangle)]
 pub extern "C" fn adb_reject(
     state: &mut [u8],
@@ -359,20 +348,20 @@ pub extern "C" fn adb_reject(
         state.new out.new answer.new }
 {
     if is_short(state.len(), answer.len()) {
-        return 8;
+        return ANSWER_SHORT;
     }
     let reply = reject(state, rx, opens, out);
     answered(answer, reply)
 }
 
-// It is queued again, ahead of the others.
+// The open that was taken is queued again, ahead of the others.
 #[unsafe(no_mangle)]
 pub extern "C" fn adb_let_go(state: &mut [u8], rx: &[u8], opens: &[u8], answer: &mut [u8]) -> u32
     ensures { AdbLetGoDoes state.old rx.now opens.now answer.old result
         state.new answer.new }
 {
     if is_short(state.len(), answer.len()) {
-        return 8;
+        return ANSWER_SHORT;
     }
     let reply = let_go(state, rx, opens);
     answered(answer, reply)
@@ -382,6 +371,23 @@ fn is_yes(flag: u8) -> bool
     ensures { result ≡ is_yes flag }
 {
     flag > 0
+}
+
+// The limits, as C gives them.
+fn limits_of(
+    channels: usize,
+    max_payload: u32,
+    max_rx_per_channel: usize,
+    initial_ack_bytes: u32,
+) -> ConnectionConfig
+    ensures { result ≡ limits_of channels max_payload max_rx_per_channel initial_ack_bytes }
+{
+    ConnectionConfig {
+        channels,
+        max_payload,
+        max_rx_per_channel,
+        initial_ack_bytes,
+    }
 }
 
 // A fresh connection in the state's first bytes. The device's version and maximum payload are its CNXN's; a flag is no where
@@ -401,16 +407,10 @@ pub extern "C" fn adb_make(
     ensures { AdbMakeDoes state.old channels max_payload max_rx_per_channel initial_ack_bytes version
         device_max_payload host_delayed_ack device_delayed_ack result state.new }
 {
-    let config = ConnectionConfig {
-        channels,
-        max_payload,
-        max_rx_per_channel,
-        initial_ack_bytes,
-    };
+    let config = limits_of(channels, max_payload, max_rx_per_channel, initial_ack_bytes);
     let host = is_yes(host_delayed_ack);
     let device = is_yes(device_delayed_ack);
-    let answer = make(state, config, version, device_max_payload, host, device);
-    answer.number()
+    number_of(make(state, config, version, device_max_payload, host, device))
 }
 
 // The same from the device's CNXN itself: whether the device lists delayed acknowledgement is found from its payload.
@@ -429,13 +429,7 @@ pub extern "C" fn adb_make_from_cnxn(
     ensures { AdbMakeFromCnxnDoes state.old channels max_payload max_rx_per_channel initial_ack_bytes version
         device_max_payload identity.now host_delayed_ack result state.new }
 {
-    let config = ConnectionConfig {
-        channels,
-        max_payload,
-        max_rx_per_channel,
-        initial_ack_bytes,
-    };
+    let config = limits_of(channels, max_payload, max_rx_per_channel, initial_ack_bytes);
     let host = is_yes(host_delayed_ack);
-    let answer = make_from(state, config, version, device_max_payload, host, identity);
-    answer.number()
+    number_of(make_from(state, config, version, device_max_payload, host, identity))
 }

@@ -1,12 +1,15 @@
 // The call that looks for the shortest stretch. It changes nothing that lasts from call to call.
+// `as u64` widens a usize: std has no From for it.
 ghost use Rattle.std.specs.Prelude.{◌≡◌, ◌∷◌};
 ghost use Rattle.call_stretch.specs.Promise.{stretched_values};
 ghost use Rattle.adb.specs.Stretch.{AdbStretchDoes};
 
-use crate::{is_short, put_answer};
+use crate::is_short;
+use c_answer::ANSWER_SHORT;
 use call_stretch::{Stretched, stretch, stretched_number};
 
 // What is said of a stretch: nothing is used or written, and two values of the answer.
+#[tactic(auto, unfolding(call_stretch::specs::Promise::stretched_values))]
 fn stretch_numbers(stretched: Stretched) -> [u64; 6]
     ensures { result ≡ 0 ∷ 0 ∷ stretched_values stretched }
 {
@@ -33,9 +36,9 @@ pub extern "C" fn adb_stretch(
         spare_opens.new answer.new }
 {
     if is_short(state.len(), answer.len()) {
-        return 8;
+        return ANSWER_SHORT;
     }
     let found = stretch(state, rx, opens, received, spare_rx, spare_opens);
-    put_answer(answer, &stretch_numbers(found));
+    c_answer::put(answer, &stretch_numbers(found));
     stretched_number(found)
 }

@@ -1,7 +1,7 @@
 -- What the exported functions of captures leave (docs/ARCHITECTURE.md, "Captures"). Assumes nothing.
-use Rattle.std.specs.Prelude.{ℕ, ◌≡◌, cond, List, [], ◌∷◌, ltb, Some, None, Ok, Err, length}
-use Rattle.le.specs.Le.{num_of, bytes_of, part, put}
-use Rattle.le.specs.Rows.{flat, rows}
+use Rattle.std.specs.Prelude.{ℕ, ◌≡◌, List, [], ◌∷◌, Some, None, Ok, Err}
+use Rattle.le.specs.Le.{part}
+use Rattle.c_answer.specs.Answer.{Outcome, says, Says}
 use Rattle.pcap.specs.Record.{snap_length, Read, read_record, read_number, Composed, write_record, written_number}
 
 -- what a write promises: the number of what the writer answers, and every byte of out
@@ -30,31 +30,15 @@ said_of (Err e) = nothing_said
 abbrev pub numbers_in : Said → List ℕ
 numbers_in s = s.used ∷ s.length ∷ s.seconds ∷ s.micros ∷ []
 
--- its 32 bytes
-unfoldable pub said_bytes : Said → List ℕ
-said_bytes s = flat (bytes_of 8) (numbers_in s)
-
--- a read's number, the answer's bytes after it, and the four numbers that they say
-pub record ReadOutcome : Type 0 where
-  pub number : ℕ
-  pub answer : List ℕ
-  pub said : List ℕ
-
--- 8 for an answer under 32 bytes, which is not touched; else what the reader finds, with frames up to the snap length
-unfoldable pub reads_in : List ℕ → List ℕ → ReadOutcome
+-- a read's number, the answer's bytes after it, and the four numbers that they say: 8 for an answer under 32 bytes, which is not
+-- touched; else what the reader finds, with frames up to the snap length
+abbrev pub reads_in : List ℕ → List ℕ → Outcome
 reads_in received answer =
-    cond (ltb (length answer) 32) (record { number = 8; answer = answer; said = rows 8 num_of 4 answer })
-    (record {
-      number = read_number (read_record snap_length received);
-      answer = put answer 0 (said_bytes (said_of (read_record snap_length received)));
-      said = numbers_in (said_of (read_record snap_length received));
-    })
+    says 4 answer (read_number (read_record snap_length received)) (numbers_in (said_of (read_record snap_length received)))
 
--- what a read promises: the number, every byte of the answer, and that these say the definition's numbers (each is below 2^64)
-pub record ReadDoes (o : ReadOutcome) (r : ℕ) (answer : List ℕ) : Type 0 where
-  pub number_is : r ≡ o.number
-  pub answer-is : answer ≡ o.answer
-  pub said-is : rows 8 num_of 4 answer ≡ o.said
+-- what a read promises
+abbrev pub ReadDoes : Outcome → ℕ → List ℕ → Type 0
+ReadDoes = Says 4
 
 -- a write of what a read said, with the frame where it stands in the received bytes (proofs/Handed.antt)
 abbrev pub writes_said : Said → List ℕ → List ℕ → Composed

@@ -1,5 +1,8 @@
 // Captures for C (include/adb_pcap.h). Every buffer comes as a pointer and its length. An answer that is too short is refused by 8
 // ahead of all else, and nothing is touched.
+//
+// Refusals are numbers here, and what is not there is said as zeros: C has no enum with values, no Option and no Result.
+// `as u64` widens a usize: std has no From for it.
 #![tactic(auto)]
 
 ghost use Rattle.std.specs.Prelude.{◌≡◌};
@@ -7,6 +10,7 @@ ghost use Rattle.pcap.specs.Header.{read_header, header_number, write_header};
 ghost use Rattle.pcap.specs.Record.{write_record};
 ghost use Rattle.adb_pcap.specs.Export.{WriteDoes, said_of, numbers_in, reads_in, ReadDoes};
 
+use c_answer::say;
 use pcap::{ReadError, Record, Time};
 use refusal::{number_of, read_number_of};
 
@@ -42,6 +46,7 @@ pub extern "C" fn adb_pcap_write_record(
 }
 
 // What is said of received bytes: of a record the bytes used, its frame's length, its time; else zeros.
+// Its numbers are this interface's own, as adb_shell's are; what both share, the row in the answer, is c_answer's.
 #[tactic(auto, unfolding(crate::specs::Export::said_of))]
 fn said_of(read: Result<Option<Record>, ReadError>) -> [u64; 4]
     ensures { result ≡ numbers_in (said_of read) }
@@ -62,10 +67,7 @@ fn said_of(read: Result<Option<Record>, ReadError>) -> [u64; 4]
 pub extern "C" fn adb_pcap_read_record(received: &[u8], answer: &mut [u8]) -> u32
     ensures { ReadDoes (reads_in received.now answer.old) result answer.new }
 {
-    if answer.len() < 32 {
-        return 8;
-    }
+    // The read comes before the test of the answer's length: it touches nothing, and an answer that is too short is the caller's mistake.
     let read = pcap::read_record(received, pcap::SNAP_LENGTH);
-    le::put_all(answer, 0, &said_of(read));
-    read_number_of(read)
+    say(answer, read_number_of(read), &said_of(read))
 }

@@ -19,13 +19,14 @@ use Rattle.shell_write.specs.Sent.{bytes_for, Sent}
 use Rattle.shell.proofs.Pieces.{stable}
 use Rattle.shell_write.proofs.RoundTrip.{read-write}
 use Rattle.shell_write.proofs.Arrives.{reads-back}
-use Rattle.adb_shell.specs.Export.{said_of, reads_in, counted, writes_in}
+use Rattle.c_answer.specs.Answer.{says, counted, writes}
+use Rattle.adb_shell.specs.Export.{said_of}
 use Rattle.adb_shell.specs.Seen.{frame_in, seen_in, seen, writes_said, used_written}
 
 -- ---- reading
 
 seen_by : (lent : List ℕ → List ℕ) (s : List ℕ) (r : Read) → 40 ≤ length (lent s) → read_frame s ≡ r → seen lent s ≡ answer_of s r
-unfolding seen seen_in reads_in frame_in said_of answer_of used_of
+unfolding seen seen_in says frame_in said_of answer_of used_of
 seen_by lent s (Ok None) h e = rw (le-ltb (length (lent s)) 40 h, e)
 seen_by lent s (Err InvalidKind) h e = rw (le-ltb (length (lent s)) 40 h, e)
 seen_by lent s (Err EmptyExit) h e = rw (le-ltb (length (lent s)) 40 h, e)
@@ -50,7 +51,7 @@ module _ (lent : List ℕ → List ℕ) (long : (s : List ℕ) → 40 ≤ length
 
 handed : (s out answer : List ℕ) (r : Read) → Bytes s → read_frame s ≡ r → read_number r ≡ 0 → get_or (said_of r) 0 0 ≤ length out → 8 ≤ length answer
     → writes_said (said_of r) s out answer ≡ used_written (said_of r) s out answer
-unfolding said_of writes_in counted
+unfolding said_of writes counted
 handed s out answer (Ok None) h e z room fit = absurd (omega arith)
 handed s out answer (Err InvalidKind) h e z room fit = absurd (omega arith)
 handed s out answer (Err EmptyExit) h e z room fit = absurd (omega arith)

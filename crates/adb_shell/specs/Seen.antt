@@ -3,7 +3,8 @@ use Rattle.std.specs.Prelude.{ℕ, cond, List, [], ◌∷◌, eqb, get_or, take}
 use Rattle.le.specs.Le.{bytes_of, part, put}
 use Rattle.stream.specs.Stream.{Answer, waiting, message, refused}
 use Rattle.shell.specs.Pieces.{Frame}
-use Rattle.adb_shell.specs.Export.{ReadOutcome, reads_in, WriteOutcome, writes_in}
+use Rattle.c_answer.specs.Answer.{Outcome, WriteOutcome}
+use Rattle.adb_shell.specs.Export.{reads_in, writes_in}
 
 -- a frame, from an answer's numbers and the bytes that were lent: those that it uses come first, then place, length, kind, code
 unfoldable pub frame_in : List ℕ → List ℕ → Answer Frame
@@ -11,7 +12,7 @@ frame_in said s =
     message (record { kind = get_or said 3 0; payload = part s (get_or said 1 0) (get_or said 2 0); code = get_or said 4 0 }) (get_or said 0 0)
 
 -- what a read's number, and the numbers that its answer says, come to: 100 waiting, 0 a frame, else a refusal
-unfoldable pub seen_in : ReadOutcome → List ℕ → Answer Frame
+unfoldable pub seen_in : Outcome → List ℕ → Answer Frame
 seen_in o s = cond (eqb o.number 100) waiting (cond (eqb o.number 0) (frame_in o.said s) (refused o.number (get_or o.said 0 0)))
 
 -- a read of bytes s, with whatever answer is lent for it

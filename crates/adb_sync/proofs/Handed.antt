@@ -10,22 +10,24 @@ use lib.ListN.{length, take}
 use borrow.Author.Tests.{le-ltb}
 use Rattle.le.specs.Le.{num_of, part, put, Bytes}
 use Rattle.exchange.specs.declared.SyncId.{SyncId}
+use Rattle.exchange.specs.declared.StatLayout.TheVariants.{V1, V2}
 use Rattle.exchange.specs.declared.Layout.{Layout}
-use Rattle.exchange.specs.declared.Layout.TheVariants.{Text, Number, Stat, Entry, End, StatV2, EntryV2, EndV2}
+use Rattle.exchange.specs.declared.Layout.TheVariants.{Text, Number, Stat, Entry, End}
 use Rattle.exchange.specs.declared.Exchange.{Exchange}
 use Rattle.sync.specs.declared.Fields.{Fields}
 use Rattle.sync.specs.declared.Whole.{Whole}
 use Rattle.sync.specs.declared.ReadError.TheVariants.{InvalidId, DataTooLarge}
 use Rattle.std.specs.Prelude.{Some, None, Ok, Err}
 use Rattle.exchange.specs.Exchange.{word_of, found_of, exchange_of, layout_number}
-use Rattle.sync.specs.Message.{stat_of, fields_of, Answer, read_message, read_number, error_number}
+use Rattle.sync.specs.Message.{stat_of, either_of, fields_of, Answer, read_message, read_number, error_number}
 use Rattle.sync_write.specs.Write.{numbers_of}
 use Rattle.exchange.proofs.ExchangeLaws.{found_word, first-layout}
 use Rattle.sync.proofs.ReadLaws.{says}
 use Rattle.sync_write.proofs.RoundTrip.{read-write}
 use Rattle.sync_v2.specs.Said.{said_of as said_by, write_found}
+use Rattle.c_answer.specs.Answer.{counted, writes}
 use Rattle.adb_sync.specs.Handed.{hands, writes_said, used_written}
-use Rattle.adb_sync.specs.Export.{values_of, said_of, stat_from, fields_from, counted, writes}
+use Rattle.adb_sync.specs.Export.{values_of, said_of, stat_from, fields_from}
 
 -- numbers that make again the fields that they say, of each layout that an exchange has
 abbrev pub Again : {V : Type 0} → (Fields → V) → (Layout → V → Fields) → Exchange → Type 0
@@ -62,15 +64,15 @@ module _ {V : Type 0} (of_fields : Fields → V) (to_fields : Layout → V → F
 
 -- fields that were read, made again from their values
 fields-again : (k : Layout) (s : List ℕ) → layout_number k < 5 → fields_from k (values_of (fields_of k s)) ≡ fields_of k s
-unfolding fields_from values_of fields_of numbers_of stat_from stat_of layout_number
+unfolding fields_from values_of fields_of numbers_of stat_from either_of stat_of layout_number
 fields-again Text s h = refl
 fields-again Number s h = refl
-fields-again Stat s h = refl
-fields-again Entry s h = refl
-fields-again End s h = refl
-fields-again StatV2 s h = absurd (omega arith)
-fields-again EntryV2 s h = absurd (omega arith)
-fields-again EndV2 s h = absurd (omega arith)
+fields-again (Stat V1) s h = refl
+fields-again (Entry V1) s h = refl
+fields-again (End V1) s h = refl
+fields-again (Stat V2) s h = absurd (omega arith)
+fields-again (Entry V2) s h = absurd (omega arith)
+fields-again (End V2) s h = absurd (omega arith)
 
 pub handed-back : (x : ℕ) (s out answer : List ℕ) → Bytes s → read_number (read_message (exchange_of x) s) ≡ 0 → (said_of (read_message (exchange_of x) s)).used ≤ length out → 8 ≤ length answer
     → writes_said x (said_of (read_message (exchange_of x) s)) s out answer ≡ used_written (said_of (read_message (exchange_of x) s)) s out answer

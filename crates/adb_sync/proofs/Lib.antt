@@ -1,4 +1,3 @@
-pub mod ExportLaws
 pub mod Handed
 pub mod HandedV2
 pub mod Converted

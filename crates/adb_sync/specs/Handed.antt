@@ -7,7 +7,8 @@ use Rattle.exchange.specs.Exchange.{exchange_of}
 use Rattle.sync.specs.declared.Fields.{Fields}
 use Rattle.sync_v2.specs.declared.Said.{Said}
 use Rattle.adb_sync.specs.declared.Values.{Values}
-use Rattle.adb_sync.specs.Export.{fields_from, WriteOutcome, writes}
+use Rattle.c_answer.specs.Answer.{WriteOutcome}
+use Rattle.adb_sync.specs.Export.{fields_from, writes}
 
 module _ {V : Type 0} where
   -- a write of what was said, with the text where it stands in the received bytes

@@ -1,17 +1,23 @@
 // The sync messages for C (include/adb_sync.h). Every buffer comes as a pointer and its length. An answer that is too short is
 // refused by 8 ahead of all else, and nothing is touched.
+//
+// Exchanges, ids and refusals are numbers here, and what is not there is said as zeros: C has no enum with values, no Option and no Result.
+// `as u64` widens a usize: std has no From for it.
 #![tactic(auto)]
 
-ghost use Rattle.std.specs.Prelude.{◌≡◌, ◌+◌, ◌<◌};
-ghost use Rattle.adb_sync.specs.Export.{values_of, fields_from, values_in, says, Says, count_of, writes, WriteDoes};
+ghost use Rattle.std.specs.Prelude.{◌≡◌, ◌<◌};
+ghost use Rattle.c_answer.specs.Answer.{says, Says, WriteDoes};
+ghost use Rattle.sync_v2.specs.Said.{numbers_of};
+ghost use Rattle.adb_sync.specs.Export.{values_of, fields_from, values_in, writes};
 ghost use Rattle.adb_sync.specs.Export.{reads_in, ReadDoes, writes_in};
 ghost use Rattle.adb_sync.specs.ExportV2.{reads_v2_in, ReadV2Does, writes_v2_in, widens_in, narrow_said, narrows_in, four_of};
 
-use exchange::{Exchange, Layout};
+use c_answer::{ANSWER_SHORT, count};
+use exchange::{Exchange, Layout, StatLayout};
 use refusal::{number_of, read_number_of};
 use stat_convert::NarrowError;
-use sync::{Fields, FileMode, Message, StatV1, StatV2};
-use sync_v2::{Numbers, Said, ValuesV2, alone, put_said, said_of, stat_said, write_found};
+use sync::{Fields, FileMode, Message, Stat, StatV1, StatV2};
+use sync_v2::{Numbers, Said, ValuesV2, alone, said_of, stat_said, write_found};
 
 // A message's numbers in the order of its bytes, 0 where it has none.
 #[derive(Clone, Copy, Default)]
@@ -23,7 +29,7 @@ pub struct Values {
 }
 
 // Of a stat of the second layout four numbers say nothing, and make no fields.
-impl Numbers<4> for Values {
+impl Numbers<8> for Values {
     ghost of_fields = { values_of };
 
     ghost to_fields = { fields_from };
@@ -33,67 +39,71 @@ impl Numbers<4> for Values {
     #[tactic(auto, unfolding(crate::specs::Export::values_of, sync_write::specs::Write::numbers_of))]
     fn of_fields(fields: Fields) -> Values {
         match fields {
-            Fields::Number(a) | Fields::EndV2(_, a) => Values {
+            Fields::Number(a) | Fields::End(Stat::V2(_), a) => Values {
                 a,
                 ..Values::default()
             },
-            Fields::Stat(stat) | Fields::Entry(stat) => Values {
+            Fields::Stat(Stat::V1(stat)) | Fields::Entry(Stat::V1(stat)) => Values {
                 a: stat.mode.0,
                 b: stat.size,
                 c: stat.mtime,
                 d: 0,
             },
-            Fields::End(stat, d) => Values {
+            Fields::End(Stat::V1(stat), d) => Values {
                 a: stat.mode.0,
                 b: stat.size,
                 c: stat.mtime,
                 d,
             },
-            Fields::Text | Fields::StatV2(_) | Fields::EntryV2(_) => Values::default(),
+            Fields::Text | Fields::Stat(Stat::V2(_)) | Fields::Entry(Stat::V2(_)) =>
+                Values::default(),
         }
     }
 
     #[tactic(auto, unfolding(crate::specs::Export::fields_from, crate::specs::Export::stat_from))]
     fn to_fields(self, layout: Layout) -> Fields {
-        let stat = StatV1 {
+        let stat = Stat::V1(StatV1 {
             mode: FileMode(self.a),
             size: self.b,
             mtime: self.c,
-        };
+        });
         match layout {
             Layout::Number => Fields::Number(self.a),
-            Layout::Stat => Fields::Stat(stat),
-            Layout::Entry => Fields::Entry(stat),
-            Layout::End => Fields::End(stat, self.d),
+            Layout::Stat(StatLayout::V1) => Fields::Stat(stat),
+            Layout::Entry(StatLayout::V1) => Fields::Entry(stat),
+            Layout::End(StatLayout::V1) => Fields::End(stat, self.d),
             _ => Fields::Text,
         }
     }
 
-    fn in_order(self) -> [u64; 4] {
+    fn numbers_of(said: Said<Values>) -> [u64; 8]
+        ensures { result ≡ numbers_of values_in said }
+    {
+        let values = said.values;
         [
-            u64::from(self.a),
-            u64::from(self.b),
-            u64::from(self.c),
-            u64::from(self.d),
+            said.used as u64,
+            said.at as u64,
+            said.length as u64,
+            u64::from(said.word),
+            u64::from(values.a),
+            u64::from(values.b),
+            u64::from(values.c),
+            u64::from(values.d),
         ]
     }
 }
 
-// What is said, and its number, in an answer that is long enough.
-#[tactic(auto, unfolding(crate::specs::Export::says))]
+// What is said, and its number, in an answer that is long enough. What is read for it comes before the test of the answer's length: it
+// touches nothing, and an answer that is too short is the caller's mistake.
 fn say<V: Numbers<N>, const N: usize>(answer: &mut [u8], number: u32, said: Said<V>) -> u32
     requires { N < 64 }
-    ensures { Says (4 + N) (says (4 + N) V.in_order answer.old number said) result answer.new }
+    ensures { Says N (says N answer.old number (numbers_of V.in_order said)) result answer.new }
 {
-    if answer.len() < (4 + N) * 8 {
-        return 8;
-    }
-    put_said(answer, said);
-    number
+    c_answer::say(answer, number, &V::numbers_of(said))
 }
 
 // A message under a word, and its count in an answer that is long enough.
-#[tactic(auto, using(crate::proofs::ExportLaws::count_back), unfolding(crate::specs::Export::writes, crate::specs::Export::counted))]
+#[tactic(auto, unfolding(c_answer::specs::Answer::writes, c_answer::specs::Answer::counted))]
 fn write<V: Numbers<N>, const N: usize>(
     exchange: Exchange,
     word: u32,
@@ -104,12 +114,11 @@ fn write<V: Numbers<N>, const N: usize>(
 ) -> u32
     ensures { WriteDoes (writes V.to_fields exchange word values text.now out.old answer.old) result out.new answer.new }
 {
+    // Here and not in `count`: nothing is written where the answer is short.
     if answer.len() < 8 {
-        return 8;
+        return ANSWER_SHORT;
     }
-    let written = write_found(exchange, word, values, text, out);
-    le::put(answer, 0, written.unwrap_or(0));
-    number_of(written)
+    count(answer, write_found(exchange, word, values, text, out))
 }
 
 // The message of an exchange that received bytes begin with.
@@ -118,7 +127,7 @@ pub extern "C" fn adb_sync_read(exchange: u32, received: &[u8], answer: &mut [u8
     ensures { ReadDoes (reads_in exchange received.now answer.old) result answer.new }
 {
     let read = Message::read(Exchange::from_number(exchange), received);
-    say(answer, read_number_of(read), said_of::<Values, 4>(read))
+    say(answer, read_number_of(read), said_of::<Values, 8>(read))
 }
 
 // A message of an exchange, written at the start of out. Numbers that its layout has not are not looked at.
@@ -148,7 +157,7 @@ pub extern "C" fn adb_sync_read_v2(exchange: u32, received: &[u8], answer: &mut 
     ensures { ReadV2Does (reads_v2_in exchange received.now answer.old) result answer.new }
 {
     let read = Message::read(Exchange::from_v2_number(exchange), received);
-    say(answer, read_number_of(read), said_of::<ValuesV2, 12>(read))
+    say(answer, read_number_of(read), said_of::<ValuesV2, 16>(read))
 }
 
 // A message of an exchange of the second stat layout, written at the start of out. `last` is a listing's end's alone.
@@ -223,7 +232,7 @@ fn narrow_said(narrowed: Result<StatV1, NarrowError>) -> Said<Values>
     ensures { result ≡ narrow_said narrowed }
 {
     match narrowed {
-        Ok(stat) => alone(Values::of_fields(Fields::Stat(stat))),
+        Ok(stat) => alone(Values::of_fields(Fields::Stat(Stat::V1(stat)))),
         Err(_) => alone(Values::default()),
     }
 }

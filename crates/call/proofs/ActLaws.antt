@@ -27,7 +27,8 @@ use Rattle.table_dispatch.specs.declared.DispatchOutcome.{DispatchOutcome}
 use Rattle.table_dispatch.specs.declared.DispatchOutcome.TheVariants.{AckWrite, CreditGranted, SlotClosed, DataBuffered, IncomingOpen, CancelQueuedOpen, StrayReady, ChannelFault, Unmatched}
 use Rattle.table.specs.declared.Want.TheVariants.{Local}
 use Rattle.table.specs.Table.{place_of, slot_in}
-use Rattle.table_dispatch.specs.Dispatch.{remote_place, closed_at, close_of, granted, ready_at, grant_of, Dispatched, wrote_by, wrote_at, write_of, route_of, dispatch_of, Dispatches}
+use Rattle.slot.proofs.Wrote.{Wrote}
+use Rattle.table_dispatch.specs.Dispatch.{stored, buffered_at, remote_place, closed_at, close_of, granted, ready_at, grant_of, Dispatched, wrote_by, wrote_at, write_of, route_of, dispatch_of, Dispatches}
 use Rattle.table_dispatch.proofs.RouteLaws.{by-route}
 use Rattle.call.specs.declared.act.ActedOn.{ActedOn}
 use Rattle.connection.specs.Act.{Acted, tabled, pushed_by, acted_by, table_of, act_on}
@@ -36,7 +37,6 @@ use Rattle.call.specs.Promise.{ActsOn}
 use Rattle.call.proofs.FrameLaws.{okay-short, close-short, puts_none, puts_one, one-frame}
 use Rattle.std.specs.Prelude.{Option, Some, None, Result, Ok, Err}
 use Rattle.credit.specs.declared.CreditFault.{CreditFault}
-use Rattle.slot.specs.declared.ChannelFault.TheVariants.{RxOverflow, UnexpectedCommand}
 
 -- ---- what goes to the queue changes no slot
 
@@ -64,11 +64,14 @@ module _ (p : RxPolicy) (n : ℕ) (ss : List ChannelSlot) where
   quiet-granted i s remote (Ok t) e = absurd (true≢false (sym e))
   quiet-granted i s remote (Err f) e = refl
 
-  quiet-wrote : (i : ℕ) (s : ChannelSlot) (remote : RemoteId) (payload rx : List ℕ) (t : ChannelSlot) (a : Result (Option ℕ) Fault) → Quiet (wrote_by p i s remote payload rx t a).step
+  quiet-kept : (i : ℕ) (s t : ChannelSlot) (due : Option ℕ) → Quiet (stored (buffered_at i s due) i t)
+  quiet-kept i s t (Some len) e = absurd (true≢false (sym e))
+  quiet-kept i s t None e = absurd (true≢false (sym e))
+
+  quiet-wrote : (i : ℕ) (s : ChannelSlot) (remote : RemoteId) (payload rx : List ℕ) (r : Wrote) → Quiet (wrote_by p i s remote payload rx r).step
   unfolding wrote_by
-  quiet-wrote i s remote payload rx t (Ok (Some len)) e = absurd (true≢false (sym e))
-  quiet-wrote i s remote payload rx t (Ok None) e = absurd (true≢false (sym e))
-  quiet-wrote i s remote payload rx t (Err why) e = refl
+  quiet-wrote i s remote payload rx (Ok w) e = quiet-kept i s w.slot w.ack e
+  quiet-wrote i s remote payload rx (Err why) e = refl
 
   quiet-route : (c : Command) (a b : ℕ) (payload rx : List ℕ) → Quiet (route_of p n ss c a b payload rx).step
   unfolding close_of write_of wrote_at grant_of ready_at
@@ -78,7 +81,7 @@ module _ (p : RxPolicy) (n : ℕ) (ss : List ChannelSlot) where
       by-route p n ss a b payload rx (λ c d. Quiet d.step) (λ c h e. refl) (λ e. refl)
       (pick Quiet (eqb b 0) (λ t. quiet-closed (remote_place n ss (record { 0 = a })) _) (λ t. quiet-closed i _))
       (pick Q (ltb i n)
-      (λ t. pick Q (is_failed (slot_in ss i).failed) (λ u e. refl) (λ u. quiet-wrote i (slot_in ss i) (record { 0 = a }) payload rx _ _))
+      (λ t. pick Q (is_failed (slot_in ss i).failed) (λ u e. refl) (λ u. quiet-wrote i (slot_in ss i) (record { 0 = a }) payload rx _))
       (λ t e. refl))
       (pick Quiet (ltb i n)
       (λ t. pick Quiet (is_failed (slot_in ss i).failed) (λ u e. refl) (λ u. quiet-granted i (slot_in ss i) (record { 0 = a }) _))

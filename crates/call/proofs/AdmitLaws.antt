@@ -1,6 +1,6 @@
 -- What is so of a state once a call is admitted, and what the refusals ahead of its steps leave. Assumes nothing.
-use mathlib.Core.Path.{◌≡◌, sym, ap, subst, ◌∙◌}
-use mathlib.Core.Bool.{Bool, true, false}
+use mathlib.Core.Path.{◌≡◌, refl, sym, ap, subst, ◌∙◌}
+use mathlib.Core.Bool.{Bool, true, false, cond}
 use mathlib.Core.List.{List}
 use Prim.Native.Nat.{ℕ, ◌+◌, ◌≤◌, ◌<◌}
 use native.Mathlib.Omega.{arith}
@@ -19,11 +19,12 @@ use Rattle.state_whole.specs.Whole.{whole, is_whole, HeaderOk}
 use Rattle.state.proofs.StateLaws.{state-tests, state-fits, header-in, slot-in}
 use Rattle.state_whole.proofs.ValidLaws.{header_ok}
 use Rattle.state_whole.proofs.WholeLaws.{Whole, whole-facts}
+use Rattle.connection.specs.declared.Refusal.{Refusal}
 use Rattle.connection.specs.declared.Refusal.TheVariants.{StoreShort, OutShort, BrokenState}
 use Rattle.connection.specs.Calls.{dropped}
-use Rattle.call.specs.Promise.{agreed_in, admitted, Admits, ActRoom}
+use Rattle.call.specs.Promise.{agreed_in, admitted, admitted_out, AdmitsState, Admits, ActRoom}
 use Rattle.connection.proofs.WholeWork.{drop-whole, Long, long}
-use Rattle.std.specs.Prelude.{Option, Some, None, Result, Ok, Err}
+use Rattle.std.specs.Prelude.{Result, Ok, Err}
 
 -- ---- a whole state's bytes
 
@@ -41,8 +42,8 @@ module _ (b : List ℕ) (e : is_whole b ≡ true) where
 
 -- ---- the refusals ahead of every step
 
-module _ (b : List ℕ) (rx store out : ℕ) where
-  pub admits-not : is_whole b ≡ false → (Err BrokenState) ≡ admitted b rx store out
+module _ (b : List ℕ) (rx store : ℕ) where
+  pub admits-not : is_whole b ≡ false → (Err BrokenState) ≡ admitted b rx store
   unfolding admitted
   admits-not e = sym (cond-false (is_whole b) _ _ e)
 
@@ -50,20 +51,40 @@ module _ (b : List ℕ) (rx store out : ℕ) where
     config-is : (t : Bool) → stores_fit h.negotiated.config rx store ≡ t → stores_fit (agreed_in b).config rx store ≡ t
     config-is t f = ap (λ (x : Header). stores_fit x.negotiated.config rx store) (header-in b ∙ sym i) ∙ f
 
-    pub admits-short : stores_fit h.negotiated.config rx store ≡ false → (Err StoreShort) ≡ admitted b rx store out
+    pub admits-short : stores_fit h.negotiated.config rx store ≡ false → (Err StoreShort) ≡ admitted b rx store
     unfolding admitted
     admits-short f = sym (cond-true (is_whole b) _ _ e ∙ cond-false (stores_fit (agreed_in b).config rx store) _ _ (config-is false f))
 
-    pub admits-out : stores_fit h.negotiated.config rx store ≡ true → out < 56 → (Err OutShort) ≡ admitted b rx store out
+    pub admits-yes : stores_fit h.negotiated.config rx store ≡ true → (Ok h) ≡ admitted b rx store
     unfolding admitted
-    admits-out f o =
-        sym (cond-true (is_whole b) _ _ e ∙ cond-true (stores_fit (agreed_in b).config rx store) _ _ (config-is true f) ∙ cond-true (ltb out 56) _ _ (lt-ltb out 56 o))
-
-    pub admits-yes : stores_fit h.negotiated.config rx store ≡ true → 56 ≤ out → (Ok h) ≡ admitted b rx store out
-    unfolding admitted
-    admits-yes f o =
+    admits-yes f =
         ap Ok (i ∙ sym (header-in b))
-        ∙ sym (cond-true (is_whole b) _ _ e ∙ cond-true (stores_fit (agreed_in b).config rx store) _ _ (config-is true f) ∙ cond-false (ltb out 56) _ _ (le-ltb out 56 o))
+        ∙ sym (cond-true (is_whole b) _ _ e ∙ cond-true (stores_fit (agreed_in b).config rx store) _ _ (config-is true f))
+
+-- an outgoing buffer's length, after the others
+abbrev widened : ℕ → Result Header Refusal → Result Header Refusal
+widened out (Ok h) = cond (ltb out 56) (Err OutShort) (Ok h)
+widened out (Err r) = Err r
+
+widened-in : (whole fit : Bool) (out : ℕ) (h : Header) → widened out (cond whole (cond fit (Ok h) (Err StoreShort)) (Err BrokenState))
+    ≡ cond whole (cond fit (cond (ltb out 56) (Err OutShort) (Ok h)) (Err StoreShort)) (Err BrokenState)
+widened-in true true out h = refl
+widened-in true false out h = refl
+widened-in false fit out h = refl
+
+module _ (b : List ℕ) (rx store out : ℕ) (a : Result Header Refusal) (e : a ≡ admitted b rx store) where
+  widened-is : (x : Result Header Refusal) → a ≡ x → widened out x ≡ admitted_out b rx store out
+  unfolding admitted admitted_out
+  widened-is x f = ap (widened out) (sym f ∙ e) ∙ widened-in (is_whole b) (stores_fit (agreed_in b).config rx store) out (state_of b).header
+
+  pub out-refuses : (r : Refusal) → a ≡ Err r → (Err r) ≡ admitted_out b rx store out
+  out-refuses r f = widened-is (Err r) f
+
+  pub out-short : (h : Header) → a ≡ Ok h → out < 56 → (Err OutShort) ≡ admitted_out b rx store out
+  out-short h f o = sym (cond-true (ltb out 56) _ _ (lt-ltb out 56 o)) ∙ widened-is (Ok h) f
+
+  pub out-yes : (h : Header) → a ≡ Ok h → 56 ≤ out → (Ok h) ≡ admitted_out b rx store out
+  out-yes h f o = sym (cond-false (ltb out 56) _ _ (le-ltb out 56 o)) ∙ widened-is (Ok h) f
 
 -- ---- what an admitted call may ask
 
@@ -86,7 +107,7 @@ act-room h b rx store out payload at g k l p o =
       room = o;
     }
 
-module _ (state rx store : List ℕ) (out : ℕ) (g : Admits state rx store out) where
+module _ (state : List ℕ) (out : ℕ) (g : AdmitsState state out) where
   pub admits-facts : Whole (agreed_in state) (state_of state).header (state_of state).slots (state_of state).queue
   unfolding is_whole
   admits-facts = whole-facts (state_of state) (state-fits state g.bytes) (and-true (is_state state) _ g.is-whole).1
@@ -94,6 +115,10 @@ module _ (state rx store : List ℕ) (out : ℕ) (g : Admits state rx store out)
   -- with nothing pending
   pub admits-dropped : Whole (agreed_in state) (dropped (state_of state).header) (state_of state).slots (state_of state).queue
   admits-dropped = drop-whole (agreed_in state) (state_of state).header (state_of state) admits-facts
+
+module _ {state rx store : List ℕ} {out : ℕ} (g : Admits state rx store out) where
+  pub admits-state : AdmitsState state out
+  admits-state = record { state-fits = g.state-fits; bytes = g.bytes; is-whole = g.is-whole; room = g.room }
 
   pub admits-stores : Long (agreed_in state) (length rx) (length store)
   admits-stores = long (agreed_in state) (length rx) (length store) g.stores

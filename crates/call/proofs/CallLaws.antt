@@ -20,12 +20,12 @@ use Rattle.call.specs.declared.act.ActedOn.{ActedOn}
 use Rattle.connection.specs.Act.{act_on}
 use Rattle.connection.specs.Calls.{Lent, dropped, unless_fault, received_by, received_of, body_of, frame_len, dispatch_by, dispatch_step}
 use Rattle.call.specs.Promise.{lent_of, agreed_in, Leaves, Admits, ActRoom, ActsOn}
-use Rattle.call.proofs.AdmitLaws.{act-room, admits-dropped, admits-stores}
+use Rattle.call.proofs.AdmitLaws.{act-room, admits-state, admits-dropped, admits-stores}
 use Rattle.connection.proofs.Decoding.{PacketRoom}
 use Rattle.call.proofs.LeaveLaws.{did-begun, did-acted, did-stops, stops-leaves}
 use Rattle.connection.proofs.WholeWork.{Long}
 use Rattle.state_whole.proofs.WholeLaws.{Whole}
-use Rattle.std.specs.Prelude.{Option, Some, None, Result, Ok, Err}
+use Rattle.std.specs.Prelude.{Result, Ok, Err}
 
 -- the packet that a call looks at
 pub received_is : (state rx store : List ℕ) (h : Header) → h.negotiated ≡ agreed_in state → (received : List ℕ) (r : Result Packet (Answer × ℕ))
@@ -53,8 +53,8 @@ module _ (state rx store out : List ℕ) (h : Header) (i : h ≡ dropped (state_
       → payload ≡ body_of received p → at + 28 ≤ length out → ActRoom h state rx store out at payload
   call-room received payload p at g k e o =
       let f : Whole h.negotiated h (state_of state).slots (state_of state).queue =
-      subst (λ (x : Header). Whole x.negotiated x (state_of state).slots (state_of state).queue) (sym i) (admits-dropped state rx store (length out) g) in
-      let l : Long h.negotiated (length rx) (length store) = subst (λ (x : Header). Long x.negotiated (length rx) (length store)) (sym i) (admits-stores state rx store (length out) g) in
+      subst (λ (x : Header). Whole x.negotiated x (state_of state).slots (state_of state).queue) (sym i) (admits-dropped state (length out) (admits-state g)) in
+      let l : Long h.negotiated (length rx) (length store) = subst (λ (x : Header). Long x.negotiated (length rx) (length store)) (sym i) (admits-stores g) in
       let b = k.body in
       let s = k.small in
       let m = ap (λ (x : List ℕ). length x) e in

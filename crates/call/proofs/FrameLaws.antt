@@ -6,7 +6,8 @@ use Prim.Native.Nat.{ℕ, ◌+◌, ◌*◌, ◌/◌, ◌%◌, ◌≤◌, ◌<◌
 use native.Mathlib.Omega.{arith}
 use lib.ListN.{length, length-append}
 use Rattle.le.specs.Le.{bytes_of}
-use Rattle.le.proofs.Parts.{put-none}
+use Rattle.le.proofs.Parts.{by-test, put-none}
+use Rattle.std.specs.Bool.{then_some}
 use Rattle.config.specs.declared.negotiated.Negotiated.{Negotiated}
 use Rattle.checksum.specs.declared.Checksum.{Checksum}
 use Rattle.protocol.specs.Packet.{Puts}
@@ -16,11 +17,11 @@ use Rattle.slot.specs.declared.ChannelSlot.{ChannelSlot}
 use Rattle.slot.specs.Slot.{is_ack}
 use Rattle.slot.proofs.Kept.{pick}
 use Rattle.le.specs.Rows.{flat}
-use Rattle.wire.specs.Wire.{okay_bytes, credit_bytes}
+use Rattle.wire.specs.Wire.{okay_bytes, okay_with, credit_bytes}
 use Rattle.wire.proofs.Laws.{okay-length, close-length}
 use Rattle.connection.specs.Calls.{ack_frames, ids_in}
 use Rattle.connection.specs.Frames.{Frame, okay_frame, close_frame, frame_bytes, frames_bytes}
-use Rattle.std.specs.Prelude.{Option, Some, None, Result, Ok, Err}
+use Rattle.std.specs.Prelude.{Option, Some, None}
 
 -- ---- bytes
 
@@ -45,13 +46,15 @@ low-bytes x =
 
 -- ---- frames
 
-pub okay-puts : (n : Negotiated) (ids : ChannelIds) (len x : ℕ) (delayed : Bool) (k : Checksum) (d out : List ℕ) (at r : ℕ)
-    → x ≡ len % 0x1_0000_0000 → delayed ≡ n.delayed_ack → k ≡ policy_for n.protocol_version
-    → Puts d at (okay_bytes ids delayed x k) r out → Puts d at (frame_bytes n (okay_frame ids len)) r out
+pub okay-puts : (n : Negotiated) (ids : ChannelIds) (len x : ℕ) (credit : Option ℕ) (k : Checksum) (d out : List ℕ) (at r : ℕ)
+    → x ≡ len % 0x1_0000_0000 → credit ≡ then_some n.delayed_ack x → k ≡ policy_for n.protocol_version
+    → Puts d at (okay_with ids credit k) r out → Puts d at (frame_bytes n (okay_frame ids len)) r out
 unfolding frame_bytes okay_bytes credit_bytes
-okay-puts n ids len x delayed k d out at r e f g p =
+okay-puts n ids len x credit k d out at r e f g p =
     let z : bytes_of 4 x ≡ bytes_of 4 len = ap (bytes_of 4) e ∙ low-bytes len in
-    rw (f, g, z) at p
+    by-test n.delayed_ack
+    (λ t. let c : credit ≡ Some x = rw t at f in rw (t, sym g, sym z) (rw c at p))
+    (λ t. let c : credit ≡ None = rw t at f in rw (t, sym g) (rw c at p))
 
 -- an OKAY is of at most 28 bytes, a CLSE of 24
 pub okay-short : (n : Negotiated) (ids : ChannelIds) (len : ℕ) → length (frame_bytes n (okay_frame ids len)) ≤ 28

@@ -33,10 +33,10 @@ use Rattle.call.specs.declared.act.ActedOn.{ActedOn}
 use Rattle.connection.specs.Act.{Acted}
 use Rattle.connection.specs.Calls.{dropped, Lent, Outcome, written_by, looked, untouched, Work, begun, then, then_acted, ends, checked, checked_out}
 use Rattle.connection.specs.Frames.{Frame, frames_bytes}
-use Rattle.call.specs.Promise.{Begins, lent_of, agreed_in, Leaves, admitted, Admits, ActsOn}
-use Rattle.call.proofs.AdmitLaws.{whole_long}
+use Rattle.call.specs.Promise.{Begins, BeginsState, lent_of, agreed_in, Leaves, admitted_out, Admits, ActsOn}
+use Rattle.call.proofs.AdmitLaws.{whole_long, admits-state}
 use Rattle.call.proofs.FrameLaws.{puts_none, frames-append}
-use Rattle.std.specs.Prelude.{Option, Some, None, Result, Ok, Err}
+use Rattle.std.specs.Prelude.{Result, Ok, Err}
 
 -- changes after others
 pub put-append : (b : List ℕ) (xs ys : List Change) → put_all b (xs ++ ys) ≡ put_all (put_all b xs) ys
@@ -242,8 +242,8 @@ module _ (state rx store : List ℕ) (out : ℕ) where
     narrow : is_whole state ≡ true → fit ≡ true → ltb out 56 ≡ true → Tells (Err OutShort)
     goes : is_whole state ≡ true → fit ≡ true → ltb out 56 ≡ false → Tells (Ok (state_of state).header)
 
-  tells : Tells (admitted state (length rx) (length store) out)
-  unfolding admitted
+  tells : Tells (admitted_out state (length rx) (length store) out)
+  unfolding admitted_out
   tells = pick Tells (is_whole state) (λ w. pick Tells fit (λ f. pick Tells (ltb out 56) (λ o. narrow w f o) (λ o. goes w f o)) (λ f. short w f)) (λ w. broken w)
 
   refused-by : (a : Result Header Refusal) (r : Refusal) (o : Outcome) → Tells a → a ≡ Err r → checked_out (is_whole state) lent out o ≡ untouched lent r
@@ -255,7 +255,7 @@ module _ (state rx store : List ℕ) (out : ℕ) where
   refused-by a r o (goes w f n) e = absurd (true≢false (ap is_yes e))
 
   -- refused: nothing changes
-  pub refused-leaves : (n : Negotiated) (x : Refusal) (o : Outcome) (outs buf : List ℕ) (a : Result Header Refusal) (r : Reply) → a ≡ admitted state (length rx) (length store) out → a ≡ Err x
+  pub refused-leaves : (n : Negotiated) (x : Refusal) (o : Outcome) (outs buf : List ℕ) (a : Result Header Refusal) (r : Reply) → a ≡ admitted_out state (length rx) (length store) out → a ≡ Err x
       → r ≡ record { answer = Refused x; used = 0; written = 0 } → Leaves n (checked_out (is_whole state) lent out o) 0 state outs buf r state rx store outs buf
   refused-leaves n x o outs buf a r e f g =
       subst (λ (y : Outcome). Leaves n y 0 state outs buf r state rx store outs buf) (sym (refused-by _ x o tells (sym e ∙ f))) (untouched-leaves n lent x state outs buf r g)
@@ -282,7 +282,7 @@ module _ (state rx store : List ℕ) (out : ℕ) where
         checked-is = λ o. cond-true (is_whole state) _ _ w ∙ cond-true fit _ _ f ∙ cond-false (ltb out 56) _ _ n;
       }
 
-  pub admitted-goes : (h : Header) (a : Result Header Refusal) → a ≡ admitted state (length rx) (length store) out → a ≡ Ok h → Goes h
+  pub admitted-goes : (h : Header) (a : Result Header Refusal) → a ≡ admitted_out state (length rx) (length store) out → a ≡ Ok h → Goes h
   admitted-goes h a e f = goes_by _ h tells (sym e ∙ f)
 
   -- and what a step is then asked
@@ -290,8 +290,11 @@ module _ (state rx store : List ℕ) (out : ℕ) where
   goes-admits h g y = record { state-fits = whole_long state g.is-whole; bytes = y; is-whole = g.is-whole; stores = g.stores; room = g.room }
 
   -- with what is pending dropped
-  pub begins-is : (h k : Header) (a : Result Header Refusal) → a ≡ admitted state (length rx) (length store) out → a ≡ Ok h → Bytes state → k ≡ dropped h → Begins state rx store out k
+  pub begins-is : (h k : Header) (a : Result Header Refusal) → a ≡ admitted_out state (length rx) (length store) out → a ≡ Ok h → Bytes state → k ≡ dropped h → Begins state rx store out k
   begins-is h k a e f y i = let g = admitted-goes h a e f in (goes-admits h g y, i ∙ ap dropped g.header)
+
+  pub begins-state : (h : Header) → Begins state rx store out h → BeginsState state out h
+  begins-state h g = (admits-state g.0, g.1)
 
   -- the step's promise is the call's
   pub goes-leaves : (n : Negotiated) (h : Header) (o : Outcome) (outs buf : List ℕ) (r : Reply) (state' rx' store' out' buf' : List ℕ) → Goes h

@@ -22,10 +22,10 @@ use Rattle.table.specs.declared.ChannelId.{ChannelId}
 use Rattle.table.specs.declared.Want.TheVariants.{Local}
 use Rattle.table.specs.Table.{there_in, wanted_by, slot_in}
 use Rattle.connection.specs.Calls.{Lent, dropped, is_there, slot_for}
-use Rattle.call.specs.Promise.{lent_of, agreed_in, found_in, Admits}
+use Rattle.call.specs.Promise.{lent_of, agreed_in, found_in, AdmitsState}
 use Rattle.call.proofs.AdmitLaws.{admits-facts}
 use Rattle.connection.proofs.WholeWork.{there-live}
-use Rattle.std.specs.Prelude.{Option, Some, None, Result, Ok, Err}
+use Rattle.std.specs.Prelude.{Option, Some, None}
 
 -- a place that is there is one of n
 pub there-below : (n : ℕ) (ss : List ChannelSlot) (ch : ChannelId) → there_in n ss ch ≡ true → ch.slot < n
@@ -91,9 +91,9 @@ module _ (state rx store : List ℕ) (h : Header) (i : h ≡ dropped (state_of s
       unfolding slot_for found_in
       found-slot = ap slot_of (sym f ∙ e ∙ cond-true (there_in h.negotiated.config.channels (state_of state).slots ch) _ _ (there-is ch ∙ found-there))
 
-  module _ (out : ℕ) (g : Admits state rx store out) where
+  module _ (out : ℕ) (g : AdmitsState state out) where
     pub limits : Within h.negotiated.config
-    limits = subst (λ (x : Header). Within x.negotiated.config) (sym i) (admits-facts state rx store out g).limits.within
+    limits = subst (λ (x : Header). Within x.negotiated.config) (sym i) (admits-facts state out g).limits.within
 
     pub few : h.negotiated.config.channels ≤ 64
     few = limits.most-channels
@@ -114,4 +114,4 @@ module _ (state rx store : List ℕ) (h : Header) (i : h ≡ dropped (state_of s
       slot_is = sym (slot-in state ch.slot empty_slot place-fits)
 
       pub lives : Live (agreed_in state) ch.slot (slot_for lent ch)
-      lives = there-live lent (admits-facts state rx store out g) ch e
+      lives = there-live lent (admits-facts state out g) ch e

@@ -9,13 +9,14 @@ use Rattle.protocol.specs.declared.packet.Packet.{Packet}
 use Rattle.slot.specs.declared.ChannelSlot.{ChannelSlot}
 use Rattle.state.specs.declared.Header.{Header}
 use Rattle.state.specs.Change.{put_all}
-use Rattle.state.specs.State.{state_len, state_of}
+use Rattle.state.specs.State.{state_len, state_of, put_header}
 use Rattle.state_whole.specs.Whole.{is_whole}
 use Rattle.table.specs.declared.ChannelId.{ChannelId}
 use Rattle.table.specs.Table.{there_in, slot_in}
 use Rattle.table_dispatch.specs.Dispatch.{Sound}
 use Rattle.call.specs.declared.Reply.{Reply}
 use Rattle.call.specs.declared.act.ActedOn.{ActedOn}
+use Rattle.connection.specs.declared.Answer.{Answer}
 use Rattle.connection.specs.declared.Refusal.TheVariants.{StoreShort, OutShort, BrokenState}
 use Rattle.connection.specs.Act.{Acted, act_on}
 use Rattle.connection.specs.Calls.{dropped, is_there, slot_for, Lent, Outcome, written_by}
@@ -45,14 +46,26 @@ pub record Leaves (n : Negotiated) (o : Outcome) (at : ℕ) (state out buf : Lis
   pub buf-is : buf' ≡ put buf 0 o.handed
   pub buf-fits : length o.handed ≤ length buf
 
--- the refusals ahead of every step: 13, 8, 9 for 56 bytes; else the header. The stores' and the outgoing buffer's lengths
-unfoldable pub admitted : List ℕ → ℕ → ℕ → ℕ → Result Header Refusal
-admitted state rx store out =
+-- the refusals ahead of every step: 13, 8; else the header. The stores' lengths
+unfoldable pub admitted : List ℕ → ℕ → ℕ → Result Header Refusal
+admitted state rx store =
+    cond (is_whole state) (cond (stores_fit (agreed_in state).config rx store) (Ok (state_of state).header) (Err StoreShort)) (Err BrokenState)
+
+-- and 9 for 56 bytes, where a call is lent an outgoing buffer, of this length
+unfoldable pub admitted_out : List ℕ → ℕ → ℕ → ℕ → Result Header Refusal
+admitted_out state rx store out =
     cond (is_whole state)
     (cond (stores_fit (agreed_in state).config rx store) (cond (ltb out 56) (Err OutShort) (Ok (state_of state).header)) (Err StoreShort))
     (Err BrokenState)
 
--- what is so once a call is admitted
+-- what is so of the state once a call is admitted, whatever the stores
+pub record AdmitsState (state : List ℕ) (out : ℕ) : Type 0 where
+  pub state-fits : state_len ≤ length state
+  pub bytes : Bytes state
+  pub is-whole : is_whole state ≡ true
+  pub room : 56 ≤ out
+
+-- and of the stores
 pub record Admits (state rx store : List ℕ) (out : ℕ) : Type 0 where
   pub state-fits : state_len ≤ length state
   pub bytes : Bytes state
@@ -63,6 +76,10 @@ pub record Admits (state rx store : List ℕ) (out : ℕ) : Type 0 where
 -- a step's start: the call is admitted, and nothing is pending in the header that it stores
 abbrev pub Begins : List ℕ → List ℕ → List ℕ → ℕ → Header → Type 0
 Begins state rx store out h = Admits state rx store out × (h ≡ dropped (state_of state).header)
+
+-- the start of a step that looks at no store
+abbrev pub BeginsState : List ℕ → ℕ → Header → Type 0
+BeginsState state out h = AdmitsState state out × (h ≡ dropped (state_of state).header)
 
 -- and the channel is in the table, with this slot
 abbrev pub BeginsOn : List ℕ → List ℕ → List ℕ → ℕ → Header → ChannelId → ChannelSlot → Type 0
@@ -83,6 +100,10 @@ pub record ActRoom (h : Header) (state rx store out : List ℕ) (at : ℕ) (payl
   pub table : Sound state rx h.negotiated.config.channels (policy_of h.negotiated).rx_cap
   pub queue : PushRoom h (length state) (length store) (length payload)
   pub room : at + 28 ≤ length out
+
+-- what a call's end leaves: the header is stored, and the answer given
+abbrev pub Ended : Header → Answer → ℕ → ℕ → List ℕ → Reply → List ℕ → Type 0
+Ended h answer used written state r state' = (state' ≡ put_header state h) × (r ≡ record { answer = answer; used = used; written = written })
 
 -- what a packet acted on leaves
 pub record ActsOn (n : Negotiated) (a : Acted) (at : ℕ) (state out : List ℕ) (r : ActedOn) (state' rx store out' : List ℕ) : Type 0 where

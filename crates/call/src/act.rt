@@ -18,7 +18,8 @@ pub struct ActedOn {
     pub end: usize,
 }
 
-// Dispatches a packet, answers it by a frame at place `at` where one is due, and keeps an OPEN.
+// Dispatches a packet, answers it by a frame at place `at` where one is due, and keeps an OPEN. Dispatch and write end behind it
+// in the same two lines: a function for both would take these parameters and the answer, and open stores another header.
 pub fn act_on(
     state: &mut [u8],
     rx: &mut [u8],
@@ -34,8 +35,8 @@ pub fn act_on(
         payload.now result state.new rx.new store.new out.new }
 {
     let n = h.negotiated;
-    let config = n.config;
-    let outcome = dispatch(state, rx, config.channels, n.rx_policy(), packet, payload);
+    // One of nine outcomes, matched at once: a fault too goes on with the header and the place.
+    let outcome = dispatch(state, rx, n.config.channels, n.rx_policy(), packet, payload);
     match outcome {
         DispatchOutcome::AckWrite(_, ids, len) => {
             let end = put_okay(out, at, n, ids, len);
@@ -46,8 +47,7 @@ pub fn act_on(
             done(h, end)
         }
         DispatchOutcome::IncomingOpen(remote, credit) => {
-            let pushed = push_back(state, store, h, remote, credit, payload);
-            match pushed {
+            match push_back(state, store, h, remote, credit, payload) {
                 Some(more) => done(more, at),
                 None => {
                     let local = LocalId(0);

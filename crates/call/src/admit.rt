@@ -3,7 +3,7 @@ ghost use Rattle.std.specs.Prelude.{◌≡◌, ◌≤◌, length};
 ghost use Rattle.state.specs.State.{state_len, state_of};
 ghost use Rattle.connection.specs.declared.Answer.TheVariants.{Refused};
 ghost use Rattle.connection.specs.Calls.{dropped};
-ghost use Rattle.call.specs.Promise.{admitted, found_in};
+ghost use Rattle.call.specs.Promise.{admitted, admitted_out, found_in};
 
 use crate::Reply;
 use connection::{Answer, Refusal};
@@ -12,22 +12,29 @@ use state::{Header, Pending, PendingOpen, header_of, slot_at};
 use state_whole::is_whole;
 use table::{ChannelId, has_local};
 
-// Refusals 13, 8, and 9 for 56 bytes, by the stores' and the outgoing buffer's lengths.
-pub fn admit(state: &[u8], rx: usize, store: usize, out: usize) -> Result<Header, Refusal>
-    ensures { result ≡ admitted state.now rx store out }
+// Refusals 13 and 8, by the stores' lengths.
+pub fn admit(state: &[u8], rx: usize, store: usize) -> Result<Header, Refusal>
+    ensures { result ≡ admitted state.now rx store }
 {
     if is_whole(state) {
         let h = header_of(state);
-        let config = h.negotiated.config;
-        if config.stores_fit(rx, store) {
-            if out < 56 {
-                return Err(Refusal::OutShort);
-            }
+        if h.negotiated.config.stores_fit(rx, store) {
             return Ok(h);
         }
         return Err(Refusal::StoreShort);
     }
     Err(Refusal::BrokenState)
+}
+
+// And 9 for 56 bytes, by the outgoing buffer's length, where a call is lent one.
+pub fn admit_out(state: &[u8], rx: usize, store: usize, out: usize) -> Result<Header, Refusal>
+    ensures { result ≡ admitted_out state.now rx store out }
+{
+    let h = admit(state, rx, store)?;
+    if out < 56 {
+        return Err(Refusal::OutShort);
+    }
+    Ok(h)
 }
 
 // Nothing is pending any more: neither an open of ours nor an offer.
@@ -58,7 +65,7 @@ pub fn get(state: &[u8], n: usize, ch: ChannelId) -> Option<ChannelSlot>
     None
 }
 
-// A refusal that changes nothing.
+// A refusal that changes nothing. The calls match on `admit`: `?` would need a Reply as the error, which has its own used and written.
 pub fn refused(refusal: Refusal) -> Reply
     ensures { result ≡ record { answer = Refused refusal; used = 0; written = 0 } }
 {

@@ -1,4 +1,6 @@
-// Frames of a connection: their mode and check are what was negotiated.
+// Frames of a connection: their mode and check are what was negotiated. Beside wire's send_*, which take these values one by one, since
+// here the promises are frames as the calls' definitions have them. The buffer and the place in it stay two parameters: a struct of
+// them would hold a `&mut`, and each function would promise that it is the same memory.
 ghost use Rattle.std.specs.Prelude.{◌≡◌, true, ◌+◌, ◌≤◌, ◌%◌, length};
 ghost use Rattle.config.specs.Config.{Within};
 ghost use Rattle.config.specs.Negotiated.{offered_credit};
@@ -9,19 +11,17 @@ ghost use Rattle.connection.specs.Frames.{okay_frame, close_frame, open_frame, w
 ghost use Rattle.protocol.specs.Message.{message_size};
 
 use config::negotiated::Negotiated;
-use slot::ChannelSlot;
 use slot::ids::{ChannelIds, LocalId};
+use slot::{ChannelSlot, Settled};
 use wire::{send_close, send_okay, send_open, send_write};
 
 pub fn ids_in(s: ChannelSlot) -> ChannelIds
     ensures { result ≡ ids_in s }
 {
-    let local = s.local;
-    let remote = s.remote;
-    ChannelIds { local, remote }
+    s.ids_with(s.remote)
 }
 
-// The low 32 bits of a length.
+// The low 32 bits of a length, said by %: `n as u32` alone would have to fit.
 fn word(n: usize) -> u32
     ensures { result ≡ n % 0x1_0000_0000 }
 {
@@ -33,9 +33,11 @@ pub fn put_okay(out: &mut [u8], at: usize, n: Negotiated, ids: ChannelIds, len: 
     requires { at + 28 ≤ length out.old }
     ensures { Puts out.old at (frame_bytes n (okay_frame ids len)) result out.new }
 {
-    send_okay(out, at, ids, n.delayed_ack, word(len), n.checksum())
+    let credit = n.delayed_ack.then_some(word(len));
+    send_okay(out, at, ids, credit, n.checksum())
 }
 
+#[tactic(auto, unfolding(connection::specs::Frames::frame_bytes))]
 pub fn put_close(out: &mut [u8], at: usize, n: Negotiated, ids: ChannelIds) -> usize
     requires { at + message_size ≤ length out.old }
     ensures { Puts out.old at (frame_bytes n (close_frame ids)) result out.new }
@@ -44,6 +46,7 @@ pub fn put_close(out: &mut [u8], at: usize, n: Negotiated, ids: ChannelIds) -> u
 }
 
 // An OPEN, with the credit that we give the device.
+#[tactic(auto, unfolding(connection::specs::Frames::frame_bytes))]
 pub fn put_open(
     out: &mut [u8],
     at: usize,
@@ -65,23 +68,19 @@ pub fn put_open(
 }
 
 // The OKAY of an acknowledgement that is due. Where none is, nothing is written.
-pub fn put_ack(
-    out: &mut [u8],
-    at: usize,
-    n: Negotiated,
-    s: ChannelSlot,
-    ack: Option<usize>,
-) -> usize
-    requires { is_ack ack ≡ true → at + 28 ≤ length out.old }
-    ensures { Puts out.old at (frames_bytes n (ack_frames s ack)) result out.new }
+pub fn put_ack(out: &mut [u8], at: usize, n: Negotiated, settled: Settled) -> usize
+    requires { is_ack settled.ack ≡ true → at + 28 ≤ length out.old }
+    ensures { Puts out.old at (frames_bytes n (ack_frames settled.slot settled.ack)) result
+        out.new }
 {
-    match ack {
+    match settled.ack {
         None => at,
-        Some(len) => put_okay(out, at, n, ids_in(s), len),
+        Some(len) => put_okay(out, at, n, ids_in(settled.slot), len),
     }
 }
 
 // A WRTE.
+#[tactic(auto, unfolding(connection::specs::Frames::frame_bytes))]
 pub fn put_write(out: &mut [u8], at: usize, n: Negotiated, ids: ChannelIds, bytes: &[u8]) -> usize
     requires { (at + message_size + length bytes.now ≤ length out.old) × (length bytes.now ≤ 1_048_576) }
     ensures { Puts out.old at (frame_bytes n (write_frame ids bytes.now)) result out.new }

@@ -29,7 +29,7 @@ use Rattle.connection.specs.declared.Refusal.TheVariants.{NoFreeChannels}
 use Rattle.connection.specs.Calls.{Lent, Outcome, dropped, offer_in, is_offered, not_offered, reject_on, accept_on, accept_step}
 use Rattle.connection.specs.Frames.{okay_frame, frame_bytes}
 use Rattle.call.specs.declared.Reply.{Reply}
-use Rattle.call.specs.Promise.{lent_of, agreed_in, Leaves, Admits}
+use Rattle.call.specs.Promise.{lent_of, agreed_in, Leaves, AdmitsState}
 use Rattle.call.proofs.AdmitLaws.{admits-facts}
 use Rattle.call.proofs.CallLaws.{allocated-dropped}
 use Rattle.call.proofs.FrameLaws.{okay-short, one-frame, puts_one}
@@ -37,7 +37,7 @@ use Rattle.call.proofs.LeaveLaws.{did-begun, did_then, did-stops}
 use Rattle.call_accept.specs.Promise.{AcceptRoom}
 use Rattle.call_reject.proofs.OfferLaws.{offered-is, offer-is, none-leaves}
 use Rattle.table.specs.declared.NoFreeChannels.{NoFreeChannels as NoFree}
-use Rattle.std.specs.Prelude.{Option, Some, None, Result, Ok, Err}
+use Rattle.std.specs.Prelude.{Result, Ok, Err}
 
 -- a place that was allocated is one of the channels'
 abbrev PlaceBelow : ℕ → Result ChannelId NoFree → Type 0
@@ -92,19 +92,19 @@ module _ (state out : List ℕ) (at : ℕ) (h : Header) (room : AcceptRoom state
 -- ---- the step
 
 -- what `accept_on` asks, of a header with the state's negotiated values
-pub step_room : (state rx store out : List ℕ) (h : Header) → h ≡ (state_of state).header → Admits state rx store (length out) → (later : Header) → later.negotiated ≡ h.negotiated
+pub step_room : (state rx store out : List ℕ) (h : Header) → h ≡ (state_of state).header → AdmitsState state (length out) → (later : Header) → later.negotiated ≡ h.negotiated
     → AcceptRoom state out 0 later
 step_room state rx store out h i g later e =
     let k = g.room in
     let n : later.negotiated ≡ agreed_in state = e ∙ ap (λ (x : Header). x.negotiated) i in
     record {
       agreed = n;
-      within = subst (λ (x : Negotiated). Within x.config) (sym n) (admits-facts state rx store (length out) g).limits.within;
+      within = subst (λ (x : Negotiated). Within x.config) (sym n) (admits-facts state (length out) g).limits.within;
       state-long = g.state-fits;
       room = omega arith;
     }
 
-module _ (state rx store out : List ℕ) (h : Header) (i : h ≡ (state_of state).header) (g : Admits state rx store (length out)) (later : Header) (m : later ≡ dropped h) where
+module _ (state rx store out : List ℕ) (h : Header) (i : h ≡ (state_of state).header) (g : AdmitsState state (length out)) (later : Header) (m : later ≡ dropped h) where
   abbrev lent : Lent
   lent = lent_of state rx store
 

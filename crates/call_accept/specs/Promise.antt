@@ -22,10 +22,10 @@ abbrev pub AcceptOnLeaves : List ℕ → List ℕ → ℕ → Header → RemoteI
 AcceptOnLeaves state out at h remote credit r state' out' =
     ((rx store : List ℕ) → Leaves h.negotiated (accept_on (lent_of state rx store) h remote credit (allocated h (state_of state).slots)) at state out [] r state' rx store out' [])
 
--- what `accept_step` promises
-abbrev pub AcceptStepLeaves : List ℕ → List ℕ → List ℕ → List ℕ → Reply → List ℕ → List ℕ → Type 0
-AcceptStepLeaves state rx store out r state' out' =
-    Leaves (agreed_in state) (accept_step (lent_of state rx store)) 0 state out [] r state' rx store out' []
+-- what `accept_step` promises, whatever the stores
+abbrev pub AcceptStepLeaves : List ℕ → List ℕ → Reply → List ℕ → List ℕ → Type 0
+AcceptStepLeaves state out r state' out' =
+    ((rx store : List ℕ) → Leaves (agreed_in state) (accept_step (lent_of state rx store)) 0 state out [] r state' rx store out' [])
 
 -- what `accept` promises
 abbrev pub AcceptLeaves : List ℕ → List ℕ → List ℕ → List ℕ → Reply → List ℕ → List ℕ → Type 0

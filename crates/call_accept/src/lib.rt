@@ -1,20 +1,21 @@
-// Taking the channel that the device's open asks for that is offered.
+// Taking the channel that the offered open asks for.
+// `as usize` widens a u32: std has no From for it, as usize may be narrower elsewhere.
 #![tactic(auto)]
 
 ghost use Rattle.std.specs.Prelude.{◌≡◌, length};
 ghost use Rattle.state.specs.State.{state_of};
-ghost use Rattle.call.specs.Promise.{Admits};
+ghost use Rattle.call.specs.Promise.{AdmitsState};
 ghost use Rattle.call_accept.specs.Promise.{AcceptRoom, AcceptOnLeaves, AcceptStepLeaves, AcceptLeaves};
 
 use call::Reply;
-use call::admit::{admit, drop_pending, refused};
+use call::admit::{admit_out, drop_pending, refused};
+use call::ends::ends_with;
 use call::frames::put_okay;
-use call::store::store_slot;
-use call_reject::{none_offered, reject_on};
+use call_reject::{none_offered, offered, reject_on};
 use connection::{Answer, Refusal};
 use slot::ChannelSlot;
 use slot::ids::{ChannelIds, RemoteId};
-use state::{Header, queued_at};
+use state::Header;
 use table::{NoFreeChannels, allocate, numbered};
 
 // An open of the device's is taken, by its number and credit alone: the lowest empty slot is its channel's, and an OKAY at place
@@ -31,8 +32,7 @@ pub fn accept_on(
     ensures { AcceptOnLeaves state.old out.old at h remote credit result state.new out.new }
 {
     let n = h.negotiated;
-    let found = allocate(state, h);
-    match found {
+    match allocate(state, h) {
         Err(NoFreeChannels) => {
             let full = Answer::Refused(Refusal::NoFreeChannels);
             reject_on(state, out, at, h, remote, full)
@@ -42,30 +42,20 @@ pub fn accept_on(
             let ids = ChannelIds { local, remote };
             let end = put_okay(out, at, n, ids, n.advertised_credit() as usize);
             let taken = ChannelSlot::accepted(ids, credit, n.rx_policy());
-            store_slot(state, ch.slot, taken, numbered(h));
-            Reply {
-                answer: Answer::Opened(ch),
-                used: 0,
-                written: end,
-            }
+            ends_with(state, ch, taken, numbered(h), Answer::Opened(ch), 0, end)
         }
     }
 }
 
-fn accept_step(state: &mut [u8], rx: &[u8], store: &[u8], out: &mut [u8], h: Header) -> Reply
-    requires { Admits state.old rx.now store.now (length out.old) × (h ≡ (state_of state.old).header) }
-    ensures { AcceptStepLeaves state.old rx.now store.now out.old result
-        state.new out.new }
+fn accept_step(state: &mut [u8], out: &mut [u8], h: Header) -> Reply
+    requires { AdmitsState state.old (length out.old) × (h ≡ (state_of state.old).header) }
+    ensures { AcceptStepLeaves state.old out.old result state.new out.new }
 {
-    let pending = h.pending;
-    let what = pending.what;
     let later = drop_pending(h);
-    if what.is_offer() {
-        let q = queued_at(state, h.queued);
-        let remote = q.remote;
-        return accept_on(state, out, 0, later, remote, q.credit);
+    match offered(state, h) {
+        Some(q) => accept_on(state, out, 0, later, q.remote, q.credit),
+        None => none_offered(state, later),
     }
-    none_offered(state, later)
 }
 
 // The device is told by an OKAY, which carries our opening credit where acknowledgements are delayed.
@@ -73,9 +63,8 @@ pub fn accept(state: &mut [u8], rx: &[u8], store: &[u8], out: &mut [u8]) -> Repl
     ensures { AcceptLeaves state.old rx.now store.now out.old result
         state.new out.new }
 {
-    let admitted = admit(state, rx.len(), store.len(), out.len());
-    match admitted {
+    match admit_out(state, rx.len(), store.len(), out.len()) {
         Err(refusal) => refused(refusal),
-        Ok(h) => accept_step(state, rx, store, out, h),
+        Ok(h) => accept_step(state, out, h),
     }
 }

@@ -20,11 +20,11 @@ use Rattle.connection.specs.declared.Refusal.TheVariants.{ChannelClosed}
 use Rattle.call.specs.declared.Reply.{Reply}
 use Rattle.connection.specs.Calls.{Lent, Outcome, dropped, ids_in, is_there, slot_for, close_step}
 use Rattle.connection.specs.Frames.{close_frame, frame_bytes, frames_bytes}
-use Rattle.call.specs.Promise.{lent_of, agreed_in, found_in, Leaves, Admits}
+use Rattle.call.specs.Promise.{lent_of, agreed_in, found_in, Leaves, AdmitsState}
 use Rattle.call.proofs.FrameLaws.{close-short, one-frame, puts_one}
 use Rattle.call.proofs.LeaveLaws.{did-begun, did_then, did-stops, stops-leaves}
 use Rattle.call.proofs.ThereLaws.{found_none, found-there, found-slot, place-fits, lives}
-use Rattle.std.specs.Prelude.{Option, Some, None, Result, Ok, Err}
+use Rattle.std.specs.Prelude.{Option, Some, None}
 
 module _ (state rx store out : List ℕ) (h : Header) (i : h ≡ dropped (state_of state).header) (ch : ChannelId) (found : Option ChannelSlot)
     (e : found ≡ found_in h.negotiated.config.channels (state_of state).slots ch) where
@@ -39,7 +39,7 @@ module _ (state rx store out : List ℕ) (h : Header) (i : h ≡ dropped (state_
       stops-leaves state rx store h i out [] _ (Refused ChannelClosed) 0 r state'
       (cond-false (is_there lent ch && (slot_for lent ch).has_remote) _ _ (sym (and-stops (is_there lent ch) _ (found_none state rx store h i ch found e f)))) s q
 
-  module _ (g : Admits state rx store (length out)) (s : ChannelSlot) (f : found ≡ (Some s)) where
+  module _ (g : AdmitsState state (length out)) (s : ChannelSlot) (f : found ≡ (Some s)) where
     there : is_there lent ch ≡ true
     there = found-there state rx store h i ch found e s f
 

@@ -2,48 +2,28 @@
 #![tactic(auto)]
 
 ghost use Rattle.std.specs.Prelude.{length};
-ghost use Rattle.call.specs.Promise.{Begins};
+ghost use Rattle.call.specs.Promise.{BeginsState};
 ghost use Rattle.call_close.specs.Promise.{CloseLeaves, CloseStepLeaves};
 
 use call::Reply;
-use call::admit::{admit, drop_pending, get, refused};
+use call::admit::{admit_out, drop_pending, get, refused};
+use call::ends::{ends_with, not_there};
 use call::frames::{ids_in, put_close};
-use call::store::store_slot;
-use connection::{Answer, Refusal};
-use slot::ChannelSlot;
-use state::{Header, put_header};
+use connection::Answer;
+use state::Header;
 use table::ChannelId;
 
-fn close_step(
-    state: &mut [u8],
-    rx: &[u8],
-    store: &[u8],
-    ch: ChannelId,
-    out: &mut [u8],
-    h: Header,
-) -> Reply
-    requires { Begins state.old rx.now store.now (length out.old) h }
-    ensures { CloseStepLeaves state.old rx.now store.now ch out.old result
-        state.new out.new }
+fn close_step(state: &mut [u8], ch: ChannelId, out: &mut [u8], h: Header) -> Reply
+    requires { BeginsState state.old (length out.old) h }
+    ensures { CloseStepLeaves state.old ch out.old result state.new out.new }
 {
-    let n = h.negotiated;
-    let config = n.config;
-    let found = get(state, config.channels, ch);
-    match found {
+    match get(state, h.negotiated.config.channels, ch) {
         Some(s) => {
-            let end = put_close(out, 0, n, ids_in(s));
+            let end = put_close(out, 0, h.negotiated, ids_in(s));
             let gone = s.emptied();
-            store_slot(state, ch.slot, gone, h);
-            Reply {
-                answer: Answer::Done,
-                used: 0,
-                written: end,
-            }
+            ends_with(state, ch, gone, h, Answer::Done, 0, end)
         }
-        None => {
-            put_header(state, h);
-            refused(Refusal::ChannelClosed)
-        }
+        None => not_there(state, h),
     }
 }
 
@@ -52,9 +32,8 @@ pub fn close(state: &mut [u8], rx: &[u8], store: &[u8], ch: ChannelId, out: &mut
     ensures { CloseLeaves state.old rx.now store.now ch out.old result
         state.new out.new }
 {
-    let admitted = admit(state, rx.len(), store.len(), out.len());
-    match admitted {
+    match admit_out(state, rx.len(), store.len(), out.len()) {
         Err(refusal) => refused(refusal),
-        Ok(h) => close_step(state, rx, store, ch, out, drop_pending(h)),
+        Ok(h) => close_step(state, ch, out, drop_pending(h)),
     }
 }

@@ -7,11 +7,12 @@ ghost use Rattle.call_dispatch.specs.Promise.{DispatchLeaves, DispatchStepLeaves
 
 use call::Reply;
 use call::act::act_on;
-use call::admit::{admit, drop_pending, refused};
+use call::admit::{admit_out, drop_pending, refused};
+use call::ends::ends;
 use call::recv::{recv_pkt, unless_fault};
 use connection::Answer;
 use protocol::packet::Packet;
-use state::{Header, put_header};
+use state::Header;
 
 fn dispatch_step(
     state: &mut [u8],
@@ -25,30 +26,14 @@ fn dispatch_step(
     ensures { DispatchStepLeaves state.old rx.old store.old received.now
         out.old result state.new rx.new store.new out.new }
 {
-    let n = h.negotiated;
-    let config = n.config;
-    let found = recv_pkt(received, config.max_payload);
-    match found {
-        Err((answer, used)) => {
-            put_header(state, h);
-            Reply {
-                answer,
-                used,
-                written: 0,
-            }
-        }
+    match recv_pkt(received, h.negotiated.config.max_payload) {
+        Err((answer, used)) => ends(state, h, answer, used, 0),
         Ok(packet) => {
-            let payload = Packet::payload(received, packet.data_length);
+            let payload = packet.payload_in(received);
+            let used = packet.frame_len();
             let acted = act_on(state, rx, store, out, 0, h, packet, payload);
-            let fault = acted.fault;
-            let header = acted.header;
-            put_header(state, header);
-            let used = Packet::frame_len(packet.data_length);
-            Reply {
-                answer: unless_fault(fault, Answer::Done),
-                used,
-                written: acted.end,
-            }
+            let answer = unless_fault(acted.fault, Answer::Done);
+            ends(state, acted.header, answer, used, acted.end)
         }
     }
 }
@@ -64,8 +49,7 @@ pub fn dispatch(
     ensures { DispatchLeaves state.old rx.old store.old received.now
         out.old result state.new rx.new store.new out.new }
 {
-    let admitted = admit(state, rx.len(), store.len(), out.len());
-    match admitted {
+    match admit_out(state, rx.len(), store.len(), out.len()) {
         Err(refusal) => refused(refusal),
         Ok(h) => dispatch_step(state, rx, store, received, out, drop_pending(h)),
     }

@@ -16,12 +16,12 @@ use Rattle.connection.specs.declared.Answer.TheVariants.{Done, Nothing}
 use Rattle.connection.specs.Calls.{Lent, Outcome, begun, then, ends, dropped, is_offered, let_go_step}
 use Rattle.connection.specs.Frames.{frames_bytes}
 use Rattle.call.specs.declared.Reply.{Reply}
-use Rattle.call.specs.Promise.{lent_of, agreed_in, Leaves, Admits}
+use Rattle.call.specs.Promise.{lent_of, agreed_in, Leaves, AdmitsState}
 use Rattle.call.proofs.FrameLaws.{puts_none}
 use Rattle.call.proofs.LeaveLaws.{did-begun, did_then, did-stops}
 use Rattle.call_reject.proofs.OfferLaws.{offered-is, offer-place, offer-is, none-leaves}
 
-module _ (state rx store : List ℕ) (h : Header) (i : h ≡ (state_of state).header) (g : Admits state rx store 56) (r : Reply) (state' : List ℕ) (u : Bool) (e : u ≡ is_offer h.pending.what)
+module _ (state rx store : List ℕ) (h : Header) (i : h ≡ (state_of state).header) (g : AdmitsState state 56) (r : Reply) (state' : List ℕ) (u : Bool) (e : u ≡ is_offer h.pending.what)
     (later : Header) (m : later ≡ dropped h) where
   abbrev lent : Lent
   lent = lent_of state rx store

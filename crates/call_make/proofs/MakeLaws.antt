@@ -24,11 +24,11 @@ use Rattle.le.specs.Rows.{flat}
 use Rattle.state.specs.State.{header_len, queue_at, queued_len, slot_len, state_len, slot_bytes, queued_bytes, state_header, layout, put_slot, put_queued, put_header}
 use Rattle.state.proofs.Fields.{length-slot, length-open, length-header}
 use Rattle.le.proofs.RowLaws.{flat_append, length-flat}
-use Rattle.connection.specs.declared.Answer.{Answer}
-use Rattle.connection.specs.declared.Answer.TheVariants.{Done, Refused}
+use Rattle.connection.specs.declared.Refusal.{Refusal}
 use Rattle.connection.specs.declared.Refusal.TheVariants.{BadConfig, StoreShort}
 use Rattle.connection.specs.Calls.{Made, fresh, make_of}
-use Rattle.call_make.specs.Make.{empty_slots, empty_queue, make_in, Makes}
+use Rattle.call_make.specs.Make.{empty_slots, empty_queue, make_in, answered, Makes}
+use Rattle.std.specs.Prelude.{Result, Ok, Err}
 
 -- ---- the same record, put again and again
 
@@ -113,24 +113,24 @@ fresh-bytes b n k =
 -- ---- what is made
 
 module _ (b : List ℕ) (c : ConnectionConfig) (v m : ℕ) (host device : Bool) where
-  pub make-short : (r : Answer) → length b < state_len → r ≡ Refused StoreShort → Makes (make_in c v m host device b) r b
+  pub make-short : (r : Result (Unit {0}) Refusal) → length b < state_len → r ≡ Err StoreShort → Makes (make_in c v m host device b) r b
   unfolding make_in
   make-short r h e =
-      subst (λ (x : Made). Makes x r b) (sym (cond-true (ltb (length b) state_len) _ _ (lt-ltb (length b) state_len h))) (record { answer-is = e; state-is = refl })
+      subst (λ (x : Made). Makes x r b) (sym (cond-true (ltb (length b) state_len) _ _ (lt-ltb (length b) state_len h))) (record { answer-is = ap answered e; state-is = refl })
 
-  pub make-bad : (r : Answer) → state_len ≤ length b → within_limits c ≡ false → r ≡ Refused BadConfig → Makes (make_in c v m host device b) r b
+  pub make-bad : (r : Result (Unit {0}) Refusal) → state_len ≤ length b → within_limits c ≡ false → r ≡ Err BadConfig → Makes (make_in c v m host device b) r b
   unfolding make_in make_of
   make-bad r h t e =
       subst (λ (x : Made). Makes x r b) (sym (cond-false (ltb (length b) state_len) _ _ (le-ltb (length b) state_len h) ∙ cond-false (within_limits c) _ _ t))
-      (record { answer-is = e; state-is = refl })
+      (record { answer-is = ap answered e; state-is = refl })
 
-  pub make-done : (r : Answer) (n : Negotiated) (h : Header) (b₁ b₂ b₃ : List ℕ) → state_len ≤ length b → within_limits c ≡ true → n ≡ negotiated_of host device v m c
-      → b₁ ≡ put b header_len (empty_slots 64) → b₂ ≡ put b₁ queue_at (empty_queue 64) → h ≡ (fresh n).header → b₃ ≡ put_header b₂ h → r ≡ Done → Makes (make_in c v m host device b) r b₃
+  pub make-done : (r : Result (Unit {0}) Refusal) (n : Negotiated) (h : Header) (b₁ b₂ b₃ : List ℕ) → state_len ≤ length b → within_limits c ≡ true → n ≡ negotiated_of host device v m c
+      → b₁ ≡ put b header_len (empty_slots 64) → b₂ ≡ put b₁ queue_at (empty_queue 64) → h ≡ (fresh n).header → b₃ ≡ put_header b₂ h → r ≡ Ok tt → Makes (make_in c v m host device b) r b₃
   unfolding make_in make_of
   make-done r n h b₁ b₂ b₃ k t d e f i g z =
       subst (λ (x : Made). Makes x r b₃) (sym (cond-false (ltb (length b) state_len) _ _ (le-ltb (length b) state_len k) ∙ cond-true (within_limits c) _ _ t))
       (record {
-        answer-is = z;
+        answer-is = ap answered z;
         state-is = g ∙ ap (put_header b₂) i ∙ ap (λ (x : List ℕ). put_header x (fresh n).header) (f ∙ ap (λ (x : List ℕ). put x queue_at (empty_queue 64)) e) ∙ fresh-bytes b n k
             ∙ ap (λ (x : Negotiated). put b 0 (layout (fresh x))) d;
       })

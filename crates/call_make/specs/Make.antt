@@ -1,5 +1,5 @@
 -- What making a state does to its bytes. Assumes nothing.
-use Rattle.std.specs.Prelude.{ℕ, ◌≡◌, Bool, cond, List, [], ◌∷◌, ltb, length, replicate}
+use Rattle.std.specs.Prelude.{ℕ, ◌≡◌, Bool, cond, List, [], ◌∷◌, ltb, length, replicate, Result, Ok, Err}
 use Rattle.config.specs.declared.ConnectionConfig.{ConnectionConfig}
 use Rattle.features.specs.Features.{has_feature}
 use Rattle.state.specs.State.{none_queued}
@@ -7,7 +7,8 @@ use Rattle.slot.specs.Slot.{empty_slot}
 use Rattle.le.specs.Rows.{flat}
 use Rattle.state.specs.State.{state_len, slot_bytes, queued_bytes}
 use Rattle.connection.specs.declared.Answer.{Answer}
-use Rattle.connection.specs.declared.Answer.TheVariants.{Refused}
+use Rattle.connection.specs.declared.Answer.TheVariants.{Done, Refused}
+use Rattle.connection.specs.declared.Refusal.{Refusal}
 use Rattle.connection.specs.declared.Refusal.TheVariants.{StoreShort}
 use Rattle.connection.specs.Calls.{Made, make_of}
 
@@ -31,7 +32,12 @@ delayed_ack_name = 100 ∷ 101 ∷ 108 ∷ 97 ∷ 121 ∷ 101 ∷ 100 ∷ 95 ∷
 abbrev pub make_from : ConnectionConfig → ℕ → ℕ → Bool → List ℕ → List ℕ → Made
 make_from c a b host identity state = make_in c a b host (has_feature identity delayed_ack_name) state
 
+-- what `make` answers, as the calls' answers have it
+abbrev pub answered : Result (Unit {0}) Refusal → Answer
+answered (Ok done) = Done
+answered (Err refusal) = Refused refusal
+
 -- what `make` promises: the answer, and every byte of the state
-pub record Makes (m : Made) (r : Answer) (state : List ℕ) : Type 0 where
-  pub answer-is : r ≡ m.answer
+pub record Makes (m : Made) (r : Result (Unit {0}) Refusal) (state : List ℕ) : Type 0 where
+  pub answer-is : answered r ≡ m.answer
   pub state-is : state ≡ m.state

@@ -3,22 +3,19 @@
 
 ghost use Rattle.std.specs.Prelude.{◌≡◌, ◌≤◌, length};
 ghost use Rattle.le.specs.Le.{put};
-ghost use Rattle.state.specs.State.{none_queued};
 ghost use Rattle.connection.specs.Calls.{fresh};
 ghost use Rattle.call_make.specs.Make.{empty_slots, empty_queue, make_in, make_from, Makes};
-ghost use Rattle.state.specs.State.{header_len, queue_at, state_len};
+ghost use Rattle.state.specs.State.{header_len, none_queued, queue_at, state_len};
 
 use config::ConnectionConfig;
 use config::negotiated::Negotiated;
-use connection::{Answer, Refusal};
+use connection::Refusal;
 use features::has_feature;
 use slot::ChannelSlot;
-use slot::ids::{LocalId, RemoteId};
-use state::{
-    Header, Pending, PendingOpen, QueuedOpen, STATE_LEN, put_header, put_queued, put_slot,
-};
+use state::{Header, PendingOpen, QueuedOpen, STATE_LEN, put_header, put_queued, put_slot};
 
-// 64 slots with no channel.
+// 64 slots with no channel. A loop over places, here and for the queue: chunks of the bytes would go past `put_slot`, whose laws say the
+// layout, and one function for both would ask its laws of a closure.
 fn clear_slots(state: &mut [u8])
     requires { state_len ≤ length state.old }
     ensures { state.new ≡ put state.old header_len (empty_slots 64) }
@@ -28,15 +25,11 @@ fn clear_slots(state: &mut [u8])
     }
 }
 
+#[tactic(auto, unfolding(state::specs::State::none_queued))]
 fn none_queued() -> QueuedOpen
     ensures { result ≡ none_queued }
 {
-    QueuedOpen {
-        remote: RemoteId(0),
-        credit: 0,
-        share: 0,
-        length: 0,
-    }
+    QueuedOpen::default()
 }
 
 // 64 places where no open is queued.
@@ -50,18 +43,14 @@ fn clear_queue(state: &mut [u8])
 }
 
 // The header of a connection with no channel: the first one gets number 1.
+#[tactic(auto, unfolding(connection::specs::Calls::fresh))]
 fn fresh_header(negotiated: Negotiated) -> Header
     ensures { result ≡ (fresh negotiated).header }
 {
-    let pending = PendingOpen {
-        what: Pending::Nothing,
-        slot: 0,
-        local: LocalId(0),
-    };
     Header {
         negotiated,
         next_local: 1,
-        pending,
+        pending: PendingOpen::default(),
         queued: 0,
     }
 }
@@ -75,12 +64,12 @@ pub fn make(
     max_payload: u32,
     host_delayed_ack: bool,
     device_delayed_ack: bool,
-) -> Answer
+) -> Result<(), Refusal>
     ensures { Makes (make_in config version max_payload host_delayed_ack device_delayed_ack state.old) result
         state.new }
 {
     if state.len() < STATE_LEN {
-        return Answer::Refused(Refusal::StoreShort);
+        return Err(Refusal::StoreShort);
     }
     if config.within_limits() {
         let n = Negotiated::new(
@@ -93,9 +82,9 @@ pub fn make(
         clear_slots(state);
         clear_queue(state);
         put_header(state, fresh_header(n));
-        return Answer::Done;
+        return Ok(());
     }
-    Answer::Refused(Refusal::BadConfig)
+    Err(Refusal::BadConfig)
 }
 
 // The same, where the payload of the device's CNXN, its identity text, says whether it lists delayed acknowledgement.
@@ -106,7 +95,7 @@ pub fn make_from(
     max_payload: u32,
     host_delayed_ack: bool,
     identity: &[u8],
-) -> Answer
+) -> Result<(), Refusal>
     ensures { Makes (make_from config version max_payload host_delayed_ack identity.now state.old) result
         state.new }
 {

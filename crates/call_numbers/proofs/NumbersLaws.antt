@@ -16,12 +16,13 @@ use Rattle.connection.specs.declared.Refusal.TheVariants.{ChannelClosed}
 use Rattle.connection.specs.Calls.{dropped, looked, is_there, slot_for, numbers_in, numbers_for, numbers_outcome}
 use Rattle.call.specs.declared.Reply.{Reply}
 use Rattle.call.specs.Promise.{lent_of, agreed_in, admitted, found_in}
-use Rattle.call.proofs.LeaveLaws.{Goes, admitted-goes, goes-admits, looked-leaves}
+use Rattle.call.proofs.AdmitLaws.{admits-state}
+use Rattle.call.proofs.LeaveLaws.{Goes, goes-admits, looked-leaves}
 use Rattle.call.proofs.ThereLaws.{looks}
-use Rattle.call.proofs.WideLaws.{wide-leaves}
+use Rattle.call.proofs.WideLaws.{wide-goes, wide-leaves}
 use Rattle.call_numbers.specs.Promise.{numbers_of, NumbersLeaves}
 use Rattle.connection.specs.declared.Refusal.{Refusal}
-use Rattle.std.specs.Prelude.{Option, Some, None, Result, Ok, Err}
+use Rattle.std.specs.Prelude.{Option, Some, None, Result, Ok}
 
 -- by what was found
 abbrev answer_of : Option ChannelSlot → Answer
@@ -39,15 +40,15 @@ of-found n ss ch = by_cond (there_in n ss ch)
 pub found-numbers : (n : ℕ) (ss : List ChannelSlot) (ch : ChannelId) (found x : Option ChannelSlot) → found ≡ found_in n ss ch → found ≡ x → answer_of x ≡ numbers_of n ss ch
 found-numbers n ss ch found x e f = ap answer_of (sym f ∙ e) ∙ of-found n ss ch
 
-module _ (state rx store : List ℕ) (h : Header) (a : Result Header Refusal) (e : a ≡ admitted state (length rx) (length store) 56) (f : a ≡ (Ok h)) where
+module _ (state rx store : List ℕ) (h : Header) (a : Result Header Refusal) (e : a ≡ admitted state (length rx) (length store)) (f : a ≡ (Ok h)) where
   goes : Goes state rx store 56 h
-  goes = admitted-goes state rx store 56 h a e f
+  goes = wide-goes state rx store h a e f
 
   -- what looking asks
   pub look-room : Bytes state → (h.negotiated.config.channels ≤ 64) × (state_len ≤ length state)
   look-room y =
       subst (λ (x : Header). (x.negotiated.config.channels ≤ 64) × (state_len ≤ length state)) (sym goes.header)
-      (looks state rx store (dropped (state_of state).header) refl 56 (goes-admits state rx store 56 h goes y))
+      (looks state rx store (dropped (state_of state).header) refl 56 (admits-state (goes-admits state rx store 56 h goes y)))
 
   -- the answer is the definition's
   pub look-leaves : (ch : ChannelId) (said : Answer) (r : Reply) → said ≡ numbers_of h.negotiated.config.channels (state_of state).slots ch

@@ -16,14 +16,12 @@ use table::ChannelId;
 fn numbers_in(s: ChannelSlot) -> Answer
     ensures { result ≡ numbers_in s }
 {
-    let state = s.state;
-    let budget = s.send_budget.cast_unsigned();
     Answer::Numbers(
-        is_closed(state),
+        is_closed(s.state),
         s.acked_total,
         s.buffered,
         s.unacked,
-        budget,
+        s.send_budget.cast_unsigned(),
     )
 }
 
@@ -31,8 +29,7 @@ fn numbers_of(state: &[u8], channels: usize, ch: ChannelId) -> Answer
     requires { (channels ≤ 64) × (state_len ≤ length state.now) }
     ensures { result ≡ numbers_of channels (state_of state.now).slots ch }
 {
-    let found = get(state, channels, ch);
-    match found {
+    match get(state, channels, ch) {
         Some(s) => numbers_in(s),
         None => Answer::Refused(Refusal::ChannelClosed),
     }
@@ -42,17 +39,12 @@ fn numbers_of(state: &[u8], channels: usize, ch: ChannelId) -> Answer
 pub fn numbers(state: &[u8], rx: &[u8], store: &[u8], ch: ChannelId) -> Reply
     ensures { NumbersLeaves state.now rx.now store.now ch result }
 {
-    let admitted = admit(state, rx.len(), store.len(), 56);
-    match admitted {
+    match admit(state, rx.len(), store.len()) {
         Err(refusal) => refused(refusal),
-        Ok(h) => {
-            let negotiated = h.negotiated;
-            let config = negotiated.config;
-            Reply {
-                answer: numbers_of(state, config.channels, ch),
-                used: 0,
-                written: 0,
-            }
-        }
+        Ok(h) => Reply {
+            answer: numbers_of(state, h.negotiated.config.channels, ch),
+            used: 0,
+            written: 0,
+        },
     }
 }

@@ -35,14 +35,14 @@ use Rattle.call.specs.declared.act.ActedOn.{ActedOn}
 use Rattle.connection.specs.Act.{act_on}
 use Rattle.connection.specs.Calls.{Lent, Outcome, begun, then, then_acted, storing, ends, dropped, pending_for, policy, unless_fault, received_by, received_of, body_of, frame_len, still_pending, open_on, open_readied, open_acted, open_by, open_step}
 use Rattle.connection.specs.Frames.{Frame, close_frame, open_frame, frame_bytes}
-use Rattle.call.specs.Promise.{lent_of, agreed_in, pending_channel, Leaves, Admits, ActRoom, ActsOn}
-use Rattle.call.proofs.AdmitLaws.{act-room, admits-facts, admits-stores}
+use Rattle.call.specs.Promise.{lent_of, agreed_in, pending_channel, Leaves, AdmitsState, ActRoom, ActsOn}
+use Rattle.call.proofs.AdmitLaws.{act-room, admits-facts}
 use Rattle.connection.proofs.Decoding.{PacketRoom, packet-room}
 use Rattle.call.proofs.CallLaws.{received_is, allocated-dropped, own_is as test-is}
 use Rattle.call.proofs.FrameLaws.{close-short, one-frame, puts_one}
 use Rattle.call.proofs.LeaveLaws.{Did, did-begun, did-slot, did-frames, did-acted, did-stops, stops-leaves, untouched-leaves}
 use Rattle.connection.proofs.WholeWork.{Long}
-use Rattle.std.specs.Prelude.{Option, Some, None, Result, Ok, Err}
+use Rattle.std.specs.Prelude.{Result, Ok, Err}
 use Rattle.table.specs.declared.NoFreeChannels.{NoFreeChannels as NoFree}
 
 -- an OPEN has its destination behind the 24 bytes
@@ -63,6 +63,12 @@ module _ (state rx store out : List ℕ) (h : Header) (i : h.negotiated ≡ agre
       let w₁ = did-frames n 0 state out _ _ _ _ _ _ w (f ∷ []) out' end (puts_one n f out out' 0 end p₁) (omega arith) in
       subst (λ (v : Outcome). Leaves n v 0 state out [] r state' rx store out' []) (sym e) (did-stops n 0 state out _ _ _ _ _ _ w₁ [] state' y a used r j s q)
 
+-- the stores have no part in the packet that comes
+pub received-any : (state rx store received : List ℕ) (x : Result Packet (Answer × ℕ)) → received_of (lent_of state rx store) received ≡ x → (rx' store' : List ℕ)
+    → received_of (lent_of state rx' store') received ≡ x
+unfolding received_of
+received-any state rx store received x e rx' store' = e
+
 -- ---- an open begins
 
 module _ (state rx store out : List ℕ) (h : Header) (i : h ≡ dropped (state_of state).header) where
@@ -72,11 +78,11 @@ module _ (state rx store out : List ℕ) (h : Header) (i : h ≡ dropped (state_
   abbrev head₀ : Header
   head₀ = dropped (state_of state).header
 
-  pub begin-limits : Admits state rx store (length out) → Within h.negotiated.config
-  begin-limits g = subst (λ (x : Header). Within x.negotiated.config) (sym i) (admits-facts state rx store (length out) g).limits.within
+  pub begin-limits : AdmitsState state (length out) → Within h.negotiated.config
+  begin-limits g = subst (λ (x : Header). Within x.negotiated.config) (sym i) (admits-facts state (length out) g).limits.within
 
   -- what looking for a slot asks
-  pub begin-looks : Admits state rx store (length out) → (h.negotiated.config.channels ≤ 64) × (state_len ≤ length state)
+  pub begin-looks : AdmitsState state (length out) → (h.negotiated.config.channels ≤ 64) × (state_len ≤ length state)
   begin-looks g = ((begin-limits g).most-channels, g.state-fits)
 
   module _ (destination : List ℕ) (found : Result ChannelId NoFree) (e : found ≡ allocated h (state_of state).slots) where
@@ -140,9 +146,9 @@ module _ (state rx store out : List ℕ) (h : Header) (i : h ≡ (state_of state
   pub packet-fits : (received : List ℕ) (p : Packet) → received_of lent received ≡ Ok p → PacketRoom received h.negotiated.config.max_payload p
   packet-fits received p e = packet-room received h.negotiated.config.max_payload (received_by (decode_of received h.negotiated.config.max_payload)) p refl (looked-at received _ refl ∙ e)
 
-  module _ (g : Admits state rx store (length out)) where
+  module _ (g : AdmitsState state (length out)) where
     facts : Whole h.negotiated h (state_of state).slots (state_of state).queue
-    facts = subst (λ (x : Header). Whole x.negotiated x (state_of state).slots (state_of state).queue) (sym i) (admits-facts state rx store (length out) g)
+    facts = subst (λ (x : Header). Whole x.negotiated x (state_of state).slots (state_of state).queue) (sym i) (admits-facts state (length out) g)
 
     pub open-limits : Within h.negotiated.config
     open-limits = facts.limits.within
@@ -155,9 +161,9 @@ module _ (state rx store out : List ℕ) (h : Header) (i : h ≡ (state_of state
         (omega arith, g.state-fits)
 
     -- what `act_on` asks
-    pub open-room : (received payload : List ℕ) (p : Packet) → received_of lent received ≡ Ok p → payload ≡ body_of received p → ActRoom h state rx store out 0 payload
-    open-room received payload p e b =
-        let l : Long h.negotiated (length rx) (length store) = subst (λ (x : Header). Long x.negotiated (length rx) (length store)) (sym i) (admits-stores state rx store (length out) g) in
+    pub open-room : (received payload : List ℕ) (p : Packet) → Long (agreed_in state) (length rx) (length store) → received_of lent received ≡ Ok p → payload ≡ body_of received p → ActRoom h state rx store out 0 payload
+    open-room received payload p y e b =
+        let l : Long h.negotiated (length rx) (length store) = subst (λ (x : Header). Long x.negotiated (length rx) (length store)) (sym i) y in
         let k = packet-fits received p e in
         let k₁ = k.body in
         let k₂ = k.small in

@@ -38,7 +38,7 @@ use Rattle.connection.specs.Calls.{Lent, Outcome, Work, begun, then, then_acted,
 use Rattle.connection.specs.Frames.{Frame, frames_bytes}
 use Rattle.call.specs.Promise.{lent_of, agreed_in, Leaves, Admits, ActRoom, ActsOn}
 use Rattle.call_read.specs.Promise.{again_of, TakeRoom, is_nothing, Looks}
-use Rattle.call.proofs.AdmitLaws.{act-room, admits-facts, admits-stores}
+use Rattle.call.proofs.AdmitLaws.{act-room, admits-state, admits-facts, admits-stores}
 use Rattle.connection.proofs.Decoding.{PacketRoom, packet-room, ReceivedFits, received-fits}
 use Rattle.call.proofs.LeaveLaws.{Did, did-begun, did-slot, did-acted, did-stops, Behind, leaves-on}
 use Rattle.connection.proofs.Sending.{Rests, quiet, same, clear, some, Acts, acts, silent-again, silent-clear, taking, Taking, took, nothing, shut, no-data}
@@ -117,13 +117,13 @@ module _ (state rx store out : List ℕ) (h : Header) (ch : ChannelId) (s : Chan
   same-agreed = ap (λ (x : Header). x.negotiated) k.header_is
 
   live₀ : Live n i (slot_for l ch)
-  live₀ = there-live l (admits-facts state rx store (length out) a) ch k.there
+  live₀ = there-live l (admits-facts state (length out) (admits-state a)) ch k.there
 
   pub look-live : Live n i s
   look-live = subst (Live n i) (sym k.slot_is) (settled-live n i (slot_for l ch) live₀ room)
 
   at₀ : At l i (begun h l)
-  at₀ = subst (λ (x : Header). At l i (begun x l)) (sym k.header_is) (there-at l (admits-facts state rx store (length out) a) ch k.there)
+  at₀ = subst (λ (x : Header). At l i (begun x l)) (sym k.header_is) (there-at l (admits-facts state (length out) (admits-state a)) ch k.there)
 
   abbrev w₁ : Work
   w₁ = then (begun h l) (slot_to i s ∷ []) []
@@ -148,7 +148,7 @@ module _ (state rx store out : List ℕ) (h : Header) (ch : ChannelId) (s : Chan
   facts₁ = subst (λ (x : Negotiated). Whole x h (set (state_of state).slots i s) (state_of state).queue) (sym same-agreed) at₁.work.facts
 
   stores₁ : Long h.negotiated (length rx) (length store)
-  stores₁ = subst (λ (x : Negotiated). Long x (length rx) (length store)) (sym same-agreed) (admits-stores state rx store (length out) a)
+  stores₁ = subst (λ (x : Negotiated). Long x (length rx) (length store)) (sym same-agreed) (admits-stores a)
 
   pub look-within : Limits h.negotiated.config
   look-within = facts₁.limits.within

@@ -108,33 +108,31 @@ module _ (h : Header) (ch : ChannelId) (used : ℕ) (fault : Option ChannelFault
     again-is x e =
         ap (reread ch (policy_of n).rx_cap used fault (then (begun h lent) [] (ack_frames S.slot S.ack)) S.slot) (ap (λ (y : SettledSlot). taken_of y.slot room) (sym set_is) ∙ sym e)
 
-    pub tries-closed : (x : Result (Option (ChannelSlot × ℕ)) ChannelError) (why : ChannelError) (a : Answer) (refusal : Refusal) (state' : List ℕ) → x ≡ taken_of set.slot room → x ≡ Err why
+    pub tries-closed : (x : Result (Option (ChannelSlot × ℕ)) ChannelError) (why : ChannelError) (a : Answer) (refusal : Refusal) (state' : List ℕ) (r : Reply) → x ≡ taken_of set.slot room → x ≡ Err why
         → refusal ≡ error_refusal why → a ≡ unless_fault fault (Refused refusal) → state' ≡ put_header (put_slot state ch.slot set.slot) h
-        → Tries lent h ch room used fault S at state out buf (Break (record { answer = a; used = used; written = end })) state' out' buf
+        → r ≡ record { answer = a; used = used; written = end } → Tries lent h ch room used fault S at state out buf (Break r) state' out' buf
     unfolding reread
-    tries-closed x why a refusal state' e f g q s =
-        let w = did-slot n at state out _ _ _ _ _ _ written ch.slot S.slot (put_slot state ch.slot S.slot) refl in
-        let r : Reply = record { answer = a; used = used; written = end } in (
+    tries-closed x why a refusal state' r e f g q s z =
+        let w = did-slot n at state out _ _ _ _ _ _ written ch.slot S.slot (put_slot state ch.slot S.slot) refl in (
           ap (λ (y : SettledSlot). is_nothing (taken_of y.slot room)) (sym set_is) ∙ ap is_nothing (sym e ∙ f),
           subst (λ (y : Outcome). Leaves n y at state out buf r state' rx store out' buf)
               (sym (again-is x e ∙ ap (reread ch (policy_of n).rx_cap used fault (then (begun h lent) [] (ack_frames S.slot S.ack)) S.slot) f))
               (did-stops n at state out _ _ _ _ _ _ w buf state' h _ used r refl (s ∙ ap (λ (y : SettledSlot). put_header (put_slot state ch.slot y.slot) h) set_is)
-              (ap (λ (y : Answer). record { answer = y; used = used; written = end }) (q ∙ ap (λ (y : Refusal). unless_fault fault (Refused y)) g))),
+              (z ∙ ap (λ (y : Answer). record { answer = y; used = used; written = end }) (q ∙ ap (λ (y : Refusal). unless_fault fault (Refused y)) g))),
         )
 
-    pub tries-data : (x : Result (Option (ChannelSlot × ℕ)) ChannelError) (t : ChannelSlot) (len : ℕ) (state' buf' : List ℕ) → x ≡ taken_of set.slot room → x ≡ Ok (Some (t, len))
+    pub tries-data : (x : Result (Option (ChannelSlot × ℕ)) ChannelError) (t : ChannelSlot) (len : ℕ) (state' buf' : List ℕ) (r : Reply) → x ≡ taken_of set.slot room → x ≡ Ok (Some (t, len))
         → buf' ≡ put buf 0 (front_of rx p.rx_cap ch.slot set.slot.head len) → state' ≡ put_header (put_slot state ch.slot t) h
-        → Tries lent h ch room used fault S at state out buf (Break (record { answer = Read len; used = used; written = end })) state' out' buf'
+        → r ≡ record { answer = Read len; used = used; written = end } → Tries lent h ch room used fault S at state out buf (Break r) state' out' buf'
     unfolding reread
-    tries-data x t len state' buf' e f b s =
+    tries-data x t len state' buf' r e f b s z =
         let w = did-slot n at state out _ _ _ _ _ _ written ch.slot t (put_slot state ch.slot t) refl in
-        let r : Reply = record { answer = Read len; used = used; written = end } in
         let fits = (take-room-is x t len e f).2 in
         let short = front-short rx (policy_of n).rx_cap ch.slot S.slot.head len in (
           ap (λ (y : SettledSlot). is_nothing (taken_of y.slot room)) (sym set_is) ∙ ap is_nothing (sym e ∙ f),
           subst (λ (y : Outcome). Leaves n y at state out buf r state' rx store out' buf')
               (sym (again-is x e ∙ ap (reread ch (policy_of n).rx_cap used fault (then (begun h lent) [] (ack_frames S.slot S.ack)) S.slot) f))
-              (did-ends n at state out _ _ _ _ _ _ w buf buf' state' h _ used (front_of rx (policy_of n).rx_cap ch.slot S.slot.head len) r refl s refl
+              (did-ends n at state out _ _ _ _ _ _ w buf buf' state' h _ used (front_of rx (policy_of n).rx_cap ch.slot S.slot.head len) r refl s z
               (b ∙ ap (λ (y : RxPolicy). put buf 0 (front_of rx y.rx_cap ch.slot set.slot.head len)) pe ∙ ap (λ (y : SettledSlot). put buf 0 (front_of rx (policy_of n).rx_cap ch.slot y.slot.head len)) set_is)
               (omega arith)),
         )
@@ -151,25 +149,24 @@ module _ (l : Lent) (h : Header) (ch : ChannelId) (room used : ℕ) (fault : Opt
   empty t end e = subst (λ (y : ControlFlow Reply (ChannelSlot × ℕ)). Tries l h ch room used fault s at state out buf y state' out' buf') e g
 
 module _ (h : Header) (ch : ChannelId) (used : ℕ) (fault : Option ChannelFault) (at : ℕ) (state rx store out buf : List ℕ) (s : SettledSlot) where
-  pub again-waits : (t : ChannelSlot) (end : ℕ) (a : Answer) (state₁ state' out' buf' : List ℕ) → Empty h.negotiated s (length buf) at state out buf t end state₁ out' buf'
-      → state' ≡ put_header (put_slot state₁ ch.slot t) h → a ≡ unless_fault fault Waiting
-      → Leaves h.negotiated (again_of (lent_of state rx store) h ch (length buf) used fault s) at state out buf (record { answer = a; used = used; written = end }) state' rx store out' buf'
+  pub again-waits : (t : ChannelSlot) (end : ℕ) (a : Answer) (r : Reply) (state₁ state' out' buf' : List ℕ) → Empty h.negotiated s (length buf) at state out buf t end state₁ out' buf'
+      → state' ≡ put_header (put_slot state₁ ch.slot t) h → a ≡ unless_fault fault Waiting → r ≡ record { answer = a; used = used; written = end }
+      → Leaves h.negotiated (again_of (lent_of state rx store) h ch (length buf) used fault s) at state out buf r state' rx store out' buf'
   unfolding again_of reread
-  again-waits t end a state₁ state' out' buf' e g q =
+  again-waits t end a r state₁ state' out' buf' e g q v =
       let n = h.negotiated in
       let l = lent_of state rx store in
       let fs = ack_frames s.slot s.ack in
       let p = e.puts in
       let z = p.end_is in
       let k = e.fits in
-      let r : Reply = record { answer = a; used = used; written = end } in
       let w = did-frames n at state out (begun h l) state rx store out at (did-begun n at state out h l (omega arith)) fs out' end p (omega arith) in
       let w₁ = did-slot n at state out _ _ _ _ _ _ w ch.slot s.slot (put_slot state ch.slot s.slot) refl in
       subst (λ (y : List ℕ). Leaves n (again_of l h ch (length buf) used fault s) at state out buf r state' rx store out' y) (sym e.buf-is)
       (subst (λ (y : Result (Option (ChannelSlot × ℕ)) ChannelError). Leaves n (reread ch (policy_of n).rx_cap used fault (then (begun h l) [] fs) s.slot y) at state out buf r state' rx store out' buf) (sym e.nothing)
       (did-stops n at state out _ _ _ _ _ _ w₁ buf state' h _ used r refl
       (g ∙ ap (λ (y : List ℕ). put_header (put_slot y ch.slot t) h) e.state-is ∙ ap (λ (y : ChannelSlot). put_header (put_slot state ch.slot y) h) e.slot_is)
-      (ap (λ (y : Answer). record { answer = y; used = used; written = end }) q)))
+      (v ∙ ap (λ (y : Answer). record { answer = y; used = used; written = end }) q)))
 
 -- ---- a WRTE that goes straight to the reader
 
@@ -182,20 +179,19 @@ direct-fits s room p received payload limit k e t =
     let f = ap (λ (x : List ℕ). length x) e in
     omega arith
 
-pub direct-leaves : (h : Header) (ch : ChannelId) (s : ChannelSlot) (used at : ℕ) (state rx store out buf payload : List ℕ) (p : RxPolicy) (d : SettledSlot) (end : ℕ) (state' out' buf' : List ℕ)
+pub direct-leaves : (h : Header) (ch : ChannelId) (s : ChannelSlot) (used at : ℕ) (state rx store out buf payload : List ℕ) (p : RxPolicy) (d : SettledSlot) (end : ℕ) (r : Reply) (state' out' buf' : List ℕ)
     → p ≡ policy_of h.negotiated → d ≡ delivered_of s p (length payload) → at + 28 ≤ length out → length payload ≤ length buf
     → buf' ≡ put buf 0 payload → Puts out at (frames_bytes h.negotiated (ack_frames d.slot d.ack)) end out' → state' ≡ put_header (put_slot state ch.slot d.slot) h
-    → Leaves h.negotiated (read_direct ch used (begun h (lent_of state rx store)) payload (delivered_of s (policy_of h.negotiated) (length payload))) at state out buf
-    (record { answer = Read (length payload); used = used; written = end }) state' rx store out' buf'
+    → r ≡ record { answer = Read (length payload); used = used; written = end } → Leaves h.negotiated (read_direct ch used (begun h (lent_of state rx store)) payload (delivered_of s (policy_of h.negotiated) (length payload))) at state out buf
+    r state' rx store out' buf'
 unfolding read_direct
-direct-leaves h ch s used at state rx store out buf payload p d end state' out' buf' pe de k m b puts g =
+direct-leaves h ch s used at state rx store out buf payload p d end r state' out' buf' pe de k m b puts g z =
     let n = h.negotiated in
     let l = lent_of state rx store in
     let D = delivered_of s (policy_of n) (length payload) in
     let e : d ≡ D = de ∙ ap (λ (x : RxPolicy). delivered_of s x (length payload)) pe in
-    let r : Reply = record { answer = Read (length payload); used = used; written = end } in
     let f = ack-room n d.slot d.ack at (length out) (omega arith) (λ q. k) in
     let w = did_then n at state out (begun h l) state rx store out at (did-begun n at state out h l (omega arith)) (slot_to ch.slot d.slot ∷ []) (ack_frames d.slot d.ack)
     (put_slot state ch.slot d.slot) out' end refl puts f in
     subst (λ (x : SettledSlot). Leaves n (ends (then (begun h l) (slot_to ch.slot x.slot ∷ []) (ack_frames x.slot x.ack)) (Read (length payload)) used payload) at state out buf r state' rx store out' buf')
-    e (did-ends n at state out _ _ _ _ _ _ w buf buf' state' h _ used payload r refl g refl b m)
+    e (did-ends n at state out _ _ _ _ _ _ w buf buf' state' h _ used payload r refl g z b m)

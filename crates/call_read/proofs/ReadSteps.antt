@@ -30,7 +30,7 @@ use Rattle.connection.specs.Calls.{Lent, Outcome, Work, begun, then, then_acted,
 use Rattle.connection.specs.Frames.{Frame, frames_bytes}
 use Rattle.call.specs.Promise.{lent_of, agreed_in, Leaves, Admits}
 use Rattle.call_read.specs.Promise.{again_of, is_nothing, TakeRoom, Empty, Looks}
-use Rattle.call.proofs.AdmitLaws.{admits-facts, admits-stores}
+use Rattle.call.proofs.AdmitLaws.{admits-state, admits-facts, admits-stores}
 use Rattle.call.proofs.CallLaws.{received_is}
 use Rattle.call.proofs.FrameLaws.{ack-room}
 use Rattle.call.proofs.LeaveLaws.{did-begun, did-frames, did-slot, did-stops, Behind, leaves-on}
@@ -131,20 +131,20 @@ module _ (state rx store out : List ℕ) (h : Header) (ch : ChannelId) (buf rece
   S = settled_of (slot_for l ch) (policy_of n) room
 
   settled_is : S₀ ≡ S
-  settled_is = ap (λ (x : Negotiated). settled_of (slot_at state ch.slot) (policy_of x) room) same-agreed ∙ ap (λ (x : ChannelSlot). settled_of x (policy_of n) room) (slot_is state rx store h hi (length out) a ch there)
+  settled_is = ap (λ (x : Negotiated). settled_of (slot_at state ch.slot) (policy_of x) room) same-agreed ∙ ap (λ (x : ChannelSlot). settled_of x (policy_of n) room) (slot_is state rx store h hi (length out) (admits-state a) ch there)
 
   pub first-room : TakeRoom h.negotiated state rx out ch.slot 0 room
   first-room =
-      let v = lives state rx store h hi (length out) a ch there in
+      let v = lives state rx store h hi (length out) (admits-state a) ch there in
       let big = a.room in
-      let st = admits-stores state rx store (length out) a in
+      let st = admits-stores a in
       let sh = share_in ch.slot n.config.channels (2 * (policy_of n).rx_cap) (length rx) v.place st.rx-long in
       subst (λ (x : Negotiated). TakeRoom x state rx out ch.slot 0 room) (sym same-agreed)
       (record {
-        within = (admits-facts state rx store (length out) a).limits.within;
+        within = (admits-facts state (length out) (admits-state a)).limits.within;
         state-fits = a.state-fits;
-        place-fits = place-fits state rx store h hi (length out) a ch there;
-        sound = subst (λ (x : ChannelSlot). SlotOk x (policy_of n).rx_cap) (sym (slot_is state rx store h hi (length out) a ch there)) v.ok;
+        place-fits = place-fits state rx store h hi (length out) (admits-state a) ch there;
+        sound = subst (λ (x : ChannelSlot). SlotOk x (policy_of n).rx_cap) (sym (slot_is state rx store h hi (length out) (admits-state a) ch there)) v.ok;
         share-fits = sh;
         at-fits = omega arith;
         ack-fits = λ e. omega arith;

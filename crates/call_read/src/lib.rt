@@ -1,4 +1,5 @@
 // Reading: what is buffered, or what one packet brings.
+// `as usize` widens a u32: std has no From for it, as usize may be narrower elsewhere.
 #![tactic(auto)]
 
 ghost use Rattle.std.specs.Prelude.{◌≡◌, length};
@@ -10,14 +11,14 @@ ghost use Rattle.call_read.specs.Promise.{TakeBufferedAsks, TakeBufferedLeaves, 
 
 use call::Reply;
 use call::act::act_on;
-use call::admit::{admit, drop_pending, get, refused};
+use call::admit::{admit_out, drop_pending, get, refused};
+use call::ends::{ends_with, not_there};
 use call::frames::{ids_in, put_ack};
 use call::recv::{is_own, recv_pkt, unless_fault};
-use call::store::store_slot;
 use connection::{Answer, Refusal};
 use protocol::packet::Packet;
 use slot::{ChannelFault, ChannelSlot};
-use state::{Header, put_header, put_slot, slot_at};
+use state::{Header, put_slot, slot_at};
 use std::ops::ControlFlow;
 use table::ChannelId;
 
@@ -42,32 +43,20 @@ fn take_buffered(
     ensures { TakeBufferedLeaves state.old rx.now ch out.old at buf.old h
         used fault result state.new out.new buf.new }
 {
-    let n = h.negotiated;
-    let policy = n.rx_policy();
-    let i = ch.slot;
+    let policy = h.negotiated.rx_policy();
     let settled = slot_receive::settle_take(slot, buf.len(), policy);
     let s = settled.slot;
-    let ack = settled.ack;
-    let end = put_ack(out, at, n, s, ack);
+    let end = put_ack(out, at, h.negotiated, settled);
     let taken = slot_receive::take_buffered(s, buf.len(), policy.rx_cap);
     match taken {
+        Ok(Some((t, len))) => {
+            rx_store::hand_over(rx, ch.slot, policy.rx_cap, s.head as usize, len, buf);
+            ControlFlow::Break(ends_with(state, ch, t, h, Answer::Read(len), used, end))
+        }
         Ok(None) => ControlFlow::Continue((s, end)),
         Err(error) => {
-            store_slot(state, i, s, h);
-            ControlFlow::Break(Reply {
-                answer: unless_fault(fault, Answer::Refused(Refusal::from(error))),
-                used,
-                written: end,
-            })
-        }
-        Ok(Some((t, len))) => {
-            rx_store::hand_over(rx, i, policy.rx_cap, s.head as usize, len, buf);
-            store_slot(state, i, t, h);
-            ControlFlow::Break(Reply {
-                answer: Answer::Read(len),
-                used,
-                written: end,
-            })
+            let answer = unless_fault(fault, Answer::Refused(Refusal::from(error)));
+            ControlFlow::Break(ends_with(state, ch, s, h, answer, used, end))
         }
     }
 }
@@ -89,21 +78,17 @@ fn read_again(
         fault result state.new out.new buf.new }
 {
     let slot = slot_at(state, ch.slot);
-    let tried = take_buffered(state, rx, ch, slot, out, at, buf, h, used, fault);
-    match tried {
+    match take_buffered(state, rx, ch, slot, out, at, buf, h, used, fault) {
         ControlFlow::Break(reply) => reply,
         ControlFlow::Continue((s, end)) => {
-            store_slot(state, ch.slot, s, h);
-            Reply {
-                answer: unless_fault(fault, Answer::Waiting),
-                used,
-                written: end,
-            }
+            let answer = unless_fault(fault, Answer::Waiting);
+            ends_with(state, ch, s, h, answer, used, end)
         }
     }
 }
 
 // A WRTE of the channel's own that fits the reader's buffer.
+#[tactic(auto, unfolding(connection::specs::Calls::is_direct))]
 fn is_direct(s: ChannelSlot, room: usize, packet: Packet) -> bool
     ensures { result ≡ is_direct s room packet }
 {
@@ -128,16 +113,10 @@ fn read_direct(
 {
     let n = h.negotiated;
     let delivered = slot_receive::deliver(s, payload.len(), n.rx_policy());
-    let t = delivered.slot;
-    let ack = delivered.ack;
     le::copy_at(buf, 0, payload);
-    let end = put_ack(out, at, n, t, ack);
-    store_slot(state, ch.slot, t, h);
-    Reply {
-        answer: Answer::Read(payload.len()),
-        used,
-        written: end,
-    }
+    let end = put_ack(out, at, n, delivered);
+    let answer = Answer::Read(payload.len());
+    ends_with(state, ch, delivered.slot, h, answer, used, end)
 }
 
 // A packet that is not for the reader: dispatched, then what is buffered by now.
@@ -186,18 +165,14 @@ fn read_packet(
         received.now out.old at buf.old h result state.new rx.new
         store.new out.new buf.new }
 {
-    let payload = Packet::payload(received, packet.data_length);
-    let used = Packet::frame_len(packet.data_length);
+    let payload = packet.payload_in(received);
+    let used = packet.frame_len();
     if is_direct(s, buf.len(), packet) {
         return read_direct(state, ch, s, used, payload, out, at, buf, h);
     }
     if ids_in(s).closed_by(packet) {
-        store_slot(state, ch.slot, s.apply_close(), h);
-        return Reply {
-            answer: Answer::Refused(Refusal::ChannelClosed),
-            used,
-            written: at,
-        };
+        let closed = Answer::Refused(Refusal::ChannelClosed);
+        return ends_with(state, ch, s.apply_close(), h, closed, used, at);
     }
     read_other(
         state, rx, store, ch, s, used, packet, payload, out, at, buf, h,
@@ -222,23 +197,13 @@ fn read_more(
         out.old at buf.old h result state.new rx.new store.new out.new
         buf.new }
 {
-    let n = h.negotiated;
-    let config = n.config;
-    let found = recv_pkt(received, config.max_payload);
-    match found {
-        Err((answer, used)) => {
-            store_slot(state, ch.slot, s, h);
-            Reply {
-                answer,
-                used,
-                written: at,
-            }
-        }
-        Ok(packet) => { read_packet(state, rx, store, ch, s, packet, received, out, at, buf, h) }
+    match recv_pkt(received, h.negotiated.config.max_payload) {
+        Err((answer, used)) => ends_with(state, ch, s, h, answer, used, at),
+        Ok(packet) => read_packet(state, rx, store, ch, s, packet, received, out, at, buf, h),
     }
 }
 
-// What is buffered, and else what a packet brings.
+// What is buffered, and else what a packet brings. The channel and its slot go on side by side: each step makes another slot of it.
 fn read_channel(
     state: &mut [u8],
     rx: &mut [u8],
@@ -255,8 +220,7 @@ fn read_channel(
         out.old buf.old result state.new rx.new store.new out.new
         buf.new }
 {
-    let tried = take_buffered(state, rx, ch, slot, out, 0, buf, h, 0, None);
-    match tried {
+    match take_buffered(state, rx, ch, slot, out, 0, buf, h, 0, None) {
         ControlFlow::Break(reply) => reply,
         ControlFlow::Continue((s, at)) => read_more(
             state, rx, store, ch, s, received, out, at, buf, h,
@@ -279,15 +243,9 @@ fn read_step(
         out.old buf.old result state.new rx.new store.new out.new
         buf.new }
 {
-    let n = h.negotiated;
-    let config = n.config;
-    let found = get(state, config.channels, ch);
-    match found {
+    match get(state, h.negotiated.config.channels, ch) {
         Some(slot) => read_channel(state, rx, store, ch, slot, received, out, buf, h),
-        None => {
-            put_header(state, h);
-            refused(Refusal::ChannelClosed)
-        }
+        None => not_there(state, h),
     }
 }
 
@@ -305,8 +263,7 @@ pub fn read(
         out.old buf.old result state.new rx.new store.new out.new
         buf.new }
 {
-    let admitted = admit(state, rx.len(), store.len(), out.len());
-    match admitted {
+    match admit_out(state, rx.len(), store.len(), out.len()) {
         Err(refusal) => refused(refusal),
         Ok(h) => read_step(state, rx, store, ch, received, out, buf, drop_pending(h)),
     }

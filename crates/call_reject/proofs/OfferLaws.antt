@@ -18,7 +18,10 @@ use Rattle.connection.specs.declared.Answer.TheVariants.{Done, Nothing}
 use Rattle.connection.specs.Calls.{Lent, Outcome, dropped, offer_in, is_offered, not_offered, reject_on, reject_step}
 use Rattle.connection.specs.Frames.{close_frame, frame_bytes}
 use Rattle.call.specs.declared.Reply.{Reply}
-use Rattle.call.specs.Promise.{lent_of, agreed_in, Leaves, Admits}
+use Rattle.call.specs.Promise.{lent_of, agreed_in, Leaves, AdmitsState}
+use Rattle.call_reject.specs.Promise.{OfferRoom, offered_in}
+use Rattle.slot.proofs.Kept.{pick}
+use Rattle.std.specs.Prelude.{Option, Some, None}
 use Rattle.call.proofs.AdmitLaws.{admits-facts}
 use Rattle.call.proofs.FrameLaws.{close-short, one-frame, puts_one}
 use Rattle.call.proofs.LeaveLaws.{did-begun, did-frames, did-stops, stops-leaves}
@@ -38,7 +41,32 @@ reject-leaves state out at h remote answer r end out' state' k p s q rx store =
     let w₁ = did-frames n at state out _ _ _ _ _ _ w (f ∷ []) out' end (puts_one n f out out' at end p) (omega arith) in
     did-stops n at state out _ _ _ _ _ _ w₁ [] state' h answer 0 r refl s q
 
-module _ (state rx store out : List ℕ) (h : Header) (i : h ≡ (state_of state).header) (size : ℕ) (g : Admits state rx store size) where
+-- ---- what was found
+
+abbrev is_found : Option QueuedOpen → Bool
+is_found (Some q) = true
+is_found None = false
+
+abbrev entry_in : Option QueuedOpen → QueuedOpen
+entry_in (Some q) = q
+entry_in None = none_queued
+
+module _ (state : List ℕ) (h : Header) (found : Option QueuedOpen) (e : found ≡ offered_in state h) where
+  found-is : is_found found ≡ is_offer h.pending.what
+  unfolding offered_in
+  found-is = ap is_found e ∙ pick (λ (x : Option QueuedOpen). is_found x ≡ is_offer h.pending.what) (is_offer h.pending.what) (λ t. sym t) (λ t. sym t)
+
+  pub found-offer : (q : QueuedOpen) → found ≡ Some q → is_offer h.pending.what ≡ true
+  found-offer q f = sym found-is ∙ ap is_found f
+
+  pub found-entry : (q : QueuedOpen) → found ≡ Some q → q ≡ queued_at state h.queued
+  unfolding offered_in
+  found-entry q f = ap entry_in (sym f ∙ e ∙ cond-true (is_offer h.pending.what) _ _ (found-offer q f))
+
+  pub found-none : found ≡ None → is_offer h.pending.what ≡ false
+  found-none f = sym found-is ∙ ap is_found f
+
+module _ (state rx store out : List ℕ) (h : Header) (i : h ≡ (state_of state).header) (size : ℕ) (g : AdmitsState state size) where
   abbrev lent : Lent
   lent = lent_of state rx store
 
@@ -50,7 +78,7 @@ module _ (state rx store out : List ℕ) (h : Header) (i : h ≡ (state_of state
     -- its entry is one of the 64
     pub offer-place : h.queued < 64
     offer-place =
-        let k = admits-facts state rx store size g in
+        let k = admits-facts state size g in
         let room = (k.offer (offered-is true u e f)).room in
         let most = k.limits.within.most-channels in
         let z = ap (λ (x : Header). x.queued) i in
@@ -59,6 +87,10 @@ module _ (state rx store out : List ℕ) (h : Header) (i : h ≡ (state_of state
     pub offer-is : (q : QueuedOpen) → q ≡ queued_at state h.queued → q ≡ offer_in lent
     offer-is q d =
         d ∙ sym (open_in state h.queued none_queued offer-place) ∙ ap (λ (x : Header). offer_in (record { state = record { header = x; slots = (state_of state).slots; queue = (state_of state).queue }; rx = rx; store = store })) i
+
+  -- what looking for it asks
+  pub offer-room : OfferRoom state h
+  offer-room = record { place = λ t. offer-place (is_offer h.pending.what) refl t; state-fits = g.state-fits }
 
   -- none is
   pub none-leaves : (later : Header) (r : Reply) (state' : List ℕ) → later ≡ dropped h → r ≡ record { answer = Nothing; used = 0; written = 0 } → state' ≡ put_header state later

@@ -21,12 +21,12 @@ use Rattle.connection.specs.declared.Refusal.TheVariants.{ChannelClosed}
 use Rattle.call.specs.declared.Reply.{Reply}
 use Rattle.connection.specs.Calls.{Lent, Outcome, dropped, policy, is_there, slot_for, ack_frames, settled_as, settle_step}
 use Rattle.connection.specs.Frames.{frames_bytes}
-use Rattle.call.specs.Promise.{lent_of, agreed_in, Leaves, Admits}
+use Rattle.call.specs.Promise.{lent_of, agreed_in, Leaves, AdmitsState}
 use Rattle.call.proofs.FrameLaws.{ack-short}
 use Rattle.call.proofs.LeaveLaws.{did-begun, did_then, did-stops, stops-leaves}
 use Rattle.call.proofs.ThereLaws.{place-fits}
 
-module _ (state rx store : List ℕ) (room : ℕ) (h : Header) (i : h ≡ dropped (state_of state).header) (g : Admits state rx store room) (ch : ChannelId)
+module _ (state rx store : List ℕ) (room : ℕ) (h : Header) (i : h ≡ dropped (state_of state).header) (g : AdmitsState state room) (ch : ChannelId)
     (e : is_there (lent_of state rx store) ch ≡ true) where
   abbrev lent : Lent
   lent = lent_of state rx store

@@ -6,10 +6,10 @@ use Rattle.call.specs.Promise.{lent_of, agreed_in, Leaves}
 use Rattle.call.specs.declared.Reply.{Reply}
 use Rattle.table.specs.declared.ChannelId.{ChannelId}
 
--- what `settle_step` promises
-abbrev pub SettleStepLeaves : List ℕ → List ℕ → List ℕ → ChannelId → ℕ → List ℕ → Reply → List ℕ → List ℕ → Type 0
-SettleStepLeaves state rx store ch want out r state' out' =
-    Leaves (agreed_in state) (settle_step (lent_of state rx store) ch want) 0 state out [] r state' rx store out' []
+-- what `settle_step` promises, whatever the stores
+abbrev pub SettleStepLeaves : List ℕ → ChannelId → ℕ → List ℕ → Reply → List ℕ → List ℕ → Type 0
+SettleStepLeaves state ch want out r state' out' =
+    ((rx store : List ℕ) → Leaves (agreed_in state) (settle_step (lent_of state rx store) ch want) 0 state out [] r state' rx store out' [])
 
 -- what `settle` promises
 abbrev pub SettleLeaves : List ℕ → List ℕ → List ℕ → ChannelId → ℕ → List ℕ → Reply → List ℕ → List ℕ → Type 0

@@ -2,50 +2,30 @@
 #![tactic(auto)]
 
 ghost use Rattle.std.specs.Prelude.{length};
-ghost use Rattle.call.specs.Promise.{Begins};
+ghost use Rattle.call.specs.Promise.{BeginsState};
 ghost use Rattle.call_settle.specs.Promise.{SettleLeaves, SettleStepLeaves};
 
 use call::Reply;
-use call::admit::{admit, drop_pending, get, refused};
+use call::admit::{admit_out, drop_pending, get, refused};
+use call::ends::{ends_with, not_there};
 use call::frames::put_ack;
-use call::store::store_slot;
-use connection::{Answer, Refusal};
-use state::{Header, put_header};
+use connection::Answer;
+use state::Header;
 use table::ChannelId;
 
-fn settle_step(
-    state: &mut [u8],
-    rx: &[u8],
-    store: &[u8],
-    ch: ChannelId,
-    want: usize,
-    out: &mut [u8],
-    h: Header,
-) -> Reply
-    requires { Begins state.old rx.now store.now (length out.old) h }
-    ensures { SettleStepLeaves state.old rx.now store.now ch want out.old result
-        state.new out.new }
+fn settle_step(state: &mut [u8], ch: ChannelId, want: usize, out: &mut [u8], h: Header) -> Reply
+    requires { BeginsState state.old (length out.old) h }
+    ensures { SettleStepLeaves state.old ch want out.old result state.new out.new }
 {
     let n = h.negotiated;
-    let config = n.config;
-    let found = get(state, config.channels, ch);
-    match found {
+    match get(state, n.config.channels, ch) {
         Some(s) => {
             let settled = slot_receive::settle_take(s, want, n.rx_policy());
-            let left = settled.slot;
-            let ack = settled.ack;
-            let end = put_ack(out, 0, n, left, ack);
-            store_slot(state, ch.slot, left, h);
-            Reply {
-                answer: Answer::Settled(ack),
-                used: 0,
-                written: end,
-            }
+            let end = put_ack(out, 0, n, settled);
+            let answer = Answer::Settled(settled.ack);
+            ends_with(state, ch, settled.slot, h, answer, 0, end)
         }
-        None => {
-            put_header(state, h);
-            refused(Refusal::ChannelClosed)
-        }
+        None => not_there(state, h),
     }
 }
 
@@ -61,9 +41,8 @@ pub fn settle(
     ensures { SettleLeaves state.old rx.now store.now ch want out.old result
         state.new out.new }
 {
-    let admitted = admit(state, rx.len(), store.len(), out.len());
-    match admitted {
+    match admit_out(state, rx.len(), store.len(), out.len()) {
         Err(refusal) => refused(refusal),
-        Ok(h) => settle_step(state, rx, store, ch, want, out, drop_pending(h)),
+        Ok(h) => settle_step(state, ch, want, out, drop_pending(h)),
     }
 }

@@ -2,12 +2,12 @@
 use mathlib.Core.Path.{◌≡◌, refl, sym, ap, subst, ◌∙◌}
 use mathlib.Core.Bool.{Bool, true, false, ◌||◌}
 use mathlib.Core.List.{List, ◌++◌}
-use Prim.Native.Nat.{ℕ, ◌≤◌, ◌<◌}
+use Prim.Native.Nat.{ℕ, ◌≤◌}
 use native.Mathlib.Omega.{arith}
 use lib.Dec.{ltb}
 use lib.ListN.{length, take, drop, length-take}
 use lib.Seq.{drop_at}
-use borrow.Author.Tests.{lt-ltb, le-ltb, ltb-false}
+use borrow.Author.Tests.{ltb-false}
 use Rattle.le.specs.Le.{Bytes}
 use Rattle.le.proofs.Laws.{bytes_take}
 use Rattle.le.proofs.RowLaws.{never}
@@ -25,14 +25,6 @@ use Rattle.call_stretch.specs.Promise.{is_refused, found_as, own_bytes, spare_sh
 use Rattle.std.specs.Prelude.{Option, Some, None, Result, Ok, Err}
 
 module _ (rx store spare_rx spare_store : ℕ) where
-  pub short-rx : spare_rx < rx → true ≡ spare_short rx store spare_rx spare_store
-  unfolding spare_short
-  short-rx h = rw (lt-ltb spare_rx rx h) refl
-
-  pub short-store : rx ≤ spare_rx → ltb spare_store store ≡ spare_short rx store spare_rx spare_store
-  unfolding spare_short
-  short-store h = rw (le-ltb spare_rx rx h) refl
-
   or-false : (a b : Bool) → (a || b) ≡ false → (a ≡ false) × (b ≡ false)
   or-false true b e = never (sym e)
   or-false false b e = (refl, e)
@@ -93,7 +85,7 @@ look-found state received spare_rx spare_store rx store f r front front_store e 
 
 -- ---- the call
 
-module _ (state rx store received spare_rx spare_store : List ℕ) (a : Result Header Refusal) (e : a ≡ admitted state (length rx) (length store) 56) where
+module _ (state rx store received spare_rx spare_store : List ℕ) (a : Result Header Refusal) (e : a ≡ admitted state (length rx) (length store)) where
   pub stretch-refused : (x : Refusal) → a ≡ Err x → StretchLooks state rx store received spare_rx spare_store (Err x) spare_rx spare_store
   unfolding stretch_of stretched_by
   stretch-refused x f =

@@ -55,7 +55,7 @@ stretched_by (Ok h) s = s
 -- the call: state and stores, received bytes, the spare stores' lengths
 unfoldable pub stretch_of : List ℕ → List ℕ → List ℕ → List ℕ → ℕ → ℕ → Result (Option Stretch) Refusal
 stretch_of state rx store received spare_rx spare_store =
-    stretched_by (admitted state (length rx) (length store) 56) (looked_at (world_of (own_bytes state) rx store) received spare_rx spare_store)
+    stretched_by (admitted state (length rx) (length store)) (looked_at (world_of (own_bytes state) rx store) received spare_rx spare_store)
 
 -- ---- promises
 

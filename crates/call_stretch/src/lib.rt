@@ -8,7 +8,7 @@ ghost use Rattle.call_stretch.specs.Promise.{stretched_number, found_as, spare_s
 
 use call::admit::admit;
 use connection::Refusal;
-use refusal::found_number_of;
+use refusal::{NOTHING, found_number_of};
 use state::STATE_LEN;
 use stretch::{Stretch, shortest};
 
@@ -19,9 +19,10 @@ pub type Stretched = Result<Option<Stretch>, Refusal>;
 pub fn stretched_number(stretched: Stretched) -> u32
     ensures { result ≡ stretched_number stretched }
 {
-    found_number_of(stretched, 101)
+    found_number_of(stretched, NOTHING)
 }
 
+#[tactic(auto, unfolding(crate::specs::Promise::spare_short))]
 fn is_spare_short(rx: usize, store: usize, spare_rx: usize, spare_store: usize) -> bool
     ensures { result ≡ spare_short rx store spare_rx spare_store }
 {
@@ -45,7 +46,7 @@ fn look(
         return Err(Refusal::StoreShort);
     }
     let found = shortest(
-        &state[..STATE_LEN],
+        state.first_chunk::<STATE_LEN>().unwrap(),
         &mut spare_rx[..rx],
         &mut spare_store[..store],
         received,
@@ -65,7 +66,7 @@ pub fn stretch(
     ensures { StretchLooks state.now rx.now store.now received.now
         spare_rx.old spare_store.old result spare_rx.new spare_store.new }
 {
-    admit(state, rx.len(), store.len(), 56)?;
+    admit(state, rx.len(), store.len())?;
     look(
         state,
         rx.len(),

@@ -23,13 +23,12 @@ use Rattle.connection.specs.declared.Refusal.{Refusal}
 use Rattle.connection.specs.declared.Refusal.TheVariants.{ChannelClosed}
 use Rattle.call.specs.declared.Reply.{Reply}
 use Rattle.connection.specs.Calls.{Lent, Outcome, begun, ends, dropped, policy, is_there, slot_for, error_refusal, taken_by, take_step}
-use Rattle.call.specs.Promise.{lent_of, agreed_in, Leaves, Admits}
-use Rattle.call.proofs.AdmitLaws.{admits-stores}
+use Rattle.call.specs.Promise.{lent_of, agreed_in, Leaves, AdmitsState}
 use Rattle.call.proofs.LeaveLaws.{did-begun, did-slot, did-ends, stops-leaves}
 use Rattle.call.proofs.ThereLaws.{place-fits, lives}
 use Rattle.std.specs.Prelude.{Option, Some, None, Result, Ok, Err}
 
-module _ (state rx store : List ℕ) (room : ℕ) (h : Header) (i : h ≡ dropped (state_of state).header) (g : Admits state rx store room) (ch : ChannelId)
+module _ (state rx store : List ℕ) (room : ℕ) (h : Header) (i : h ≡ dropped (state_of state).header) (g : AdmitsState state room) (ch : ChannelId)
     (e : is_there (lent_of state rx store) ch ≡ true) where
   abbrev lent : Lent
   lent = lent_of state rx store
@@ -64,16 +63,16 @@ module _ (state rx store : List ℕ) (room : ℕ) (h : Header) (i : h ≡ droppe
       sound t len f = subst (TakenSound s (length buf) cap) (sym d ∙ f) (taken-sound s (length buf) cap take-ok)
 
       -- what handing over asks
-      pub hand-room : (t : ChannelSlot) (len : ℕ) → taken ≡ Ok (Some (t, len))
+      pub hand-room : (t : ChannelSlot) (len : ℕ) → (agreed_in state).config.channels * (2 * (policy_of (agreed_in state)).rx_cap) ≤ length rx → taken ≡ Ok (Some (t, len))
           → ShareFits ch.slot cap (length rx) × (s.head + len ≤ 2 * cap) × (len ≤ length buf)
-      hand-room t len f =
+      hand-room t len long f =
           let k = sound t len f in
           let k₁ = k.1 in
           let k₂ = k.2 in
           let o = take-ok in
           let run = o.run_fits in
           let v = (lives state rx store h i room g ch e).place in
-          let y = subst (λ (x : ℕ). (agreed_in state).config.channels * (2 * x) ≤ length rx) (sym cap-is) (admits-stores state rx store room g).rx-long in
+          let y = subst (λ (x : ℕ). (agreed_in state).config.channels * (2 * x) ≤ length rx) (sym cap-is) long in
           let u = share_in ch.slot (agreed_in state).config.channels (2 * cap) (length rx) v y in
           (u, omega arith, k₁)
 

@@ -22,11 +22,11 @@ use Rattle.connection.specs.declared.Answer.TheVariants.{Nothing, Front as Front
 use Rattle.call.specs.declared.Reply.{Reply}
 use Rattle.connection.specs.Calls.{Lent, Outcome, begun, ends, dropped, take_front_by, take_front_step}
 use Rattle.connection.specs.Frames.{frames_bytes}
-use Rattle.call.specs.Promise.{lent_of, agreed_in, Leaves, Admits}
+use Rattle.call.specs.Promise.{lent_of, agreed_in, Leaves, AdmitsState}
 use Rattle.call.proofs.AdmitLaws.{admits-dropped}
 use Rattle.call.proofs.FrameLaws.{puts_none}
 use Rattle.call.proofs.LeaveLaws.{did-begun, did_then, did-stops, stops-leaves}
-use Rattle.std.specs.Prelude.{Option, Some, None, Result, Ok, Err}
+use Rattle.std.specs.Prelude.{Option, Some, None}
 
 -- ---- the queue's front
 
@@ -63,12 +63,12 @@ module _ (h : Header) (os : List QueuedOpen) where
 
 -- ---- what is left
 
-module _ (state rx store : List ℕ) (h : Header) (i : h ≡ dropped (state_of state).header) (g : Admits state rx store 56) where
+module _ (state rx store : List ℕ) (h : Header) (i : h ≡ dropped (state_of state).header) (g : AdmitsState state 56) where
   abbrev lent : Lent
   lent = lent_of state rx store
 
   facts : Whole h.negotiated h (state_of state).slots (state_of state).queue
-  facts = subst (λ (x : Header). Whole x.negotiated x (state_of state).slots (state_of state).queue) (sym i) (admits-dropped state rx store 56 g)
+  facts = subst (λ (x : Header). Whole x.negotiated x (state_of state).slots (state_of state).queue) (sym i) (admits-dropped state 56 g)
 
   pub queue-ok : QueueOk h (length state)
   queue-ok = record { state-long = g.state-fits; most-channels = facts.limits.within.most-channels; queue-fits = facts.header.queue-fits }

@@ -24,12 +24,12 @@ use Rattle.protocol.specs.Command.{is_ready, is_close, is_the, word_of, letters_
 use Rattle.saturate.specs.Saturate.{positive_part}
 use Rattle.slot.specs.declared.ChannelFault.TheVariants.{RxOverflow, BadCredit, UnexpectedCommand}
 use Rattle.slot.specs.declared.ChannelSlot.{ChannelSlot}
-use Rattle.slot.specs.declared.Wrote.{Wrote}
+use Rattle.slot.proofs.Wrote.{Wrote}
 use Rattle.slot.specs.declared.ids.ChannelIds.{ChannelIds}
 use Rattle.slot.specs.declared.ids.LocalId.{LocalId}
 use Rattle.slot.specs.declared.ids.RemoteId.{RemoteId}
 use Rattle.slot.specs.Ids.{named_by, closed_by}
-use Rattle.slot.specs.Slot.{empty_slot, is_opening, is_failed, held_of, acks_now, buffered_with, wrote_of, closed_slot, some_budget, budget_of}
+use Rattle.slot.specs.Slot.{empty_slot, is_opening, is_failed, held_of, acks_now, buffered_with, wrote_of, closed_slot, some_len, budget_of}
 use Rattle.slot.proofs.Kept.{pick}
 use Rattle.slot.proofs.Laws.{cond-true, cond-false}
 use Rattle.state.specs.declared.Header.{Header}
@@ -52,7 +52,7 @@ use Rattle.connection.specs.Act.{Acted, pushed_by, acted_by, table_of, act_on}
 use Rattle.connection.specs.Calls.{ids_in}
 use Rattle.connection.proofs.Slots.{slots_by, slots-append, slot-set-same, slot-set-other}
 use Rattle.credit.specs.declared.CreditFault.{CreditFault}
-use Rattle.std.specs.Prelude.{Option, Some, None, Result, Ok, Err}
+use Rattle.std.specs.Prelude.{Some, None, Result, Ok, Err}
 
 -- ---- slots that may send alike
 
@@ -68,8 +68,8 @@ rests-same s = record { state = refl; acked = refl; budget = refl }
 pub rests-budget : (s t : ChannelSlot) (p : RxPolicy) → Rests s t → budget_of t p ≡ budget_of s p
 unfolding budget_of
 rests-budget s t p r =
-    ap (λ (z : ℤ). cond p.delayed (some_budget (positive_part z)) (cond t.wrte_acked (Some 0xffff_ffff_ffff_ffff) None)) r.budget
-    ∙ ap (λ (b : Bool). cond p.delayed (some_budget (positive_part s.send_budget)) (cond b (Some 0xffff_ffff_ffff_ffff) None)) r.acked
+    ap (λ (z : ℤ). cond p.delayed (some_len (positive_part z)) (cond t.wrte_acked (Some 0xffff_ffff_ffff_ffff) None)) r.budget
+    ∙ ap (λ (b : Bool). cond p.delayed (some_len (positive_part s.send_budget)) (cond b (Some 0xffff_ffff_ffff_ffff) None)) r.acked
 
 -- ---- what a CLSE does not name
 
@@ -129,12 +129,12 @@ module _ (p : RxPolicy) (n : ℕ) (ss : List ChannelSlot) (i : ℕ) (full : n �
       goes-stored o f _ (λ e. subst (λ (x : ℕ). Rests own (buffered_with (slot_in ss x) p k u)) e (record { state = refl; acked = refl; budget = refl }))
 
   goes-wrote : (f : ℕ) (remote : RemoteId) (payload rx : List ℕ)
-      → Goes (wrote_by p f (slot_in ss f) remote payload rx (wrote_of (slot_in ss f) p (length payload)).slot (wrote_of (slot_in ss f) p (length payload)).decision).step
+      → Goes (wrote_by p f (slot_in ss f) remote payload rx (wrote_of (slot_in ss f) p (length payload))).step
   unfolding wrote_of wrote_by
   goes-wrote f remote payload rx =
       let s = slot_in ss f in
       let k = length payload in
-      let G : Wrote → Type 0 = λ w. Goes (wrote_by p f s remote payload rx w.slot w.decision).step in
+      let G : Wrote → Type 0 = λ w. Goes (wrote_by p f s remote payload rx w).step in
       pick G (is_opening s.state) (λ o. goes_left (faulted f s remote UnexpectedCommand))
       (λ o. pick G (ltb p.rx_cap (held_of s + k)) (λ h. goes_left (faulted f s remote RxOverflow))
       (λ h. pick G (acks_now s p (held_of s + k)) (λ a. goes-buffered (AckWrite f (ids_in s) k) f k 0) (λ a. goes-buffered (DataBuffered f) f k _)))

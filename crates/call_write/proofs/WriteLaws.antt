@@ -42,7 +42,7 @@ use Rattle.connection.specs.Calls.{Lent, Outcome, then, then_acted, ends, droppe
 use Rattle.connection.specs.Frames.{write_frame, frame_bytes, frames_bytes}
 use Rattle.call.specs.Promise.{lent_of, agreed_in, found_in, Leaves, Admits, ActsOn}
 use Rattle.call_write.specs.Promise.{starts, Sends, Finds, Waits}
-use Rattle.call.proofs.AdmitLaws.{admits-facts, admits-dropped, admits-stores}
+use Rattle.call.proofs.AdmitLaws.{admits-state, admits-facts, admits-dropped, admits-stores}
 use Rattle.call.proofs.CallLaws.{received_is}
 use Rattle.connection.proofs.Decoding.{PacketRoom, packet-room, ReceivedFits, received-fits}
 use Rattle.call.proofs.FrameLaws.{puts_one, one-frame}
@@ -181,7 +181,7 @@ module _ (state out bytes : List ℕ) (ch : ChannelId) (h : Header) (g : Sends s
 module _ (state rx store : List ℕ) (out : ℕ) (ch : ChannelId) (h : Header) (s : ChannelSlot) (k : Finds state rx store out ch h s) where
   pub finds-place : ch.slot < 64
   finds-place =
-      let w = admits-facts state rx store out k.admits in
+      let w = admits-facts state out (admits-state k.admits) in
       let v = there-live (lent_of state rx store) w ch k.there in
       let most = w.limits.within.most-channels in
       let p = v.place in
@@ -189,7 +189,7 @@ module _ (state rx store : List ℕ) (out : ℕ) (ch : ChannelId) (h : Header) (
 
   pub finds-sends : Sends state ch.slot h
   finds-sends =
-      let w = admits-facts state rx store out k.admits in
+      let w = admits-facts state out (admits-state k.admits) in
       record {
         state-fits = k.admits.state-fits;
         place-fits = finds-place;
@@ -251,8 +251,8 @@ module _ (state rx store out received bytes : List ℕ) (ch : ChannelId) (h : He
 
         keeps : ActedKeeps values (state_of state) (length rx) (length store) act
         keeps =
-            let a = admits-stores state rx store (length out) k.finds.admits in
-            acted-keeps (dropped (state_of state).header) (state_of state) rx store (admits-dropped state rx store (length out) k.finds.admits) refl a.rx-long a.store_long p (body_of received p) fits
+            let a = admits-stores k.finds.admits in
+            acted-keeps (dropped (state_of state).header) (state_of state) rx store (admits-dropped state (length out) (admits-state k.finds.admits)) refl a.rx-long a.store_long p (body_of received p) fits
 
         -- the slot that the loop's next turn looks at
         abbrev after : ChannelSlot
@@ -261,7 +261,7 @@ module _ (state rx store out received bytes : List ℕ) (ch : ChannelId) (h : He
         rests : Rests s after
         unfolding slot_for
         rests =
-            let w = admits-facts state rx store (length out) k.finds.admits in
+            let w = admits-facts state (length out) (admits-state k.finds.admits) in
             let full = w.slots.full in
             let most = w.limits.within.most-channels in
             let place = finds-place state rx store (length out) ch h s k.finds in

@@ -1,5 +1,5 @@
 -- What writing asks and promises inside. Assumes nothing.
-use Rattle.std.specs.Prelude.{ℕ, ◌≤◌, ◌<◌, ◌≡◌, true, false, List, [], length, Option, Some, None, Result, Ok, Err}
+use Rattle.std.specs.Prelude.{ℕ, ◌≤◌, ◌<◌, ◌≡◌, true, false, List, [], length, None, Ok}
 use Rattle.config.specs.Config.{Within}
 use Rattle.config.specs.Negotiated.{policy_of}
 use Rattle.slot.specs.declared.ChannelSlot.{ChannelSlot}

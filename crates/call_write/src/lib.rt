@@ -1,4 +1,5 @@
 // Sending bytes on a channel.
+// `as usize` widens a u32: std has no From for it, as usize may be narrower elsewhere.
 #![tactic(auto)]
 
 ghost use Rattle.std.specs.Prelude.{◌≡◌, min, max, length};
@@ -8,14 +9,14 @@ ghost use Rattle.call_write.specs.Promise.{WriteLeaves, WritePacketAsks, WritePa
 
 use call::Reply;
 use call::act::act_on;
-use call::admit::{admit, drop_pending, get, refused};
+use call::admit::{admit_out, drop_pending, get, refused};
+use call::ends::{ends, ends_with, not_there};
 use call::frames::{ids_in, put_write};
 use call::recv::{is_own, recv_pkt, unless_fault};
-use call::store::store_slot;
 use connection::{Answer, Refusal};
 use protocol::packet::Packet;
 use slot::{ChannelSlot, is_closed};
-use state::{Header, put_header};
+use state::Header;
 use table::ChannelId;
 
 // The least of the bytes left, the payload's maximum (at least 1) and the budget.
@@ -47,15 +48,12 @@ fn send_some(
         return refused(Refusal::OutShort);
     }
     let end = put_write(out, 0, n, ids_in(s), &bytes[0..len]);
-    store_slot(state, ch.slot, slot_send::spend(s, len, n.rx_policy()), h);
-    Reply {
-        answer: Answer::Written(len),
-        used,
-        written: end,
-    }
+    let spent = slot_send::spend(s, len, n.rx_policy());
+    ends_with(state, ch, spent, h, Answer::Written(len), used, end)
 }
 
-// The turn after the channel's own OKAY, with its slot.
+// The turn after the channel's own OKAY, with its slot. write_channel has the same tests and sends alike, but stores no slot where
+// nothing is sent, and looks at a packet where nothing may be.
 fn send_again(
     state: &mut [u8],
     ch: ChannelId,
@@ -69,27 +67,13 @@ fn send_again(
     ensures { SendAgainLeaves state.old ch s bytes.now used out.old result
         state.new out.new }
 {
-    let condition = s.state;
-    if is_closed(condition) {
-        store_slot(state, ch.slot, s, h);
-        return Reply {
-            answer: Answer::Refused(Refusal::ChannelClosed),
-            used,
-            written: 0,
-        };
+    if is_closed(s.state) {
+        let closed = Answer::Refused(Refusal::ChannelClosed);
+        return ends_with(state, ch, s, h, closed, used, 0);
     }
-    let n = h.negotiated;
-    let budget = slot_send::budget(s, n.rx_policy());
-    match budget {
+    match slot_send::budget(s, h.negotiated.rx_policy()) {
         Some(most) => send_some(state, ch, s, bytes, most, used, out, h),
-        None => {
-            store_slot(state, ch.slot, s, h);
-            Reply {
-                answer: Answer::Waiting,
-                used,
-                written: 0,
-            }
-        }
+        None => ends_with(state, ch, s, h, Answer::Waiting, used, 0),
     }
 }
 
@@ -108,17 +92,11 @@ fn write_ready(
     ensures { WriteReadyLeaves state.old ch s bytes.now payload.now used
         out.old result state.new out.new }
 {
-    let n = h.negotiated;
-    let readied = slot_send::apply_ready(s, payload, n.rx_policy());
-    match readied {
+    match slot_send::apply_ready(s, payload, h.negotiated.rx_policy()) {
         Ok(t) => send_again(state, ch, t, bytes, used, out, h),
         Err(fault) => {
-            put_header(state, h);
-            Reply {
-                answer: Answer::Refused(Refusal::BadCredit(fault)),
-                used,
-                written: 0,
-            }
+            let short = Answer::Refused(Refusal::BadCredit(fault));
+            ends(state, h, short, used, 0)
         }
     }
 }
@@ -141,30 +119,18 @@ fn write_packet(
         received.now out.old packet result state.new rx.new store.new
         out.new }
 {
-    let payload = Packet::payload(received, packet.data_length);
-    let used = Packet::frame_len(packet.data_length);
-    let command = packet.command;
-    let local = s.local;
-    if is_own(command.is_ready(), packet.arg1, local) {
+    let payload = packet.payload_in(received);
+    let used = packet.frame_len();
+    if is_own(packet.command.is_ready(), packet.arg1, s.local) {
         return write_ready(state, ch, s, bytes, payload, used, out, h);
     }
     if ids_in(s).closed_by(packet) {
-        store_slot(state, ch.slot, s.apply_close(), h);
-        return Reply {
-            answer: Answer::Refused(Refusal::ChannelClosed),
-            used,
-            written: 0,
-        };
+        let closed = Answer::Refused(Refusal::ChannelClosed);
+        return ends_with(state, ch, s.apply_close(), h, closed, used, 0);
     }
     let acted = act_on(state, rx, store, out, 0, h, packet, payload);
-    let fault = acted.fault;
-    let header = acted.header;
-    put_header(state, header);
-    Reply {
-        answer: unless_fault(fault, Answer::Waiting),
-        used,
-        written: acted.end,
-    }
+    let answer = unless_fault(acted.fault, Answer::Waiting);
+    ends(state, acted.header, answer, used, acted.end)
 }
 
 // Nothing may be sent before a packet is looked at.
@@ -184,27 +150,12 @@ fn wait_ack(
         received.now out.old result state.new rx.new store.new out.new }
 {
     if s.has_remote {
-        let n = h.negotiated;
-        let config = n.config;
-        let found = recv_pkt(received, config.max_payload);
-        return match found {
-            Err((answer, used)) => {
-                put_header(state, h);
-                Reply {
-                    answer,
-                    used,
-                    written: 0,
-                }
-            }
+        return match recv_pkt(received, h.negotiated.config.max_payload) {
+            Err((answer, used)) => ends(state, h, answer, used, 0),
             Ok(packet) => write_packet(state, rx, store, ch, s, bytes, received, out, h, packet),
         };
     }
-    put_header(state, h);
-    Reply {
-        answer: Answer::Refused(Refusal::ChannelClosed),
-        used: 0,
-        written: 0,
-    }
+    ends(state, h, Answer::Refused(Refusal::ChannelClosed), 0, 0)
 }
 
 // The first turn on a channel that is in the table.
@@ -223,18 +174,10 @@ fn write_channel(
     ensures { WriteChannelLeaves state.old rx.old store.old ch s bytes.now
         received.now out.old result state.new rx.new store.new out.new }
 {
-    let condition = s.state;
-    if is_closed(condition) {
-        put_header(state, h);
-        return Reply {
-            answer: Answer::Refused(Refusal::ChannelClosed),
-            used: 0,
-            written: 0,
-        };
+    if is_closed(s.state) {
+        return ends(state, h, Answer::Refused(Refusal::ChannelClosed), 0, 0);
     }
-    let n = h.negotiated;
-    let budget = slot_send::budget(s, n.rx_policy());
-    match budget {
+    match slot_send::budget(s, h.negotiated.rx_policy()) {
         Some(most) => send_some(state, ch, s, bytes, most, 0, out, h),
         None => wait_ack(state, rx, store, ch, s, bytes, received, out, h),
     }
@@ -255,22 +198,11 @@ fn write_step(
         received.now out.old result state.new rx.new store.new out.new }
 {
     if bytes.len() == 0 {
-        put_header(state, h);
-        return Reply {
-            answer: Answer::Written(0),
-            used: 0,
-            written: 0,
-        };
+        return ends(state, h, Answer::Written(0), 0, 0);
     }
-    let n = h.negotiated;
-    let config = n.config;
-    let found = get(state, config.channels, ch);
-    match found {
+    match get(state, h.negotiated.config.channels, ch) {
         Some(s) => write_channel(state, rx, store, ch, s, bytes, received, out, h),
-        None => {
-            put_header(state, h);
-            refused(Refusal::ChannelClosed)
-        }
+        None => not_there(state, h),
     }
 }
 
@@ -287,8 +219,7 @@ pub fn write(
     ensures { WriteLeaves state.old rx.old store.old ch bytes.now
         received.now out.old result state.new rx.new store.new out.new }
 {
-    let admitted = admit(state, rx.len(), store.len(), out.len());
-    match admitted {
+    match admit_out(state, rx.len(), store.len(), out.len()) {
         Err(refusal) => refused(refusal),
         Ok(h) => write_step(state, rx, store, ch, bytes, received, out, drop_pending(h)),
     }

@@ -1,5 +1,5 @@
 -- Received frames to the records of a capture, and back (docs/SCOPE.md, 12). Assumes nothing.
-use Rattle.std.specs.Prelude.{ℕ, ◌+◌, ◌≡◌, Bool, false, cond, List, ltb, Option, Some, None, Result, Ok, Err, is_ok, length}
+use Rattle.std.specs.Prelude.{ℕ, ◌+◌, Bool, false, cond, List, ltb, Option, Some, None, Result, Ok, Err, length}
 use Rattle.le.specs.Le.{num_of, part}
 use Rattle.protocol.specs.declared.packet.Packet.{Packet}
 use Rattle.protocol.specs.declared.packet.DecodeError.{DecodeError}
@@ -39,11 +39,6 @@ zero_time = record { seconds = 0; micros = 0 }
 -- a record's header at time 0: whether it was made, and the bytes that it is made in
 unfoldable pub head_for : ℕ → List ℕ → Composed
 head_for n head = write_head zero_time n head
-
--- what making it promises
-pub record MakesHead (o : Composed) (r : Bool) (head : List ℕ) : Type 0 where
-  pub made-is : r ≡ is_ok o.result
-  pub head-is : head ≡ o.out
 
 -- what reading a record gave: the length of its frame, or the refusal
 unfoldable pub read_of : Read → Result (Option ℕ) ReadError

@@ -3,12 +3,13 @@
 #![tactic(auto)]
 
 ghost use Rattle.std.specs.Prelude.{◌≡◌};
-ghost use Rattle.capture.specs.Capture.{is_long, taken_of, next_frame, head_for, next_record, MakesHead};
+ghost use Rattle.capture.specs.Capture.{is_long, taken_of, next_frame, head_for, next_record};
+ghost use Rattle.pcap.specs.Record.{Writes};
 
-use pcap::{ReadError, Time};
+use pcap::{ReadError, Time, WriteError};
 use protocol::packet::{DecodeError, Packet};
 
-// Whether a header is here that announces a longer frame than may be held.
+// Whether a header is here that announces a longer frame than may be held. `as usize` widens: Rust has no `From<u32>` for usize.
 #[tactic(auto, unfolding(crate::specs::Capture::is_long))]
 fn is_long(held: &[u8], hold: u32) -> bool
     ensures { result ≡ is_long hold held.now }
@@ -22,10 +23,7 @@ fn is_long(held: &[u8], hold: u32) -> bool
 fn taken(held: &[u8]) -> Result<Option<usize>, DecodeError>
     ensures { result ≡ taken_of held.now }
 {
-    match Packet::decode(held, Packet::MAX_PAYLOAD)? {
-        Some(packet) => Ok(Some(Packet::frame_len(packet.data_length))),
-        None => Ok(None),
-    }
+    Ok(Packet::decode(held, Packet::MAX_PAYLOAD)?.map(|packet| packet.frame_len()))
 }
 
 // How long the frame is that held bytes begin with, where frames of at most these many bytes, their headers with them, are held; none
@@ -40,16 +38,12 @@ pub fn next_frame(held: &[u8], hold: u32) -> Result<Option<usize>, DecodeError>
     taken(held)
 }
 
-// The header of a frame's record, at time 0, and whether it was made. The record is it and the frame.
+// The header of a frame's record, at time 0. The record is it and the frame.
 #[tactic(auto, unfolding(crate::specs::Capture::head_for))]
-pub fn make_head(len: usize, head: &mut [u8]) -> bool
-    ensures { MakesHead (head_for len head.old) result head.new }
+pub fn make_head(len: usize, head: &mut [u8]) -> Result<usize, WriteError>
+    ensures { Writes (head_for len head.old) result head.new }
 {
-    let time = Time {
-        seconds: 0,
-        micros: 0,
-    };
-    pcap::write_head(time, len, head).is_ok()
+    pcap::write_head(Time::default(), len, head)
 }
 
 // How long the frame is of the record that held bytes begin with, where frames of at most these many bytes are held; none while the

@@ -1,13 +1,12 @@
 -- The check of a payload (protocol.txt, "protocol overview and basics": data_crc32; it is a sum, see
 -- docs/DIFFERENCES.md). Assumes nothing.
-use Rattle.std.specs.Prelude.{ℕ, ◌+◌, ◌%◌, ◌^◌, cond, List, [], ◌∷◌, nat_le}
+use Rattle.std.specs.Prelude.{ℕ, ◌%◌, ◌^◌, cond, List, sum, nat_le}
 use Rattle.checksum.specs.declared.Checksum.{Checksum}
 use Rattle.checksum.specs.declared.Checksum.TheVariants.{Compute, Skip}
 
 -- the sum of some bytes
 unfoldable pub total : List ℕ → ℕ
-total [] = 0
-total (b ∷ l) = b + total l
+total l = sum l
 
 -- the sum of the payload's bytes modulo 2^32
 unfoldable pub sum_of : List ℕ → ℕ

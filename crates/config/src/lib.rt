@@ -1,10 +1,14 @@
 // A connection's resource limits, and what follows from them for each channel.
+// `as usize` widens a u32: std has no From for it, as usize may be narrower elsewhere.
+// `Within` is a fact that callers show, and no part of the type: limits come unchecked from lent bytes, and 7 and 13 answer for bad ones.
 #![tactic(auto)]
 
 pub mod negotiated;
 
 ghost use Rattle.std.specs.Prelude.{◌≡◌};
 ghost use Rattle.config.specs.Config.{within_limits, Within, cap_of, ceiling_of, watermark_of, opening_credit, rx_store_len, open_store_len, stores_fit};
+
+use protocol::packet::Packet;
 
 // Limits of one connection.
 #[derive(Clone, Copy)]
@@ -27,25 +31,16 @@ impl ConnectionConfig {
     pub const MAX_INITIAL_ACK_BYTES: u32 = 2_147_483_647;
 
     // Whether every limit is kept (docs/SCOPE.md, 3).
+    #[tactic(auto, unfolding(crate::specs::Config::within_limits))]
     pub fn within_limits(self) -> bool
         ensures { result ≡ within_limits self }
     {
-        if self.channels < 1 {
-            return false;
-        }
-        if self.channels > ConnectionConfig::MAX_CHANNELS {
-            return false;
-        }
-        if self.max_payload < 1 {
-            return false;
-        }
-        if self.max_payload > protocol::packet::Packet::MAX_PAYLOAD {
-            return false;
-        }
-        if self.max_rx_per_channel > ConnectionConfig::MAX_RX_PER_CHANNEL {
-            return false;
-        }
-        self.initial_ack_bytes <= ConnectionConfig::MAX_INITIAL_ACK_BYTES
+        1 <= self.channels
+            && self.channels <= ConnectionConfig::MAX_CHANNELS
+            && 1 <= self.max_payload
+            && self.max_payload <= Packet::MAX_PAYLOAD
+            && self.max_rx_per_channel <= ConnectionConfig::MAX_RX_PER_CHANNEL
+            && self.initial_ack_bytes <= ConnectionConfig::MAX_INITIAL_ACK_BYTES
     }
 
     // Bytes that one channel may hold unread: at least one payload always fits.
@@ -100,13 +95,11 @@ impl ConnectionConfig {
     }
 
     // Whether neither store is under its length.
+    #[tactic(auto, unfolding(crate::specs::Config::stores_fit))]
     pub fn stores_fit(self, rx: usize, opens: usize) -> bool
         requires { Within self }
         ensures { result ≡ stores_fit self rx opens }
     {
-        if rx < self.rx_store_len() {
-            return false;
-        }
-        opens >= self.open_store_len()
+        self.rx_store_len() <= rx && self.open_store_len() <= opens
     }
 }

@@ -12,7 +12,8 @@ use protocol::packet::Packet;
 // How received bytes are acknowledged and bounded, for every channel alike.
 #[derive(Clone, Copy)]
 pub struct RxPolicy {
-    // Credit is given back as bytes are read, and not one OKAY for each WRTE.
+    // Credit is given back as bytes are read, and not one OKAY for each WRTE. A flag beside numbers: the watermark is
+    // set in both modes, public promises name it, and an enum of two modes would leave it out of one.
     pub delayed: bool,
     pub rx_cap: usize,
     pub watermark: usize,
@@ -28,7 +29,7 @@ pub struct Negotiated {
 }
 
 impl Negotiated {
-    // From the device's CNXN, whose arguments are its version and its maximum payload.
+    // From the device's CNXN, whose arguments are its version and its maximum payload. They come one by one, from its frame or from C.
     pub fn new(
         host_delayed_ack: bool,
         device_delayed_ack: bool,
@@ -46,15 +47,15 @@ impl Negotiated {
         }
     }
 
+    #[tactic(auto, unfolding(crate::specs::Negotiated::policy_of))]
     pub fn rx_policy(self) -> RxPolicy
         requires { Within self.config }
         ensures { result ≡ policy_of self }
     {
-        let config = self.config;
         RxPolicy {
             delayed: self.delayed_ack,
-            rx_cap: config.rx_cap(),
-            watermark: config.rx_watermark(),
+            rx_cap: self.config.rx_cap(),
+            watermark: self.config.rx_watermark(),
         }
     }
 
@@ -65,13 +66,13 @@ impl Negotiated {
     }
 
     // What an OPEN carries in arg1: the credit, or 0 where acknowledgements are not delayed.
+    #[tactic(auto, unfolding(crate::specs::Negotiated::offered_credit))]
     pub fn advertised_credit(self) -> u32
         requires { Within self.config }
         ensures { result ≡ offered_credit self }
     {
         if self.delayed_ack {
-            let config = self.config;
-            return config.advertised_ack_bytes();
+            return self.config.advertised_ack_bytes();
         }
         0
     }

@@ -26,7 +26,7 @@ use Rattle.slot.specs.declared.ChannelError.{ChannelError}
 use Rattle.slot.specs.declared.ChannelFault.TheVariants.{RxOverflow, BadCredit, UnexpectedCommand}
 use Rattle.slot.specs.declared.ChannelSlot.{ChannelSlot}
 use Rattle.slot.specs.declared.Settled.{Settled as SettledSlot}
-use Rattle.slot.specs.declared.Wrote.{Wrote}
+use Rattle.slot.proofs.Wrote.{Wrote}
 use Rattle.slot.specs.Slot.{with_total, total_with, with_numbers, acked, is_ack, is_opening, is_failed, is_closed, opened_by, opened_of, ready_by, ready_of, held_of, acks_now, buffered_with, wrote_of, some_len, delivered_of, ack_len_of, settled_by, settled_some, settled_of, has_data, taken_of, closed_slot, SlotOk}
 use Rattle.credit.specs.Credit.{credit_of as credit_in}
 use Rattle.slot.proofs.Kept.{pick, ReadiedSound, opened-sound, ready-sound, buffered-sound, closed-sound}
@@ -242,12 +242,12 @@ module _ (Q : Type 0) (p : RxPolicy) (n : ℕ) (ss : List ChannelSlot) (i : ℕ)
 
   -- a WRTE
   goes-wrote : (f : ℕ) (remote : RemoteId) (payload rx : List ℕ)
-      → Goes (wrote_by p f (slot_in ss f) remote payload rx (wrote_of (slot_in ss f) p (length payload)).slot (wrote_of (slot_in ss f) p (length payload)).decision).step
+      → Goes (wrote_by p f (slot_in ss f) remote payload rx (wrote_of (slot_in ss f) p (length payload))).step
   unfolding wrote_of wrote_by acks_now buffered_with
   goes-wrote f remote payload rx =
       let s = slot_in ss f in
       let k = length payload in
-      let G : Wrote → Type 0 = λ w. Goes (wrote_by p f s remote payload rx w.slot w.decision).step in
+      let G : Wrote → Type 0 = λ w. Goes (wrote_by p f s remote payload rx w).step in
       pick G (is_opening s.state) (λ o. goes_left (faulted f s remote UnexpectedCommand) tt)
       (λ o. pick G (ltb p.rx_cap (held_of s + k)) (λ h. goes_left (faulted f s remote RxOverflow) tt)
       (λ h. let b = ltb-false p.rx_cap (held_of s + k) h in

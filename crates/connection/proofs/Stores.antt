@@ -34,10 +34,11 @@ use Rattle.table.specs.declared.Want.TheVariants.{Local}
 use Rattle.table.specs.Table.{place_of}
 use Rattle.table_dispatch.specs.declared.DispatchOutcome.{DispatchOutcome}
 use Rattle.table_dispatch.specs.declared.DispatchOutcome.TheVariants.{AckWrite, CreditGranted, SlotClosed, DataBuffered, IncomingOpen, CancelQueuedOpen, StrayReady, ChannelFault, Unmatched}
+use Rattle.slot.proofs.Wrote.{Wrote}
 use Rattle.table_dispatch.specs.Dispatch.{Dispatched, wrote_by, wrote_at, write_of, route_of, dispatch_of}
 use Rattle.connection.specs.declared.Refusal.{Refusal}
 use Rattle.connection.specs.declared.Refusal.TheVariants.{StoreShort, OutShort, BrokenState}
-use Rattle.connection.specs.Answer.{refusal_number, answer_number}
+use Rattle.connection.specs.Answer.{answer_number}
 use Rattle.connection.specs.Act.{Acted, pushed_by, acted_by, table_of, act_on}
 use Rattle.connection.specs.Calls.{Lent, Outcome, untouched, ends, checked, checked_out, dropped, received_by, received_of, body_of, frame_len, dispatch_by, dispatch_step, dispatch_outcome}
 use Rattle.connection.proofs.Decoding.{packet-room}
@@ -46,8 +47,6 @@ use Rattle.connection.proofs.WholeCalls.{dispatch-kept}
 use Rattle.protocol.specs.declared.packet.DecodeError.TheVariants.{InvalidCommand as WordInvalid, InvalidMagic as MagicInvalid, PayloadTooLarge as LengthTooLarge, InvalidChecksum as SumInvalid}
 use Rattle.protocol.specs.declared.packet.DecodeError.{DecodeError}
 use Rattle.std.specs.Prelude.{Option, Some, None, Result, Ok, Err}
-use Rattle.slot.specs.declared.ChannelFault.TheVariants.{RxOverflow, UnexpectedCommand}
-use Rattle.slot.specs.declared.ChannelFault.{ChannelFault as SlotFault}
 use Rattle.connection.specs.declared.Answer.{Answer}
 
 -- two outcomes that a caller can tell apart by the stores' bytes alone
@@ -68,12 +67,11 @@ module _ (rx rx₂ : List ℕ) where
   abbrev Alike : Dispatched → Dispatched → Type 0
   Alike d e = d.step ≡ e.step
 
-  wrote-by : (p : RxPolicy) (i : ℕ) (s : ChannelSlot) (remote : RemoteId) (payload : List ℕ) (t : ChannelSlot) (a : Result (Option ℕ) SlotFault)
-      → Alike (wrote_by p i s remote payload rx t a) (wrote_by p i s remote payload rx₂ t a)
+  wrote-by : (p : RxPolicy) (i : ℕ) (s : ChannelSlot) (remote : RemoteId) (payload : List ℕ) (r : Wrote)
+      → Alike (wrote_by p i s remote payload rx r) (wrote_by p i s remote payload rx₂ r)
   unfolding wrote_by
-  wrote-by p i s remote payload t (Ok (Some len)) = refl
-  wrote-by p i s remote payload t (Ok None) = refl
-  wrote-by p i s remote payload t (Err why) = refl
+  wrote-by p i s remote payload (Ok w) = refl
+  wrote-by p i s remote payload (Err why) = refl
 
   both : (t : Bool) (d d₂ e e₂ : Dispatched) → Alike d d₂ → Alike e e₂ → Alike (cond t d e) (cond t d₂ e₂)
   both true d d₂ e e₂ a b = a
@@ -81,7 +79,7 @@ module _ (rx rx₂ : List ℕ) where
 
   wrote-at : (p : RxPolicy) (i : ℕ) (s : ChannelSlot) (remote : RemoteId) (payload : List ℕ) → Alike (wrote_at p i s remote payload rx) (wrote_at p i s remote payload rx₂)
   unfolding wrote_at
-  wrote-at p i s remote payload = both (is_failed s.failed) _ _ _ _ refl (wrote-by p i s remote payload _ _)
+  wrote-at p i s remote payload = both (is_failed s.failed) _ _ _ _ refl (wrote-by p i s remote payload _)
 
   write-of : (p : RxPolicy) (n : ℕ) (ss : List ChannelSlot) (remote : RemoteId) (local : LocalId) (payload : List ℕ)
       → Alike (write_of p n ss remote local payload rx) (write_of p n ss remote local payload rx₂)

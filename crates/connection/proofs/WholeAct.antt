@@ -24,7 +24,7 @@ use Rattle.state_whole.proofs.WholeLaws.{Whole}
 use Rattle.table_dispatch.proofs.KeepLaws.{AnswerFits, TableKeeps, dispatch-keeps}
 use Rattle.incoming.proofs.QueueLaws.{QueueKeeps, NoOffer, PushedAs, push-keeps, withdraw-keeps}
 use Rattle.slot.specs.declared.ChannelFault.{ChannelFault as SlotFault}
-use Rattle.std.specs.Prelude.{Option, Some, None, Result, Ok, Err}
+use Rattle.std.specs.Prelude.{Option, Some, None}
 
 -- what a packet leaves: a whole state once its header is stored, channels in their places, both stores' lengths
 pub record ActedKeeps (n : Negotiated) (c : Connection) (rx store : ℕ) (a : Acted) : Type 0 where

@@ -32,7 +32,7 @@ use Rattle.table.specs.Table.{wanted_by, place_of, next_local_id, numbered, allo
 use Rattle.connection.specs.declared.Answer.{Answer}
 use Rattle.connection.specs.declared.Answer.TheVariants.{Done, Waiting, Nothing, Opened, Settled, Read, Written, Front as FrontIs, Numbers, Refused}
 use Rattle.connection.specs.declared.Refusal.TheVariants.{PayloadTooLarge, BadCredit, UnexpectedCommand, OutShort, ChannelClosed, NoFreeChannels}
-use Rattle.connection.specs.Answer.{refusal_number, answer_number}
+use Rattle.connection.specs.Answer.{answer_number}
 use Rattle.connection.specs.Act.{Acted, act_on, PacketFits}
 use Rattle.connection.specs.Calls.{looked, numbers_in, numbers_for, Lent, Work, begun, then, then_acted, ends, dropped, pending_for, policy, ids_in, is_there, slot_for, ack_frames, fault_refusal, error_refusal, unless_fault, received_of, body_of, frame_len, dispatch_by, dispatch_step, settled_as, settle_step, taken_by, take_step, reread, read_settled, read_acted, is_direct, read_direct, read_by, read_taken, read_first, read_step, send_len, send_some, send_by, send_again, write_readied, write_acted, write_act, write_by, write_first, write_on, write_step, close_step, take_front_by, take_front_step, open_on, still_pending, open_readied, open_acted, open_by, open_step, offer_in, is_offered, reject_on, accept_on, accept_step, reject_step, let_go_step}
 use Rattle.connection.specs.Frames.{Frame, frames_bytes}

@@ -26,7 +26,7 @@ use Rattle.connection.specs.declared.Answer.{Answer}
 use Rattle.connection.specs.declared.Answer.TheVariants.{Refused}
 use Rattle.connection.specs.declared.Refusal.{Refusal}
 use Rattle.connection.specs.declared.Refusal.TheVariants.{StoreShort, OutShort}
-use Rattle.connection.specs.Answer.{refusal_number, answer_number}
+use Rattle.connection.specs.Answer.{answer_number}
 use Rattle.connection.specs.Act.{Acted}
 use Rattle.connection.specs.Calls.{Lent, Outcome, looked, untouched, Work, begun, then, then_acted, ends, checked, checked_out, dropped, is_there, slot_for}
 use Rattle.connection.specs.Frames.{Frame}

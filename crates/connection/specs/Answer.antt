@@ -1,5 +1,5 @@
 -- The numbers and values of answers (docs/SCOPE.md, 6; docs/LAYOUT.md, "The answer"). Assumes nothing.
-use Rattle.std.specs.Prelude.{ℕ, cond, List, [], ◌∷◌, Option, Some, None, Result, Ok, Err}
+use Rattle.std.specs.Prelude.{ℕ, cond, List, [], ◌∷◌, Option, Some, None}
 use Rattle.connection.specs.declared.Answer.{Answer}
 use Rattle.connection.specs.declared.Answer.TheVariants.{Done, Waiting, Nothing, Opened, Settled, Read, Written, Front, Numbers, Refused}
 use Rattle.credit.specs.Credit.{credit_fault_number}

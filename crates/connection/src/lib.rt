@@ -1,5 +1,5 @@
-// What a connection's calls answer. The calls are defined in specs/; their code is in calls, transfer, reading, writing and
-// opening.
+// What a connection's calls answer. The calls are defined in specs/; their code is in `call`, which has what they share, and in a crate
+// for each, named after it.
 #![tactic(auto)]
 
 ghost use Rattle.std.specs.Prelude.{◌≡◌, cond};
@@ -7,7 +7,7 @@ ghost use Rattle.connection.specs.Answer.{refusal_number, answer_number};
 ghost use Rattle.connection.specs.Calls.{fault_refusal, error_refusal};
 
 use credit::CreditFault;
-use refusal::Numbered;
+use refusal::{NOTHING, Numbered, WAITING};
 use slot::ids::RemoteId;
 use slot::{ChannelError, ChannelFault};
 use table::ChannelId;
@@ -21,7 +21,7 @@ pub enum Refusal {
     InvalidMagic,
     PayloadTooLarge,
     InvalidChecksum,
-    // 5, 20 and 21.
+    // 5, 20 and 21. Two calls make it of a CreditFault, by its name, which says more there than a From would.
     BadCredit(CreditFault),
     UnexpectedCommand,
     BadConfig,
@@ -51,6 +51,7 @@ pub enum Answer {
     // A channel's numbers: whether it is closed, what our OKAYs allowed the device, bytes buffered and unacknowledged, and the send
     // budget in two's complement.
     Numbers(bool, usize, u32, usize, u64),
+    // A case, not a Result's error: a call that refuses may have used bytes and written frames, so that `?` never applies.
     Refused(Refusal),
 }
 
@@ -118,8 +119,8 @@ impl Answer {
     {
         match self {
             Answer::Done => 0,
-            Answer::Waiting => 100,
-            Answer::Nothing => 101,
+            Answer::Waiting => WAITING,
+            Answer::Nothing => NOTHING,
             Answer::Opened(_) => 0,
             Answer::Settled(_) => 0,
             Answer::Read(_) => 0,

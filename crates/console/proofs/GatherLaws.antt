@@ -117,19 +117,30 @@ kept-short : (wanted kind : ℕ) (payload : List ℕ) → length (kept wanted ki
 unfolding kept
 kept-short wanted kind payload = by-test (eqb kind wanted) (λ t. rw t (omega arith)) (λ t. rw t (omega arith))
 
+-- what is lent of a frame's data, and the room for it
+part-lent : (s : List ℕ) (at a n : ℕ) → part (take (length s - at) (drop at s)) a n ≡ part s (at + a) n
+unfolding part
+part-lent s at a n = rw (lent-rest s at, drop-drop a at s)
+
+pub gathering-room : (wanted : ℕ) (s out₀ out : List ℕ) (at end : ℕ) (x : Found) (bytes : List ℕ) → Gathering wanted s out₀ out at end → Here s at x
+    → bytes ≡ part (take (length s - at) (drop at s)) x.at x.length → end + length bytes ≤ length out
+gathering-room wanted s out₀ out at end x bytes g h e =
+    let n = ap length (e ∙ part-lent s at x.at x.length) ∙ length_part s (at + x.at) x.length (omega (arith, h.place, h.used-is, h.within)) in
+    omega (arith, g.room, g.same, g.fits, g.within, h.used-is, h.within)
+
 -- a frame's data is gathered
-pub gathering-goes : (wanted : ℕ) (s out₀ out : List ℕ) (at end : ℕ) (x : Found) (out' : List ℕ) (end' : ℕ) → Gathering wanted s out₀ out at end → Here s at x
-    → Keeps (kept wanted (kind_number x.kind) (take (at + x.at + x.length - (at + x.at)) (drop (at + x.at) s))) end out end' out'
+pub gathering-goes : (wanted : ℕ) (s out₀ out : List ℕ) (at end : ℕ) (x : Found) (bytes out' : List ℕ) (end' : ℕ) → Gathering wanted s out₀ out at end → Here s at x
+    → bytes ≡ part (take (length s - at) (drop at s)) x.at x.length → Keeps (kept wanted (kind_number x.kind) bytes) end out end' out'
     → Gathering wanted s out₀ out' (at + x.used) end'
 unfolding of_kind ahead
-gathering-goes wanted s out₀ out at end x out' end' g h k =
+gathering-goes wanted s out₀ out at end x bytes out' end' g h e k =
     let p = part s (at + x.at) x.length in
     let f : Frame = record { kind = kind_number x.kind; payload = p; code = unwrap_or x.code 0 } in
     let b = g.before in
     let o = of_kind wanted b in
     let y = kept wanted (kind_number x.kind) p in
     let ly : length y ≤ x.length = omega (arith, kept-short wanted (kind_number x.kind) p, length_part s (at + x.at) x.length (omega arith)) in
-    let same = ap (kept wanted (kind_number x.kind)) (lent-part s (at + x.at) x.length) in
+    let same = ap (kept wanted (kind_number x.kind)) (e ∙ part-lent s at x.at x.length) in
     let all : of_kind wanted (b ++ (f ∷ [])) ≡ o ++ y = of-kind-append wanted b (f ∷ []) ∙ ap (λ (l : List ℕ). o ++ l) (append-nil y) in
     let la = length-append o y in
     let n : end' ≡ end + length y = k.end_is ∙ ap (λ (l : List ℕ). end + length l) same in

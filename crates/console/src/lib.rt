@@ -33,19 +33,20 @@ fn keep(wanted: u32, kind: Kind, payload: &[u8], out: &mut [u8], end: usize) -> 
 }
 
 // The data of all frames of a kind, at the start of out. The kind comes as a number of any size, as a caller outside has it: where it
-// names none, nothing is gathered.
+// names none, nothing is gathered. `Kind` in its place would ask more of a caller.
 pub fn gather(wanted: u32, received: &[u8], out: &mut [u8]) -> Gathered
     requires { length received.now ≤ length out.old }
     ensures { Gathers wanted received.now out.old result out.new }
 {
     let mut used = 0;
     let mut length = 0;
+    // A step is as long as each frame says, and why there are no more is kept: an iterator of frames would have this loop's body as its
+    // `next`, and a field for the refusal beside it.
     let refusal = loop {
-        match read_frame(&received[used..]) {
+        let rest = &received[used..];
+        match read_frame(rest) {
             Ok(Some(frame)) => {
-                let from = used + frame.at;
-                let to = from + frame.length;
-                length = keep(wanted, frame.kind, &received[from..to], out, length);
+                length = keep(wanted, frame.kind, frame.payload(rest), out, length);
                 used += frame.used;
             }
             Ok(None) => break None,

@@ -35,7 +35,7 @@ pub trait Way: Copy {
     // It is held, with what stands ahead of it.
     ghost here: { (s : List ℕ) → (n : ℕ) → next s ≡ Ok (Some n) → AHEAD + n ≤ length s };
 
-    // Writes what goes ahead of a frame of n bytes. Answers whether all of it was written.
+    // Writes what goes ahead of a frame of n bytes. Answers whether all of it was written: why it was not, nothing here asks.
     fn put_ahead<W: Write>(self, output: &mut W, n: usize) -> bool;
 }
 
@@ -59,8 +59,8 @@ impl Way for ToRecords {
     }
 
     fn put_ahead<W: Write>(self, output: &mut W, n: usize) -> bool {
-        let mut head = [0u8; 16];
-        capture::make_head(n, &mut head) && output.write_all(&head).is_ok()
+        let mut head = [0u8; pcap::RECORD_SIZE];
+        capture::make_head(n, &mut head).is_ok() && output.write_all(&head).is_ok()
     }
 }
 

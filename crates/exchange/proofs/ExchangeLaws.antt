@@ -5,19 +5,18 @@ use mathlib.Core.List.{List, [], ◌∷◌}
 use Prim.Native.Nat.{ℕ, ◌≤◌, ◌<◌, ◌^◌}
 use native.Mathlib.Omega.{arith}
 use lib.Dec.{eqb, ltb, lit<}
-use borrow.Author.Tests.{eqb-true, eq-eqb, ltb-true, ltb-false, not-true}
+use borrow.Author.Tests.{eqb-true, ltb-true, ltb-false, not-true}
 use Rattle.le.specs.Le.{num_of}
 use Rattle.le.proofs.Parts.{by-test}
 use Rattle.le.proofs.RowLaws.{never}
 use Rattle.exchange.specs.declared.SyncId.{SyncId}
 use Rattle.exchange.specs.declared.SyncId.TheVariants.{List as LIST, Recv as RECV, Send as SEND, Stat as STAT, Data as DATA, Done as DONE, Quit as QUIT, Dent as DENT, Okay as OKAY, Fail as FAIL, Lis2 as LIS2, Sta2 as STA2, Dnt2 as DNT2}
+use Rattle.exchange.specs.declared.StatLayout.TheVariants.{V1, V2}
 use Rattle.exchange.specs.declared.Layout.{Layout}
-use Rattle.exchange.specs.declared.Layout.TheVariants.{Text, Number, Stat, Entry, End, StatV2, EntryV2, EndV2}
+use Rattle.exchange.specs.declared.Layout.TheVariants.{Text, Number, Stat, Entry, End}
 use Rattle.exchange.specs.declared.Exchange.{Exchange}
 use Rattle.exchange.specs.Exchange.{letters_of, word_of, head_of, longest_of, layout_number, Row, rows_of, found_of, exchange_of, exchange_v2_of}
-use denote.Enum.Bare.{sameb, same_true}
-use borrow.Author.Rules.{rules}
-use Rattle.exchange.specs.contracts.Layout.{the_type}
+use Rattle.exchange.specs.contracts.LayoutPartialEq.TheImpl.{ghosts}
 use Rattle.std.specs.Int.{from_le_bytes, w32}
 use Rattle.std.specs.List.{find}
 use Rattle.std.specs.Prelude.{◌==◌, Option, Some}
@@ -163,47 +162,59 @@ pub heads : (k : Layout) → Heads k
 unfolding head_of longest_of
 heads Text = record { least = omega arith; most = omega arith; short = omega arith }
 heads Number = record { least = omega arith; most = omega arith; short = omega arith }
-heads Stat = record { least = omega arith; most = omega arith; short = omega arith }
-heads Entry = record { least = omega arith; most = omega arith; short = omega arith }
-heads End = record { least = omega arith; most = omega arith; short = omega arith }
-heads StatV2 = record { least = omega arith; most = omega arith; short = omega arith }
-heads EntryV2 = record { least = omega arith; most = omega arith; short = omega arith }
-heads EndV2 = record { least = omega arith; most = omega arith; short = omega arith }
+heads (Stat V1) = record { least = omega arith; most = omega arith; short = omega arith }
+heads (Entry V1) = record { least = omega arith; most = omega arith; short = omega arith }
+heads (End V1) = record { least = omega arith; most = omega arith; short = omega arith }
+heads (Stat V2) = record { least = omega arith; most = omega arith; short = omega arith }
+heads (Entry V2) = record { least = omega arith; most = omega arith; short = omega arith }
+heads (End V2) = record { least = omega arith; most = omega arith; short = omega arith }
 
 -- a layout's number is its own
 abbrev layout_at : ℕ → Layout
 layout_at n =
-    cond (eqb n 0) Text (cond (eqb n 1) Number (cond (eqb n 2) Stat (cond (eqb n 3) Entry (cond (eqb n 4) End (cond (eqb n 5) StatV2 (cond (eqb n 6) EntryV2 EndV2))))))
+    cond (eqb n 0) Text (cond (eqb n 1) Number (cond (eqb n 2) (Stat V1) (cond (eqb n 3) (Entry V1) (cond (eqb n 4) (End V1) (cond (eqb n 5) (Stat V2) (cond (eqb n 6) (Entry V2) (End V2)))))))
 
 layout-at : (k : Layout) → layout_at (layout_number k) ≡ k
 unfolding layout_number
 layout-at Text = refl
 layout-at Number = refl
-layout-at Stat = refl
-layout-at Entry = refl
-layout-at End = refl
-layout-at StatV2 = refl
-layout-at EntryV2 = refl
-layout-at EndV2 = refl
+layout-at (Stat V1) = refl
+layout-at (Entry V1) = refl
+layout-at (End V1) = refl
+layout-at (Stat V2) = refl
+layout-at (Entry V2) = refl
+layout-at (End V2) = refl
 
 pub same-layout-number : (a b : Layout) → layout_number a ≡ layout_number b → a ≡ b
 same-layout-number a b e = sym (layout-at a) ∙ ap layout_at e ∙ layout-at b
 
 -- the derived test of two layouts is that of their numbers
-same_self : (a : Layout) → sameb the_type a a ≡ true
-same_self Text = refl
-same_self Number = refl
-same_self Stat = refl
-same_self Entry = refl
-same_self End = refl
-same_self StatV2 = refl
-same_self EntryV2 = refl
-same_self EndV2 = refl
+by-layout : (P : Layout → Type 0) → P Text → P Number → P (Stat V1) → P (Entry V1) → P (End V1) → P (Stat V2) → P (Entry V2) → P (End V2) → (k : Layout) → P k
+by-layout P a b c d e f g h Text = a
+by-layout P a b c d e f g h Number = b
+by-layout P a b c d e f g h (Stat V1) = c
+by-layout P a b c d e f g h (Entry V1) = d
+by-layout P a b c d e f g h (End V1) = e
+by-layout P a b c d e f g h (Stat V2) = f
+by-layout P a b c d e f g h (Entry V2) = g
+by-layout P a b c d e f g h (End V2) = h
 
-pub same_by_number : (a b : Layout) → sameb the_type a b ≡ eqb (layout_number a) (layout_number b)
+abbrev Tests : Layout → Layout → Type 0
+Tests a b = ghosts.eq a b ≡ eqb (layout_number a) (layout_number b)
+
+with-each : (a : Layout) → Tests a Text → Tests a Number → Tests a (Stat V1) → Tests a (Entry V1) → Tests a (End V1) → Tests a (Stat V2) → Tests a (Entry V2) → Tests a (End V2) → (b : Layout) → Tests a b
+with-each a = by-layout (Tests a)
+
+pub same_by_number : (a b : Layout) → ghosts.eq a b ≡ eqb (layout_number a) (layout_number b)
+unfolding layout_number
 same_by_number a b =
-    by-test (eqb (layout_number a) (layout_number b))
-    (λ t. let e = same-layout-number a b (eqb-true (layout_number a) (layout_number b) t) in rw (t, e, same_self b))
-    (λ f. by-test (sameb the_type a b)
-    (λ t. let e = same_true the_type (search rules) a b t in never (sym f ∙ eq-eqb (layout_number a) (layout_number b) (ap layout_number e)))
-    (λ g. g ∙ sym f))
+    by-layout (λ (k : Layout). Tests k b)
+    (with-each Text refl refl refl refl refl refl refl refl b)
+    (with-each Number refl refl refl refl refl refl refl refl b)
+    (with-each (Stat V1) refl refl refl refl refl refl refl refl b)
+    (with-each (Entry V1) refl refl refl refl refl refl refl refl b)
+    (with-each (End V1) refl refl refl refl refl refl refl refl b)
+    (with-each (Stat V2) refl refl refl refl refl refl refl refl b)
+    (with-each (Entry V2) refl refl refl refl refl refl refl refl b)
+    (with-each (End V2) refl refl refl refl refl refl refl refl b)
+    a

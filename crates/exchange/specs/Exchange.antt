@@ -1,12 +1,14 @@
 -- The ids of the sync messages and the exchanges that have them (SYNC.TXT; docs/SCOPE.md, 10, for QUIT, FAIL and the
 -- numbers of a listing's DONE, and 12 for LIS2, STA2 and DNT2). Assumes nothing.
-use Rattle.std.specs.Prelude.{ℕ, Bool, false, cond, List, [], ◌∷◌, ltb, eqb, ◌==◌, Option}
+use Rattle.std.specs.Prelude.{ℕ, ◌+◌, Bool, false, cond, List, [], ◌∷◌, ltb, eqb, ◌==◌, Option}
 use Rattle.std.specs.List.{find}
 use Rattle.le.specs.Le.{num_of}
 use Rattle.exchange.specs.declared.SyncId.{SyncId}
 use Rattle.exchange.specs.declared.SyncId.TheVariants.{List as LIST, Recv as RECV, Send as SEND, Stat as STAT, Data as DATA, Done as DONE, Quit as QUIT, Dent as DENT, Okay as OKAY, Fail as FAIL, Lis2 as LIS2, Sta2 as STA2, Dnt2 as DNT2}
+use Rattle.exchange.specs.declared.StatLayout.{StatLayout}
+use Rattle.exchange.specs.declared.StatLayout.TheVariants.{V1, V2}
 use Rattle.exchange.specs.declared.Layout.{Layout}
-use Rattle.exchange.specs.declared.Layout.TheVariants.{Text, Number, Stat, Entry, End, StatV2, EntryV2, EndV2}
+use Rattle.exchange.specs.declared.Layout.TheVariants.{Text, Number, Stat, Entry, End}
 use Rattle.exchange.specs.declared.Exchange.{Exchange}
 use Rattle.exchange.specs.declared.Exchange.TheVariants.{Requests, ListReplies, StatReplies, RecvReplies, SendReplies, ListV2Replies, StatV2Replies, Unnamed}
 
@@ -35,38 +37,37 @@ unfoldable pub is_over : SyncId → ℕ → Bool
 is_over DATA n = ltb 65_536 n
 is_over _ n = false
 
--- bytes ahead of the text: the id, and one word, three or four; of the second stat layout 72, and a word
+-- bytes of a stat: three words; of the second layout 68
+abbrev pub stat_length : StatLayout → ℕ
+stat_length V1 = 12
+stat_length V2 = 68
+
+-- bytes ahead of the text: the id, and a word, a stat, or a stat and a word
 unfoldable pub head_of : Layout → ℕ
 head_of Text = 8
 head_of Number = 8
-head_of Stat = 16
-head_of Entry = 20
-head_of End = 20
-head_of StatV2 = 72
-head_of EntryV2 = 76
-head_of EndV2 = 76
+head_of (Stat v) = 4 + stat_length v
+head_of (Entry v) = 8 + stat_length v
+head_of (End v) = 8 + stat_length v
 
 -- the longest text that its length can say; no text where there is no length
 unfoldable pub longest_of : Layout → ℕ
 longest_of Text = 0xffff_ffff
 longest_of Number = 0
-longest_of Stat = 0
-longest_of Entry = 0xffff_ffff
-longest_of End = 0
-longest_of StatV2 = 0
-longest_of EntryV2 = 0xffff_ffff
-longest_of EndV2 = 0
+longest_of (Stat v) = 0
+longest_of (Entry v) = 0xffff_ffff
+longest_of (End v) = 0
 
 -- layouts are told apart by a number
 unfoldable pub layout_number : Layout → ℕ
 layout_number Text = 0
 layout_number Number = 1
-layout_number Stat = 2
-layout_number Entry = 3
-layout_number End = 4
-layout_number StatV2 = 5
-layout_number EntryV2 = 6
-layout_number EndV2 = 7
+layout_number (Stat V1) = 2
+layout_number (Entry V1) = 3
+layout_number (End V1) = 4
+layout_number (Stat V2) = 5
+layout_number (Entry V2) = 6
+layout_number (End V2) = 7
 
 -- a message of an exchange: its id, and what stands behind it
 abbrev pub Row : Type 0
@@ -79,11 +80,11 @@ requests = (LIST, Text) ∷ (RECV, Text) ∷ (SEND, Text) ∷ (STAT, Text) ∷ (
 
 -- the replies to LIST (SYNC.TXT, LIST; docs/SCOPE.md, 10, for the four numbers of DONE)
 abbrev pub list_replies : List Row
-list_replies = (DENT, Entry) ∷ (DONE, End) ∷ []
+list_replies = (DENT, Entry V1) ∷ (DONE, End V1) ∷ []
 
 -- the reply to STAT (docs/SCOPE.md, 10)
 abbrev pub stat_replies : List Row
-stat_replies = (STAT, Stat) ∷ []
+stat_replies = (STAT, Stat V1) ∷ []
 
 -- the replies to RECV (SYNC.TXT, RECV; docs/SCOPE.md, 10, for FAIL)
 abbrev pub recv_replies : List Row
@@ -95,11 +96,11 @@ send_replies = (OKAY, Number) ∷ (FAIL, Text) ∷ []
 
 -- the replies to LIS2 (docs/SCOPE.md, 13)
 abbrev pub list_v2_replies : List Row
-list_v2_replies = (DNT2, EntryV2) ∷ (DONE, EndV2) ∷ []
+list_v2_replies = (DNT2, Entry V2) ∷ (DONE, End V2) ∷ []
 
 -- the reply to STA2 (docs/SCOPE.md, 13)
 abbrev pub stat_v2_replies : List Row
-stat_v2_replies = (STA2, StatV2) ∷ []
+stat_v2_replies = (STA2, Stat V2) ∷ []
 
 -- the messages of an exchange
 unfoldable pub rows_of : Exchange → List Row

@@ -3,7 +3,7 @@
 #![tactic(auto)]
 
 ghost use Rattle.std.specs.Prelude.{◌≡◌};
-ghost use Rattle.exchange.specs.Exchange.{letters_of, word_of, is_over, head_of, longest_of, exchange_of, exchange_v2_of, rows_of, found_of};
+ghost use Rattle.exchange.specs.Exchange.{letters_of, word_of, is_over, stat_length, head_of, longest_of, exchange_of, exchange_v2_of, rows_of, found_of};
 
 // Longest data of one DATA message.
 pub const SYNC_DATA_MAX: usize = 65_536;
@@ -65,6 +65,27 @@ impl SyncId {
     }
 }
 
+// Which of the two stat layouts.
+#[derive(Clone, Copy, PartialEq, Eq)]
+pub enum StatLayout {
+    // Mode, size and time.
+    V1,
+    // Error, device, inode, mode, links, owner, group, size and three times.
+    V2,
+}
+
+impl StatLayout {
+    // Bytes of a stat.
+    pub fn length(self) -> usize
+        ensures { result ≡ stat_length self }
+    {
+        match self {
+            StatLayout::V1 => 12,
+            StatLayout::V2 => 68,
+        }
+    }
+}
+
 // What stands behind an id.
 #[derive(Clone, Copy, PartialEq, Eq)]
 pub enum Layout {
@@ -72,18 +93,12 @@ pub enum Layout {
     Text,
     // One number.
     Number,
-    // Mode, size and time.
-    Stat,
-    // Mode, size, time and a length, then a name of that length.
-    Entry,
-    // Four numbers, as an entry's, with no name behind them.
-    End,
-    // The second stat layout: error, device, inode, mode, links, owner, group, size and three times.
-    StatV2,
-    // The second stat layout and a length, then a name of that length.
-    EntryV2,
-    // Twelve numbers, as a second entry's, with no name behind them.
-    EndV2,
+    // A stat.
+    Stat(StatLayout),
+    // A stat and a length, then a name of that length.
+    Entry(StatLayout),
+    // The numbers of an entry, with no name behind them.
+    End(StatLayout),
 }
 
 impl Layout {
@@ -94,10 +109,8 @@ impl Layout {
     {
         match self {
             Layout::Text | Layout::Number => 8,
-            Layout::Stat => 16,
-            Layout::Entry | Layout::End => 20,
-            Layout::StatV2 => 72,
-            Layout::EntryV2 | Layout::EndV2 => 76,
+            Layout::Stat(stat) => 4 + stat.length(),
+            Layout::Entry(stat) | Layout::End(stat) => 8 + stat.length(),
         }
     }
 
@@ -107,8 +120,8 @@ impl Layout {
         ensures { result ≡ longest_of self }
     {
         match self {
-            Layout::Text | Layout::Entry | Layout::EntryV2 => 0xffff_ffff,
-            Layout::Number | Layout::Stat | Layout::End | Layout::StatV2 | Layout::EndV2 => 0,
+            Layout::Text | Layout::Entry(_) => 0xffff_ffff,
+            Layout::Number | Layout::Stat(_) | Layout::End(_) => 0,
         }
     }
 }
@@ -149,11 +162,11 @@ const REQUESTS: [(SyncId, Layout); 9] = [
 ];
 
 const LIST_REPLIES: [(SyncId, Layout); 2] = [
-    (SyncId::Dent, Layout::Entry),
-    (SyncId::Done, Layout::End),
+    (SyncId::Dent, Layout::Entry(StatLayout::V1)),
+    (SyncId::Done, Layout::End(StatLayout::V1)),
 ];
 
-const STAT_REPLIES: [(SyncId, Layout); 1] = [(SyncId::Stat, Layout::Stat)];
+const STAT_REPLIES: [(SyncId, Layout); 1] = [(SyncId::Stat, Layout::Stat(StatLayout::V1))];
 
 const RECV_REPLIES: [(SyncId, Layout); 3] = [
     (SyncId::Data, Layout::Text),
@@ -167,11 +180,11 @@ const SEND_REPLIES: [(SyncId, Layout); 2] = [
 ];
 
 const LIST_V2_REPLIES: [(SyncId, Layout); 2] = [
-    (SyncId::Dnt2, Layout::EntryV2),
-    (SyncId::Done, Layout::EndV2),
+    (SyncId::Dnt2, Layout::Entry(StatLayout::V2)),
+    (SyncId::Done, Layout::End(StatLayout::V2)),
 ];
 
-const STAT_V2_REPLIES: [(SyncId, Layout); 1] = [(SyncId::Sta2, Layout::StatV2)];
+const STAT_V2_REPLIES: [(SyncId, Layout); 1] = [(SyncId::Sta2, Layout::Stat(StatLayout::V2))];
 
 impl Exchange {
     // The exchange that a number names, from 0 in the order above, but for those of the second stat layout.

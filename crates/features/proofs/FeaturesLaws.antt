@@ -1,36 +1,20 @@
 -- Laws of equal texts, of a text's colons and properties, of the name in it and of its parts. Assumes nothing.
-use Rattle.std.proofs.Common.{◌≡◌, refl, sym, ap, ◌∙◌, Bool, true, false, ◌&&◌, ◌||◌, List, [], ◌∷◌, Option, Some, None, ℕ, zero, suc, ◌+◌, ◌-◌, ◌≤◌, ◌<◌, eqb, ltb, length, take, drop, get_or, MatchOption, IfSome, option_map, option_copied, Bor, arith, length-take, length-drop, cond, take_all}
+use Rattle.std.proofs.Common.{◌≡◌, refl, sym, ap, ◌∙◌, Bool, true, false, ◌&&◌, ◌||◌, List, [], ◌∷◌, Option, Some, None, ℕ, zero, suc, ◌+◌, ◌-◌, ◌≤◌, ◌<◌, eqb, ltb, length, take, drop, get_or, MatchOption, IfSome, option_map, option_copied, Bor, arith, length-take, length-drop, take_all}
 use native.Mathlib.Nat.{suc-sub-suc, sub-zero}
 use lib.Dec.{eqb-zero-suc, eqb-suc-zero, eqb-suc-suc, leb-suc-suc, leb-suc-zero, leb-zero}
 use borrow.Author.Tests.{eqb-true, eqb-false, eq-eqb, ne_eqb, ltb-true, ltb-false}
-use Rattle.std.specs.List.{position, position_or_len, onto_first, slice_split, list_any}
+use Rattle.std.specs.List.{position, position_or_len}
 use Rattle.std.specs.Option.{option_eq}
 use Rattle.std.specs.Str.{bytes_eq}
 use Rattle.std.proofs.lemmas.Slice.Eq.{bytes_eq-Decides}
 use Rattle.std.proofs.lemmas.Slice.{between_to_end}
 use Rattle.le.proofs.Parts.{by-test}
-use Rattle.features.specs.Features.{colon, semicolon, comma, features_name, same_bytes, colons_in, colon_after, begins, named, after_name, first_part, on_first, parts_of, any_same, listed, has_feature, Behind}
+use Rattle.features.specs.Features.{colon, semicolon, features_name, same_bytes, colons_in, colon_after, begins, named, after_name, first_part, parts_of, any_same, listed, has_feature, Behind}
 
 -- ---- equal texts
 
--- std's test of two texts is the same
-pub same-is : (a b : List ℕ) → same_bytes a b ≡ bytes_eq a b
-unfolding same_bytes
-same-is [] [] = refl
-same-is [] (y ∷ ys) = refl
-same-is (x ∷ xs) [] = refl
-same-is (x ∷ xs) (y ∷ ys) = rw (same-is xs ys)
-
--- a text equals itself
-pub eq-same : (a : List ℕ) → same_bytes a a ≡ true
-eq-same a = same-is a a ∙ (bytes_eq-Decides a a).1 refl
-
--- texts that compare as equal are equal
-pub same-eq : (a b : List ℕ) → same_bytes a b ≡ true → a ≡ b
-same-eq a b h = (bytes_eq-Decides a b).0 (sym (same-is a b) ∙ h)
-
 -- the order of the two does not matter
-pub same-sym : (a b : List ℕ) → bytes_eq a b ≡ same_bytes b a
+pub same-sym : (a b : List ℕ) → same_bytes a b ≡ same_bytes b a
 unfolding same_bytes
 same-sym [] [] = refl
 same-sym [] (y ∷ ys) = refl
@@ -42,7 +26,8 @@ same-sym (x ∷ xs) (y ∷ ys) = rw (same-sym xs ys) (ap (λ (t : Bool). t && sa
 
 -- texts of different lengths are not equal
 same_length : (a b : List ℕ) → (length a ≡ length b → ⊥) → same_bytes a b ≡ false
-same_length a b h = by-test (same_bytes a b) (λ t. absurd (h (ap length (same-eq a b t)))) (λ t. t)
+unfolding same_bytes
+same_length a b h = by-test (same_bytes a b) (λ t. absurd (h (ap length ((bytes_eq-Decides a b).0 t)))) (λ t. t)
 
 -- ---- the first place of a byte
 
@@ -211,7 +196,7 @@ begins-other t (suc i) (Some s) b h e =
 
 -- where a property begins the name is compared
 pub named-beginning : (t : List ℕ) (at : ℕ) → begins t at ≡ true → bytes_eq features_name (take 9 (drop at t)) ≡ named t at
-unfolding named
+unfolding named same_bytes
 named-beginning t at b = rw b (same-sym features_name (take 9 (drop at t)))
 
 -- elsewhere it does not count
@@ -256,27 +241,21 @@ first-named t (Some i) h = (named-long t i h.2, sym (after-found t 0 (length t) 
 
 -- ---- the parts of a list
 
-parts-is : (l : List ℕ) → parts_of l ≡ slice_split (λ b. eqb b comma) l
-unfolding parts_of on_first
-parts-is [] = refl
-parts-is (b ∷ t) = rw (parts-is t) (ap (λ (x : List (List ℕ)). cond (eqb b comma) ([] ∷ slice_split (λ b. eqb b comma) t) x) (onto b (slice_split (λ b. eqb b comma) t)))
-  where
-    onto : (b : ℕ) (ps : List (List ℕ)) → on_first b ps ≡ onto_first b ps
-    onto b [] = refl
-    onto b (p ∷ ps) = refl
-
-any-is : (ps : List (List ℕ)) (name : List ℕ) → any_same ps name ≡ list_any (λ p. bytes_eq p name) ps
-unfolding any_same
-any-is [] name = refl
-any-is (p ∷ ps) name = rw (same-is p name, any-is ps name)
-
--- what std's `split` and `any` answer
-pub any-part : (l name : List ℕ) → list_any (λ p. bytes_eq p name) (slice_split (λ b. eqb b comma) l) ≡ any_same (parts_of l) name
-any-part l name = sym (rw (parts-is l) (any-is (slice_split (λ b. eqb b comma) l) name))
-
 -- what std's `is_some_and` answers, where what it calls says of a list whether it has the name
 pub feature-is : (t name : List ℕ) (list : Option (Bor (List ℕ))) (r : Bool) {Q : Bor (List ℕ) → Type 0} → option_copied list ≡ after_name t 0 (length t)
     → MatchOption list (r ≡ false) Q → ((rest : Bor (List ℕ)) → Q rest → r ≡ any_same (parts_of (first_part semicolon rest.now)) name) → r ≡ has_feature t name
 unfolding has_feature listed
 feature-is t name None r e h f = rw (← e, h)
 feature-is t name (Some rest) r e h f = rw (← e, f rest h)
+
+-- ---- for the functions
+
+pub ruleset part_rules = (part-found, part-all)
+
+pub ruleset colon_rules = (behind-none, behind-two)
+
+pub ruleset begin_rules = (begins-none, begins-start, begins-other)
+
+pub ruleset name_rules = (named-beginning, named-inside, between_to_end)
+
+pub ruleset feature_rules = feature-is

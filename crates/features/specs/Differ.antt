@@ -2,7 +2,8 @@
 -- Assumes nothing.
 use Rattle.std.specs.Prelude.{ℕ, Bool, false, cond, ◌||◌, List, [], ◌∷◌, Option, Some, None, eqb, take, drop}
 use Rattle.std.specs.Bool.{xor}
-use Rattle.features.specs.Features.{comma, semicolon, features_name, same_bytes, on_first, any_same, has_feature}
+use Rattle.std.specs.List.{slice_split}
+use Rattle.features.specs.Features.{comma, semicolon, features_name, same_bytes, any_same, has_feature}
 
 -- what follows the first "features=" anywhere in a text
 unfoldable pub after_first : List ℕ → Option (List ℕ)
@@ -11,8 +12,7 @@ after_first (b ∷ t) = cond (same_bytes (take 9 (b ∷ t)) features_name) (Some
 
 -- a text, cut at every comma and semicolon
 unfoldable pub pieces_of : List ℕ → List (List ℕ)
-pieces_of [] = [] ∷ []
-pieces_of (b ∷ t) = cond (eqb b comma || eqb b semicolon) ([] ∷ pieces_of t) (on_first b (pieces_of t))
+pieces_of l = slice_split (λ b. eqb b comma || eqb b semicolon) l
 
 -- one piece of such a rest equals the name; no rest has none
 unfoldable pub among_pieces : Option (List ℕ) → List ℕ → Bool

@@ -1,6 +1,8 @@
 -- Whether an identity text lists a feature (docs/SCOPE.md, 2): the text has properties between semicolons, `features` is one
 -- of them, commas cut its list, and one part equals the name. Assumes nothing.
-use Rattle.std.specs.Prelude.{ℕ, zero, suc, ◌+◌, ◌≡◌, Bool, true, false, cond, ◌&&◌, ◌||◌, List, [], ◌∷◌, Option, Some, None, eqb, length, take, drop, get_or}
+use Rattle.std.specs.Prelude.{ℕ, zero, suc, ◌+◌, ◌≡◌, Bool, false, cond, ◌&&◌, ◌||◌, List, [], ◌∷◌, Option, Some, None, eqb, length, take, drop, get_or}
+use Rattle.std.specs.List.{list_any, onto_first, slice_split}
+use Rattle.std.specs.Str.{bytes_eq}
 
 -- the byte ","
 abbrev pub comma : ℕ
@@ -20,10 +22,7 @@ features_name = 102 ∷ 101 ∷ 97 ∷ 116 ∷ 117 ∷ 114 ∷ 101 ∷ 115 ∷ 6
 
 -- two texts are equal
 unfoldable pub same_bytes : List ℕ → List ℕ → Bool
-same_bytes [] [] = true
-same_bytes [] (y ∷ ys) = false
-same_bytes (x ∷ xs) [] = false
-same_bytes (x ∷ xs) (y ∷ ys) = eqb x y && same_bytes xs ys
+same_bytes a b = bytes_eq a b
 
 -- how many colons a text has
 unfoldable pub colons_in : List ℕ → ℕ
@@ -55,18 +54,15 @@ first_part cut (b ∷ t) = cond (eqb b cut) [] (b ∷ first_part cut t)
 
 -- a byte before the first of some parts
 unfoldable pub on_first : ℕ → List (List ℕ) → List (List ℕ)
-on_first b [] = (b ∷ []) ∷ []
-on_first b (p ∷ ps) = (b ∷ p) ∷ ps
+on_first b ps = onto_first b ps
 
 -- a text, cut at every comma
 unfoldable pub parts_of : List ℕ → List (List ℕ)
-parts_of [] = [] ∷ []
-parts_of (b ∷ t) = cond (eqb b comma) ([] ∷ parts_of t) (on_first b (parts_of t))
+parts_of l = slice_split (λ b. eqb b comma) l
 
 -- one of the parts equals the name
 unfoldable pub any_same : List (List ℕ) → List ℕ → Bool
-any_same [] name = false
-any_same (p ∷ ps) name = same_bytes p name || any_same ps name
+any_same ps name = list_any (λ p. bytes_eq p name) ps
 
 -- one part of the list, which ends at the next semicolon, equals the name; no list has none
 unfoldable pub listed : Option (List ℕ) → List ℕ → Bool

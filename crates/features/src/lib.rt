@@ -15,6 +15,7 @@ fn place_of(text: &[u8], byte: u8) -> Option<usize>
 }
 
 // The text up to its first `cut`, or all of it.
+#[tactic(auto, using(crate::proofs::FeaturesLaws::part_rules))]
 fn first_part(text: &[u8], cut: u8) -> &[u8]
     ensures { result.now ≡ first_part cut text.now }
 {
@@ -25,6 +26,7 @@ fn first_part(text: &[u8], cut: u8) -> &[u8]
 }
 
 // The place behind the second colon.
+#[tactic(auto, using(crate::proofs::FeaturesLaws::colon_rules))]
 fn after_colons(banner: &[u8]) -> Option<usize>
     ensures { Behind banner.now result }
 {
@@ -34,6 +36,7 @@ fn after_colons(banner: &[u8]) -> Option<usize>
 }
 
 // Whether a property begins at `at`: behind a semicolon, or at `start`, behind the second colon.
+#[tactic(auto, using(crate::proofs::FeaturesLaws::begin_rules))]
 fn is_beginning(banner: &[u8], at: usize, start: Option<usize>) -> bool
     requires at_in_bounds { at ≤ length banner.now }
     requires behind { Behind banner.now start }
@@ -43,6 +46,7 @@ fn is_beginning(banner: &[u8], at: usize, start: Option<usize>) -> bool
 }
 
 // Whether the property `features` begins at `at`.
+#[tactic(auto, using(crate::proofs::FeaturesLaws::name_rules))]
 fn is_named(banner: &[u8], at: usize, start: Option<usize>) -> bool
     requires at_in_bounds { at ≤ length banner.now }
     requires behind { Behind banner.now start }
@@ -76,6 +80,7 @@ fn any_part(list: &[u8], name: &[u8]) -> bool
 }
 
 // Whether an identity text lists a feature.
+#[tactic(auto, using(crate::proofs::FeaturesLaws::feature_rules))]
 pub fn has_feature(banner: &[u8], feature: &[u8]) -> bool
     ensures { result ≡ has_feature banner.now feature.now }
 {

@@ -22,7 +22,7 @@ use Rattle.table.specs.declared.Want.TheVariants.{Empty}
 use Rattle.table.specs.Table.{place_of, allocated, numbered}
 use Rattle.connection.specs.declared.Answer.TheVariants.{Opened}
 use Rattle.connection.specs.declared.Refusal.TheVariants.{StoreShort, OutShort, BrokenState}
-use Rattle.connection.specs.Answer.{answer_number, refusal_number}
+use Rattle.connection.specs.Answer.{answer_number}
 use Rattle.connection.specs.Calls.{Lent, Outcome, ends, untouched, checked, checked_out, dropped, policy, offer_in, is_offered, reject_on, accept_on, accept_step}
 use Rattle.connection.specs.Frames.{okay_frame, Sent}
 use Rattle.connection.proofs.Sending.{sent_of}
@@ -34,7 +34,7 @@ use Rattle.history.proofs.Marks.{Tame}
 use Rattle.history.proofs.Opens.{refused-some}
 use Rattle.history.proofs.Places.{TableOk}
 use Rattle.table.specs.declared.NoFreeChannels.{NoFreeChannels}
-use Rattle.std.specs.Prelude.{Option, Some, None, Result, Ok, Err}
+use Rattle.std.specs.Prelude.{Result, Ok, Err}
 
 -- a place that was allocated is one of the channels', and its number is the next
 abbrev Allotted : Header → Result ChannelId NoFreeChannels → Type 0

@@ -19,9 +19,9 @@ use Rattle.protocol.specs.declared.packet.Packet.{Packet}
 use Rattle.protocol.specs.Command.{is_close, is_write, is_the, word_of, letters_of}
 use Rattle.slot.specs.declared.ids.LocalId.{LocalId}
 use Rattle.slot.specs.declared.ids.RemoteId.{RemoteId}
-use Rattle.slot.specs.declared.ChannelFault.TheVariants.{RxOverflow, UnexpectedCommand}
+use Rattle.slot.specs.declared.ChannelFault.TheVariants.{RxOverflow}
 use Rattle.slot.specs.declared.ChannelSlot.{ChannelSlot}
-use Rattle.slot.specs.declared.Wrote.{Wrote}
+use Rattle.slot.proofs.Wrote.{Wrote, left_by}
 use Rattle.slot.specs.Slot.{is_opening, is_closed, buffered_with, is_failed, acks_now, wrote_of, ready_by, ready_of, closed_slot, held_of, SlotOk}
 use Rattle.credit.specs.Credit.{credit_of}
 use Rattle.slot.proofs.Stays.{Stays, stays_same, ReadiedStays, ready-stays, wrote-stays, closed-stays}
@@ -96,10 +96,10 @@ abbrev Silent : Dispatched → Type 0
 Silent d = acks_for d.step.result ≡ 0
 
 -- no WRTE is, in delayed mode
-not-now : (s : ChannelSlot) (p : RxPolicy) (k : ℕ) → p.delayed ≡ true → (i : ℕ) (t : ChannelSlot) (remote : RemoteId) (payload rx : List ℕ) → Silent (wrote_by p i s remote payload rx t (wrote_of s p k).decision)
+not-now : (s : ChannelSlot) (p : RxPolicy) (k : ℕ) → p.delayed ≡ true → (i : ℕ) (remote : RemoteId) (payload rx : List ℕ) → Silent (wrote_by p i s remote payload rx (wrote_of s p k))
 unfolding wrote_of acks_now wrote_by
-not-now s p k d i t remote payload rx =
-    let G : Wrote → Type 0 = λ w. Silent (wrote_by p i s remote payload rx t w.decision) in
+not-now s p k d i remote payload rx =
+    let G : Wrote → Type 0 = λ w. Silent (wrote_by p i s remote payload rx w) in
     pick G (is_opening s.state) (λ o. refl)
     (λ o. pick G (ltb p.rx_cap (held_of s + k)) (λ h. refl)
     (λ h. pick G (acks_now s p (held_of s + k)) (λ a. absurd (true≢false (sym a ∙ cond-true p.delayed _ _ d))) (λ a. refl)))
@@ -141,7 +141,7 @@ unfolding write_of wrote_at
 silent-write p n ss remote local payload rx d =
     let f = place_of (Local local) n ss in
     pick Silent (ltb f n)
-    (λ t. pick Silent (is_failed (slot_in ss f).failed) (λ u. refl) (λ u. not-now (slot_in ss f) p (length payload) d f (wrote_of (slot_in ss f) p (length payload)).slot remote payload rx))
+    (λ t. pick Silent (is_failed (slot_in ss f).failed) (λ u. refl) (λ u. not-now (slot_in ss f) p (length payload) d f remote payload rx))
     (λ t. refl)
 
 silent-route : (p : RxPolicy) (n : ℕ) (ss : List ChannelSlot) (c : Command) (a l : ℕ) (payload rx : List ℕ) → p.delayed ≡ true → Silent (route_of p n ss c a l payload rx)
@@ -281,16 +281,13 @@ close-fault h ss queue rx store k payload e =
 -- ---- the receive store keeps its length
 
 module _ (p : RxPolicy) (n : ℕ) (ss : List ChannelSlot) (rx : List ℕ) (ok : TableOk p n ss rx) (payload : List ℕ) where
-  wrote-length : (f : ℕ) (remote : RemoteId) (t : ChannelSlot) (d : Result (Option ℕ) SlotFault) → f < n → SlotOk (slot_in ss f) p.rx_cap → Decides (slot_in ss f) p (length payload) d
-      → length (wrote_by p f (slot_in ss f) remote payload rx t d).rx ≡ length rx
+  wrote-length : (f : ℕ) (remote : RemoteId) (r : Wrote) → f < n → SlotOk (slot_in ss f) p.rx_cap → Decides (slot_in ss f) p (length payload) r
+      → length (wrote_by p f (slot_in ss f) remote payload rx r).rx ≡ length rx
   unfolding wrote_by
-  wrote-length f remote t (Ok (Some len)) h sound (buffers e k) =
+  wrote-length f remote (Ok w) h sound (buffers e k) =
       length-buffered rx p.rx_cap f (slot_in ss f).head (slot_in ss f).buffered payload (share_in f n (2 * p.rx_cap) (length rx) h ok.shares) (room_for (slot_in ss f) p (length payload) sound k)
-  wrote-length f remote t (Ok None) h sound (buffers e k) =
-      length-buffered rx p.rx_cap f (slot_in ss f).head (slot_in ss f).buffered payload (share_in f n (2 * p.rx_cap) (length rx) h ok.shares) (room_for (slot_in ss f) p (length payload) sound k)
-  wrote-length f remote t (Ok (Some len)) h sound (overflows e k) = absurd (true≢false (ap is_taken e))
-  wrote-length f remote t (Ok None) h sound (overflows e k) = absurd (true≢false (ap is_taken e))
-  wrote-length f remote t (Err why) h sound x = refl
+  wrote-length f remote (Ok w) h sound (overflows e k) = absurd (true≢false (ap is_taken e))
+  wrote-length f remote (Err why) h sound x = refl
 
   write-length : (remote : RemoteId) (local : LocalId) → length (write_of p n ss remote local payload rx).rx ≡ length rx
   unfolding write_of wrote_at
@@ -301,7 +298,7 @@ module _ (p : RxPolicy) (n : ℕ) (ss : List ChannelSlot) (rx : List ℕ) (ok : 
       (λ t. let h = ltb-true f n t in
       let fill = found-filled p n ss rx ok local h in
       pick P (is_failed (slot_in ss f).failed) (λ u. refl)
-      (λ u. wrote-length f remote _ _ h (ok.sound f fill) (decides (slot_in ss f) p (length payload) (ok.opened f fill))))
+      (λ u. wrote-length f remote _ h (ok.sound f fill) (decides (slot_in ss f) p (length payload) (ok.opened f fill))))
       (λ t. refl)
 
   route-length : (c : Command) (a l : ℕ) → length (route_of p n ss c a l payload rx).rx ≡ length rx
@@ -344,10 +341,10 @@ at_named p s q payload mine ends t r fault (credited e1 e2 e3 e4) = subst (Readi
 at_named p s q payload mine ends t r fault (shut e1 e2 e3 e4) = subst (Stays s) (sym e3) (closed-stays s)
 
 -- a WRTE of its own that fits is not refused, and does not close it
-wrote-state : (s : ChannelSlot) (p : RxPolicy) (k : ℕ) → (wrote_of s p k).slot.state ≡ s.state
+wrote-state : (s : ChannelSlot) (p : RxPolicy) (k : ℕ) → (left_by s (wrote_of s p k)).state ≡ s.state
 unfolding wrote_of buffered_with
 wrote-state s p k =
-    let P : Wrote → Type 0 = λ w. w.slot.state ≡ s.state in
+    let P : Wrote → Type 0 = λ w. (left_by s w).state ≡ s.state in
     pick P (is_opening s.state) (λ o. refl)
     (λ o. pick P (ltb p.rx_cap (held_of s + k)) (λ h. refl) (λ h. pick P (acks_now s p (held_of s + k)) (λ a. refl) (λ a. refl)))
 
@@ -419,7 +416,7 @@ module _ (d : List Book) (i before : ℕ) (m : Message) (payload : List ℕ) (a 
 module _ (p : RxPolicy) (credit : Terms) (most : ℕ) (lim : Limits p credit most) (s : ChannelSlot) (q : List ℕ) (b : Book) (g : Good p credit s q b) (o : is_opening s.state ≡ false)
     (payload : List ℕ) (small : length payload ≤ most) (before : ℕ) (early : before ≤ b.acked) (d : List Book) (i : ℕ) (m : Message) (a : Answer) where
   -- a WRTE that was taken
-  wrte-taken : held_of s + length payload ≤ p.rx_cap → is_refused (answer_number a) ≡ false → Good p credit (wrote_of s p (length payload)).slot (q ++ payload) (wrte_b before payload (answer_number a) b)
+  wrte-taken : held_of s + length payload ≤ p.rx_cap → is_refused (answer_number a) ≡ false → Good p credit (left_by s (wrote_of s p (length payload))) (q ++ payload) (wrte_b before payload (answer_number a) b)
   wrte-taken h e =
       good-by p credit _ _ _ _ _ _ refl refl (cond-false (is_refused (answer_number a)) _ _ e) (accept-good p credit s q b g before payload lim.small h o)
 

@@ -37,7 +37,7 @@ use Rattle.connection.specs.declared.Answer.{Answer}
 use Rattle.connection.specs.declared.Answer.TheVariants.{Done, Waiting, Nothing, Settled as SettledIs, Read, Written, Front as FrontIs, Refused}
 use Rattle.connection.specs.declared.Refusal.TheVariants.{ChannelClosed, OutShort, BadCredit as CreditRefused}
 use Rattle.connection.specs.Act.{Acted, act_on}
-use Rattle.connection.specs.Answer.{refusal_number, answer_number}
+use Rattle.connection.specs.Answer.{answer_number}
 use Rattle.table.specs.declared.ChannelId.{ChannelId}
 use Rattle.table_dispatch.specs.Dispatch.{named_place}
 use Rattle.connection.specs.Calls.{untouched, send_len, send_some, send_by, send_again, write_readied, write_acted, write_act, write_by, write_first, write_on, write_step, fault_refusal, read_direct, read_acted, read_settled, reread, is_direct, read_by, read_taken, read_first, read_step, ids_in, close_step, take_front_by, take_front_step, error_refusal, taken_by, take_step, ack_frames, settled_as, settle_step, is_there, slot_for, Lent, Outcome, Work, begun, then, then_acted, ends, dropped, policy, body_of, frame_len, received_of, unless_fault, dispatch_by, dispatch_step, offer_in, is_offered, reject_on, reject_step, let_go_step}

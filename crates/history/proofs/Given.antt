@@ -29,7 +29,7 @@ use Rattle.table.specs.declared.Want.TheVariants.{Empty}
 use Rattle.table.specs.Table.{place_of, next_local_id, allocated, slot_in}
 use Rattle.connection.specs.declared.Answer.TheVariants.{Refused, Opened}
 use Rattle.connection.specs.declared.Refusal.TheVariants.{StoreShort, OutShort, PayloadTooLarge, BrokenState}
-use Rattle.connection.specs.Answer.{refusal_number, answer_number}
+use Rattle.connection.specs.Answer.{answer_number}
 use Rattle.connection.specs.Calls.{numbers_outcome, Lent, Outcome, ends, checked, checked_out, untouched, body_of, is_there, slot_for, dispatch_step, settle_step, take_step, read_step, write_step, close_step, take_front_step, fresh, open_outcome, dispatch_outcome, settle_outcome, take_outcome, read_outcome, write_outcome, close_outcome, take_front_outcome, accept_outcome, reject_outcome, let_go_outcome, reject_step, let_go_step}
 use Rattle.connection.specs.Frames.{Frame, Sent}
 use Rattle.connection.proofs.Slots.{slots_by, slots-by, slot-set-same, slot-set-other}
@@ -50,7 +50,7 @@ use Rattle.history.proofs.Written.{seen-is}
 use Rattle.history.proofs.Accepts.{Accepts, takes, declines, allocated-below, allocated-local, accepts, accepts-out}
 use Rattle.connection.specs.declared.Answer.{Answer}
 use Rattle.table.specs.declared.NoFreeChannels.{NoFreeChannels}
-use Rattle.std.specs.Prelude.{Option, Some, None, Result, Ok, Err}
+use Rattle.std.specs.Prelude.{Result, Ok, Err}
 
 open_told : is_open Open ≡ true
 unfolding is_open is_the word_of letters_of num_of

@@ -19,7 +19,7 @@ use Rattle.slot.specs.declared.ChannelSlot.{ChannelSlot}
 use Rattle.slot.specs.declared.Settled.{Settled}
 use Rattle.slot.specs.Slot.{with_total, total_with, take_len, opening_slot, opened_by, opened_of, ready_by, ready_of, spent_of, is_opening, acks_now, wrote_of, with_numbers, with_sending, acked, is_closed, held_of, buffered_with, some_len, delivered_of, ack_len_of, settled_by, settled_some, settled_of, took_of, closed_slot}
 use Rattle.credit.specs.Credit.{credit_of}
-use Rattle.slot.specs.declared.Wrote.{Wrote}
+use Rattle.slot.proofs.Wrote.{Wrote, left_by}
 use Rattle.slot.proofs.Kept.{pick}
 use Rattle.slot.proofs.Laws.{cond-true, cond-false}
 use Rattle.connection.specs.Answer.{ack_length}
@@ -512,11 +512,11 @@ module _ (p : RxPolicy) (credit : Terms) (s : ChannelSlot) (q : List ℕ) (b : B
         }
 
     -- as `apply_write` decides: acknowledged at once, or held
-    pub accept-good : is_opening s.state ≡ false → Good p credit (wrote_of s p (length body)).slot (q ++ body) (accepted_b body (sent_b before (length body) b))
+    pub accept-good : is_opening s.state ≡ false → Good p credit (left_by s (wrote_of s p (length body))) (q ++ body) (accepted_b body (sent_b before (length body) b))
     unfolding wrote_of acks_now
     accept-good o =
         let n = length body in
-        let G : Wrote → Type 0 = λ w. Good p credit w.slot (q ++ body) (accepted_b body (sent_b before n b)) in
+        let G : Wrote → Type 0 = λ w. Good p credit (left_by s w) (q ++ body) (accepted_b body (sent_b before n b)) in
         subst G (sym (cond-false (is_opening s.state) _ _ o ∙ cond-false (ltb p.rx_cap (held_of s + n)) _ _ (le-ltb p.rx_cap (held_of s + n) h)))
         (pick G (acks_now s p (held_of s + n))
         (λ t. buffered-good 0 (λ d. absurd (true≢false (sym t ∙ cond-true p.delayed _ _ d))))

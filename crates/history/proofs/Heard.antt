@@ -28,7 +28,7 @@ use Rattle.wire.specs.Wire.{credit_bytes, okay_bytes, close_bytes}
 use Rattle.wire.proofs.Laws.{back}
 use Rattle.connection.specs.declared.Answer.{Answer}
 use Rattle.connection.specs.declared.Refusal.TheVariants.{StoreShort}
-use Rattle.connection.specs.Answer.{refusal_number, answer_number, refusal_word, answer_values}
+use Rattle.connection.specs.Answer.{answer_number, refusal_word, answer_values}
 use Rattle.connection.specs.Calls.{Lent, Outcome, written_by, untouched}
 use Rattle.connection.specs.Frames.{Frame, okay_frame, close_frame, open_frame, write_frame, frame_bytes, frames_bytes, Sent}
 use Rattle.connection.proofs.Sending.{sent_of, SentFits, FrameFits}

@@ -34,7 +34,7 @@ use Rattle.history.specs.Run.{bytes_in, dispatch_call, lent, outcome, after}
 use Rattle.history.specs.LiveClose.{live_count, closing, ClseGoesLive}
 use Rattle.history.proofs.Never13.{whole-holds, state-after}
 use Rattle.history.proofs.Places.{first-le}
-use Rattle.std.specs.Prelude.{Option, Some, None, Result, Ok, Err}
+use Rattle.std.specs.Prelude.{Ok}
 
 -- ---- lists
 

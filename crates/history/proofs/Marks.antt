@@ -32,6 +32,7 @@ use Rattle.table_dispatch.specs.declared.DispatchOutcome.{DispatchOutcome}
 use Rattle.table_dispatch.specs.declared.DispatchOutcome.TheVariants.{AckWrite, CreditGranted, SlotClosed, DataBuffered, IncomingOpen, CancelQueuedOpen, StrayReady, ChannelFault, Unmatched}
 use Rattle.table.specs.declared.Want.TheVariants.{Local}
 use Rattle.table.specs.Table.{wanted_by, place_of, slot_in}
+use Rattle.slot.proofs.Wrote.{Wrote, left_by}
 use Rattle.table_dispatch.specs.Dispatch.{remote_place, closed_at, close_of, readied_of, granted, ready_at, grant_of, Dispatched, wrote_by, wrote_at, write_of, route_of, dispatch_of}
 use Rattle.table_dispatch.proofs.RouteLaws.{by-route}
 use Rattle.connection.specs.declared.Answer.{Answer}
@@ -46,7 +47,6 @@ use Rattle.history.proofs.Steps.{table-set}
 use Rattle.slot.specs.declared.ChannelFault.{ChannelFault as SlotFault}
 use Rattle.std.specs.Prelude.{Option, Some, None, Result, Ok, Err}
 use Rattle.credit.specs.declared.CreditFault.{CreditFault}
-use Rattle.slot.specs.declared.ChannelFault.TheVariants.{RxOverflow, UnexpectedCommand}
 use Rattle.slot.specs.declared.ChannelError.{ChannelError}
 
 -- whether a slot is filled, its local number, and of a place with no channel the total
@@ -142,18 +142,17 @@ module _ (p : RxPolicy) (n : ℕ) (ss : List ChannelSlot) (rx : List ℕ) (ok : 
       (tame-granted f remote (ready_of (slot_in ss f) payload p) (ready-stays (slot_in ss f) payload p))))
       (λ t. tt)
 
-  tame-wrote : (f : ℕ) (remote : RemoteId) (d : Result (Option ℕ) SlotFault) → Tame ss (wrote_by p f (slot_in ss f) remote payload rx (wrote_of (slot_in ss f) p (length payload)).slot d).step.changes
+  tame-wrote : (f : ℕ) (remote : RemoteId) (r : Wrote) → Stays (slot_in ss f) (left_by (slot_in ss f) r) → Tame ss (wrote_by p f (slot_in ss f) remote payload rx r).step.changes
   unfolding wrote_by
-  tame-wrote f remote (Ok (Some len)) = (stays-mark (slot_in ss f) (wrote_of (slot_in ss f) p (length payload)).slot (wrote-stays (slot_in ss f) p (length payload)), tt)
-  tame-wrote f remote (Ok None) = (stays-mark (slot_in ss f) (wrote_of (slot_in ss f) p (length payload)).slot (wrote-stays (slot_in ss f) p (length payload)), tt)
-  tame-wrote f remote (Err why) = tt
+  tame-wrote f remote (Ok w) y = (stays-mark (slot_in ss f) w.slot y, tt)
+  tame-wrote f remote (Err why) y = tt
 
   tame-write : (remote : RemoteId) (local : LocalId) → Tame ss (write_of p n ss remote local payload rx).step.changes
   unfolding write_of wrote_at
   tame-write remote local =
       let f = place_of (Local local) n ss in
       let P : Dispatched → Type 0 = λ d. Tame ss d.step.changes in
-      pick P (ltb f n) (λ t. pick P (is_failed (slot_in ss f).failed) (λ u. tt) (λ u. tame-wrote f remote (wrote_of (slot_in ss f) p (length payload)).decision)) (λ t. tt)
+      pick P (ltb f n) (λ t. pick P (is_failed (slot_in ss f).failed) (λ u. tt) (λ u. tame-wrote f remote (wrote_of (slot_in ss f) p (length payload)) (wrote-stays (slot_in ss f) p (length payload)))) (λ t. tt)
 
   tame-route : (c : Command) (a l : ℕ) → Tame ss (route_of p n ss c a l payload rx).step.changes
   tame-route c a l =

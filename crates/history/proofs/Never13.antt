@@ -20,7 +20,7 @@ use Rattle.le.proofs.RowLaws.{Every, never}
 use Rattle.state.proofs.StateLaws.{OpenFits, state-split, state-forth, state-fits, layout-is-state}
 use Rattle.state.proofs.ChangeLaws.{changes-layout}
 use Rattle.connection.specs.declared.Refusal.TheVariants.{StoreShort}
-use Rattle.connection.specs.Answer.{refusal_number, answer_number}
+use Rattle.connection.specs.Answer.{answer_number}
 use Rattle.connection.specs.Calls.{looked, numbers_for, numbers_outcome, Outcome, untouched, checked, checked_out, open_outcome, dispatch_outcome, settle_outcome, take_outcome, read_outcome, write_outcome, close_outcome, take_front_outcome, accept_outcome, reject_outcome, let_go_outcome, open_step, dispatch_step, settle_step, take_step, read_step, write_step, close_step, take_front_step, accept_step, reject_step, let_go_step, fresh, Made, make_of}
 use Rattle.history.specs.Run.{look_outcome, bytes_in, Call, open_call, dispatch_call, settle_call, take_call, read_call, write_call, close_call, front_taken, look_call, numbers_look, accept_call, reject_call, let_go_call, World, lent, outcome, after, after_all, made, Start, begins, agreed_in}
 use Rattle.history.specs.Never13.{Unbroken, Never13, StaysWhole, Always8}

@@ -41,8 +41,8 @@ use Rattle.connection.specs.declared.Answer.{Answer}
 use Rattle.connection.specs.declared.Answer.TheVariants.{Done, Waiting, Opened, Read, Written, Refused}
 use Rattle.connection.specs.declared.Refusal.TheVariants.{ChannelClosed, NoFreeChannels, PayloadTooLarge, BadCredit as CreditRefused, UnexpectedCommand}
 use Rattle.connection.specs.Act.{Acted, table_of, act_on}
-use Rattle.connection.specs.Answer.{refusal_number, answer_number}
-use Rattle.connection.specs.Calls.{looked, numbers_for, numbers_in, Lent, Outcome, Work, begun, then, then_acted, ends, dropped, pending_for, policy, ids_in, is_there, slot_for, fault_refusal, error_refusal, unless_fault, received_of, body_of, frame_len, is_direct, dispatch_by, dispatch_step, settled_as, settle_step, taken_by, take_step, reread, read_settled, read_acted, read_direct, read_by, read_taken, read_first, read_step, send_some, send_by, send_again, write_readied, write_acted, write_act, write_by, write_first, write_on, write_step, close_step, take_front_by, take_front_step, open_on, still_pending, open_readied, open_acted, open_by, open_step, offer_in, is_offered, reject_on, accept_on, accept_step, reject_step, let_go_step}
+use Rattle.connection.specs.Answer.{answer_number}
+use Rattle.connection.specs.Calls.{looked, numbers_for, numbers_in, Lent, Outcome, Work, begun, then, then_acted, ends, dropped, pending_for, policy, ids_in, is_there, slot_for, error_refusal, unless_fault, received_of, body_of, frame_len, is_direct, dispatch_by, dispatch_step, settled_as, settle_step, taken_by, take_step, reread, read_settled, read_acted, read_direct, read_by, read_taken, read_first, read_step, send_some, send_by, send_again, write_readied, write_acted, write_act, write_by, write_first, write_on, write_step, close_step, take_front_by, take_front_step, open_on, still_pending, open_readied, open_acted, open_by, open_step, offer_in, is_offered, reject_on, accept_on, accept_step, reject_step, let_go_step}
 use Rattle.connection.specs.Frames.{open_frame, write_frame, frames_bytes}
 use Rattle.connection.proofs.Slots.{slots_by, slots-by, slot-set-same}
 use Rattle.history.proofs.Acts.{acted-fault, acted-at, at_named}

@@ -34,7 +34,7 @@ use Rattle.table_dispatch.proofs.DispatchLaws.{first_found}
 use Rattle.connection.specs.declared.Answer.{Answer}
 use Rattle.connection.specs.declared.Answer.TheVariants.{Waiting, Refused}
 use Rattle.connection.specs.declared.Refusal.TheVariants.{InvalidCommand, InvalidMagic, PayloadTooLarge, InvalidChecksum}
-use Rattle.connection.specs.Answer.{refusal_number, answer_number}
+use Rattle.connection.specs.Answer.{answer_number}
 use Rattle.connection.specs.Calls.{Lent, received_by, received_of, body_of, frame_len}
 use Rattle.history.specs.Book.{Book, no_book, has_remote_id, is_live, named_in, is_wrte, is_clse, is_early, header_at, payload_at, closes_b, own_end}
 use Rattle.history.proofs.Places.{TableOk, first-le, found-there, place-le}

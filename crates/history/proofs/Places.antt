@@ -18,9 +18,9 @@ use Rattle.rx_store.specs.RxStore.{Room, appended, appended_head, share_of, buff
 use Rattle.rx_store.proofs.Laws.{part-appended}
 use Rattle.slot.specs.declared.ids.LocalId.{LocalId}
 use Rattle.slot.specs.declared.ids.RemoteId.{RemoteId}
-use Rattle.slot.specs.declared.ChannelFault.TheVariants.{RxOverflow, BadCredit, UnexpectedCommand}
+use Rattle.slot.specs.declared.ChannelFault.TheVariants.{RxOverflow, BadCredit}
 use Rattle.slot.specs.declared.ChannelSlot.{ChannelSlot}
-use Rattle.slot.specs.declared.Wrote.{Wrote}
+use Rattle.slot.proofs.Wrote.{Wrote, left_by}
 use Rattle.slot.specs.Slot.{empty_slot, is_opening, is_failed, held_of, acks_now, buffered_with, wrote_of, ready_by, ready_of, closed_slot, SlotOk}
 use Rattle.credit.specs.Credit.{credit_of}
 use Rattle.slot.proofs.Kept.{pick}
@@ -31,7 +31,7 @@ use Rattle.table_dispatch.specs.declared.DispatchOutcome.TheVariants.{AckWrite, 
 use Rattle.table.specs.declared.Want.{Want}
 use Rattle.table.specs.declared.Want.TheVariants.{Local}
 use Rattle.table.specs.Table.{first, wanted_by, place_of, slot_in}
-use Rattle.table_dispatch.specs.Dispatch.{left, stored, faulted, named_place, remote_place, closed_at, close_of, readied_of, granted, ready_at, stray_of, grant_of, Dispatched, with, wrote_by, wrote_at, write_of, route_of}
+use Rattle.table_dispatch.specs.Dispatch.{buffered_at, left, stored, faulted, named_place, remote_place, closed_at, close_of, readied_of, granted, ready_at, stray_of, grant_of, Dispatched, with, wrote_by, wrote_at, write_of, route_of}
 use Rattle.table_dispatch.proofs.KeepLaws.{place_found}
 use Rattle.table_dispatch.proofs.RouteLaws.{by-route}
 use Rattle.rx_store.proofs.ShareLaws.{share_in, buffered-own, buffered-other}
@@ -106,10 +106,10 @@ record Grown (s : ChannelSlot) (p : RxPolicy) (k : ℕ) (t : ChannelSlot) : Type
   head : t.head ≡ appended_head (2 * p.rx_cap) s.head s.buffered k
   more : t.buffered ≡ s.buffered + k
 
-grown : (s : ChannelSlot) (p : RxPolicy) (k : ℕ) → is_opening s.state ≡ false → held_of s + k ≤ p.rx_cap → Grown s p k (wrote_of s p k).slot
+grown : (s : ChannelSlot) (p : RxPolicy) (k : ℕ) → is_opening s.state ≡ false → held_of s + k ≤ p.rx_cap → Grown s p k (left_by s (wrote_of s p k))
 unfolding wrote_of buffered_with
 grown s p k o h =
-    let G : Wrote → Type 0 = λ w. Grown s p k w.slot in
+    let G : Wrote → Type 0 = λ w. Grown s p k (left_by s w) in
     subst G (sym (cond-false (is_opening s.state) _ _ o ∙ cond-false (ltb p.rx_cap (held_of s + k)) _ _ (le-ltb p.rx_cap (held_of s + k) h)))
     (pick G (acks_now s p (held_of s + k)) (λ t. record { head = refl; more = refl }) (λ t. record { head = refl; more = refl }))
 
@@ -119,19 +119,18 @@ unfolding held_of
 room_for s p k ok h = record { run_fits = ok.run_fits; more-fits = omega arith }
 
 -- what `apply_write` decides
-abbrev pub is_taken : Result (Option ℕ) SlotFault → Bool
-is_taken (Ok (Some len)) = true
-is_taken (Ok None) = true
+abbrev pub is_taken : Wrote → Bool
+is_taken (Ok w) = true
 is_taken (Err why) = false
 
-pub data Decides (s : ChannelSlot) (p : RxPolicy) (k : ℕ) (d : Result (Option ℕ) SlotFault) : Type 0 where
-  buffers : is_taken d ≡ true → held_of s + k ≤ p.rx_cap → Decides s p k d
-  overflows : d ≡ Err RxOverflow → p.rx_cap < held_of s + k → Decides s p k d
+pub data Decides (s : ChannelSlot) (p : RxPolicy) (k : ℕ) (r : Wrote) : Type 0 where
+  buffers : is_taken r ≡ true → held_of s + k ≤ p.rx_cap → Decides s p k r
+  overflows : r ≡ Err RxOverflow → p.rx_cap < held_of s + k → Decides s p k r
 
-pub decides : (s : ChannelSlot) (p : RxPolicy) (k : ℕ) → is_opening s.state ≡ false → Decides s p k (wrote_of s p k).decision
+pub decides : (s : ChannelSlot) (p : RxPolicy) (k : ℕ) → is_opening s.state ≡ false → Decides s p k (wrote_of s p k)
 unfolding wrote_of
 decides s p k o =
-    let G : Wrote → Type 0 = λ w. Decides s p k w.decision in
+    let G : Wrote → Type 0 = Decides s p k in
     subst G (sym (cond-false (is_opening s.state) _ _ o))
     (pick G (ltb p.rx_cap (held_of s + k)) (λ t. overflows refl (ltb-true _ _ t))
     (λ t. pick G (acks_now s p (held_of s + k)) (λ a. buffers refl (ltb-false _ _ t)) (λ a. buffers refl (ltb-false _ _ t))))
@@ -172,7 +171,7 @@ fault_of Unmatched = None
 -- and run, and the fault
 pub data At (p : RxPolicy) (s : ChannelSlot) (q payload : List ℕ) (mine ends : Bool) (t : ChannelSlot) (r : List ℕ) (fault : Option SlotFault) : Type 0 where
   apart : mine ≡ false → ends ≡ false → t ≡ s → r ≡ q → At p s q payload mine ends t r fault
-  wrote : mine ≡ true → held_of s + length payload ≤ p.rx_cap → t ≡ (wrote_of s p (length payload)).slot → r ≡ q ++ payload → fault ≡ None → At p s q payload mine ends t r fault
+  wrote : mine ≡ true → held_of s + length payload ≤ p.rx_cap → t ≡ left_by s (wrote_of s p (length payload)) → r ≡ q ++ payload → fault ≡ None → At p s q payload mine ends t r fault
   over : mine ≡ true → p.rx_cap < held_of s + length payload → t ≡ s → r ≡ q → fault ≡ Some RxOverflow → At p s q payload mine ends t r fault
   credited : mine ≡ false → ends ≡ false → ready_of s payload p ≡ Ok t → r ≡ q → At p s q payload mine ends t r fault
   shut : mine ≡ false → ends ≡ true → t ≡ closed_slot s → r ≡ q → At p s q payload mine ends t r fault
@@ -226,39 +225,36 @@ module _ (p : RxPolicy) (n : ℕ) (ss : List ChannelSlot) (rx : List ℕ) (ok : 
       ∙ part-appended share s.head s.buffered payload r2
 
   -- a WRTE, by what the slot decides: for the slot at place i itself
-  at_own : (remote : RemoteId) (t : ChannelSlot) (d : Result (Option ℕ) SlotFault) (ends : Bool) → Decides (slot_in ss i) p (length payload) d → t ≡ (wrote_of (slot_in ss i) p (length payload)).slot
-      → AtPlace p ss rx i payload true ends (wrote_by p i (slot_in ss i) remote payload rx t d)
+  kept-none : (f : ℕ) (s : ChannelSlot) (due : Option ℕ) → fault_of (buffered_at f s due) ≡ None
+  kept-none f s (Some len) = refl
+  kept-none f s None = refl
+
+  at_own : (remote : RemoteId) (d : Wrote) (ends : Bool) → Decides (slot_in ss i) p (length payload) d → d ≡ wrote_of (slot_in ss i) p (length payload)
+      → AtPlace p ss rx i payload true ends (wrote_by p i (slot_in ss i) remote payload rx d)
   unfolding wrote_by run_of
-  at_own remote t (Ok (Some len)) ends (buffers e h) w =
+  at_own remote (Ok d) ends (buffers e h) x =
       let s = slot_in ss i in
+      let t = d.slot in
+      let w : t ≡ left_by s (wrote_of s p (length payload)) = ap (left_by s) x in
       let z = own_is t in
       let r = room_for s p (length payload) (ok.sound i there) h in
       let g = grown s p (length payload) (ok.opened i there) h in
-      wrote refl h (z ∙ w) (ap (run_of (buffered_in rx p.rx_cap i s.head s.buffered payload) p.rx_cap i) z ∙ run-own s t.head t.buffered (ok.below i there) r (ap (λ (x : ChannelSlot). x.head) w ∙ g.head) (ap (λ (x : ChannelSlot). x.buffered) w ∙ g.more)) refl
-  at_own remote t (Ok None) ends (buffers e h) w =
-      let s = slot_in ss i in
-      let z = own_is t in
-      let r = room_for s p (length payload) (ok.sound i there) h in
-      let g = grown s p (length payload) (ok.opened i there) h in
-      wrote refl h (z ∙ w) (ap (run_of (buffered_in rx p.rx_cap i s.head s.buffered payload) p.rx_cap i) z ∙ run-own s t.head t.buffered (ok.below i there) r (ap (λ (x : ChannelSlot). x.head) w ∙ g.head) (ap (λ (x : ChannelSlot). x.buffered) w ∙ g.more)) refl
-  at_own remote t (Err why) ends (buffers e h) w = absurd (true≢false (sym e))
-  at_own remote t d ends (overflows e h) w = subst (λ (x : Result (Option ℕ) SlotFault). AtPlace p ss rx i payload true ends (wrote_by p i (slot_in ss i) remote payload rx t x)) (sym e) (over refl h refl refl refl)
+      wrote refl h (z ∙ w) (ap (run_of (buffered_in rx p.rx_cap i s.head s.buffered payload) p.rx_cap i) z ∙ run-own s t.head t.buffered (ok.below i there) r (ap (λ (x : ChannelSlot). x.head) w ∙ g.head) (ap (λ (x : ChannelSlot). x.buffered) w ∙ g.more))
+      (kept-none i s d.ack)
+  at_own remote (Err why) ends (buffers e h) x = absurd (true≢false (sym e))
+  at_own remote d ends (overflows e h) x = subst (λ (x : Wrote). AtPlace p ss rx i payload true ends (wrote_by p i (slot_in ss i) remote payload rx x)) (sym e) (over refl h refl refl refl)
 
   -- for a slot at another place
-  at-else : (f : ℕ) (remote : RemoteId) (t : ChannelSlot) (d : Result (Option ℕ) SlotFault) (ends : Bool) → f < n → (i ≡ f → ⊥) → SlotOk (slot_in ss f) p.rx_cap → Decides (slot_in ss f) p (length payload) d → ends ≡ false
-      → AtPlace p ss rx i payload false ends (wrote_by p f (slot_in ss f) remote payload rx t d)
+  at-else : (f : ℕ) (remote : RemoteId) (d : Wrote) (ends : Bool) → f < n → (i ≡ f → ⊥) → SlotOk (slot_in ss f) p.rx_cap → Decides (slot_in ss f) p (length payload) d → ends ≡ false
+      → AtPlace p ss rx i payload false ends (wrote_by p f (slot_in ss f) remote payload rx d)
   unfolding wrote_by
-  at-else f remote t (Ok (Some len)) ends h ne sound (buffers e k) x =
-      let z = slot-set-other ss f i t ne in
+  at-else f remote (Ok d) ends h ne sound (buffers e k) x =
+      let z = slot-set-other ss f i d.slot ne in
       let r = room_for (slot_in ss f) p (length payload) sound k in
       apart refl x z (ap (run_of (buffered_in rx p.rx_cap f (slot_in ss f).head (slot_in ss f).buffered payload) p.rx_cap i) z ∙ run-other f (slot_in ss f) (slot_in ss i) h ne r)
-  at-else f remote t (Ok None) ends h ne sound (buffers e k) x =
-      let z = slot-set-other ss f i t ne in
-      let r = room_for (slot_in ss f) p (length payload) sound k in
-      apart refl x z (ap (run_of (buffered_in rx p.rx_cap f (slot_in ss f).head (slot_in ss f).buffered payload) p.rx_cap i) z ∙ run-other f (slot_in ss f) (slot_in ss i) h ne r)
-  at-else f remote t (Err why) ends h ne sound (buffers e k) x = absurd (true≢false (sym e))
-  at-else f remote t d ends h ne sound (overflows e k) x =
-      subst (λ (y : Result (Option ℕ) SlotFault). AtPlace p ss rx i payload false ends (wrote_by p f (slot_in ss f) remote payload rx t y)) (sym e) (apart refl x refl refl)
+  at-else f remote (Err why) ends h ne sound (buffers e k) x = absurd (true≢false (sym e))
+  at-else f remote d ends h ne sound (overflows e k) x =
+      subst (λ (y : Wrote). AtPlace p ss rx i payload false ends (wrote_by p f (slot_in ss f) remote payload rx y)) (sym e) (apart refl x refl refl)
 
   abbrev at-write-for : ℕ → LocalId → RemoteId → Bool → Type 0
   at-write-for f local remote mine =
@@ -266,7 +262,7 @@ module _ (p : RxPolicy) (n : ℕ) (ss : List ChannelSlot) (rx : List ℕ) (ok : 
       (cond (ltb f n) (wrote_at p f (slot_in ss f) remote payload rx) (with (left Unmatched) rx))
 
   at-wrote : (f : ℕ) (remote : RemoteId) (mine : Bool) → f < n → (slot_in ss f).filled ≡ true
-      → AtPlace p ss rx i payload mine false (wrote_by p f (slot_in ss f) remote payload rx (wrote_of (slot_in ss f) p (length payload)).slot (wrote_of (slot_in ss f) p (length payload)).decision)
+      → AtPlace p ss rx i payload mine false (wrote_by p f (slot_in ss f) remote payload rx (wrote_of (slot_in ss f) p (length payload)))
       → at-write-for f (slot_in ss f).local remote mine
   unfolding wrote_at
   at-wrote f remote mine h fill a =
@@ -283,14 +279,14 @@ module _ (p : RxPolicy) (n : ℕ) (ss : List ChannelSlot) (rx : List ℕ) (ok : 
       subst (λ (m : Bool). at-write-for f local remote m) (sym t)
       (subst (λ (x : ℕ). at-write-for x local remote true) (sym e)
       (at-wrote i remote true (ok.below i there) there
-      (at_own remote _ _ false (decides (slot_in ss i) p (length payload) (ok.opened i there)) refl))))
+      (at_own remote _ false (decides (slot_in ss i) p (length payload) (ok.opened i there)) refl))))
       (λ t. subst (λ (m : Bool). at-write-for f local remote m) (sym t)
       (by-test (ltb f n)
       (λ u. let h = ltb-true f n u in
       let fill = found-filled p n ss rx ok local h in
       let ne : i ≡ f → ⊥ = λ e. eqb-false _ _ t (sym (ap (λ (x : ℕ). (slot_in ss x).local.0) e ∙ found_local p n ss rx ok local h)) in
       at-wrote f remote false h fill
-      (at-else f remote _ _ false h ne (ok.sound f fill) (decides (slot_in ss f) p (length payload) (ok.opened f fill)) refl))
+      (at-else f remote _ false h ne (ok.sound f fill) (decides (slot_in ss f) p (length payload) (ok.opened f fill)) refl))
       (λ u. subst (AtPlace p ss rx i payload false false) (sym (cond-false (ltb f n) _ _ u)) (at_left Unmatched false false refl refl))))
 
   -- an OKAY

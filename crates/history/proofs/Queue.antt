@@ -44,7 +44,8 @@ use Rattle.table_dispatch.specs.declared.DispatchOutcome.{DispatchOutcome}
 use Rattle.table_dispatch.specs.declared.DispatchOutcome.TheVariants.{AckWrite, CreditGranted, SlotClosed, DataBuffered, IncomingOpen, CancelQueuedOpen, StrayReady, ChannelFault, Unmatched}
 use Rattle.table.specs.declared.Want.TheVariants.{Local, Remote}
 use Rattle.table.specs.Table.{first, wanted_by, place_of, slot_in, allocated}
-use Rattle.table_dispatch.specs.Dispatch.{named_place, remote_place, closed_at, close_of as table_close, granted, ready_at, stray_of, grant_of, Dispatched, wrote_by, wrote_at, write_of as table_write, route_of, dispatch_of as table_dispatch}
+use Rattle.slot.proofs.Wrote.{Wrote}
+use Rattle.table_dispatch.specs.Dispatch.{buffered_at, stored, named_place, remote_place, closed_at, close_of as table_close, granted, ready_at, stray_of, grant_of, Dispatched, wrote_by, wrote_at, write_of as table_write, route_of, dispatch_of as table_dispatch}
 use Rattle.table_dispatch.proofs.DispatchLaws.{named-found}
 use Rattle.table_dispatch.proofs.KeepLaws.{dispatch-keeps}
 use Rattle.connection.specs.declared.Answer.{Answer}
@@ -64,7 +65,6 @@ use Rattle.history.proofs.Heads.{call-offer}
 use Rattle.slot.specs.declared.ChannelFault.{ChannelFault as SlotFault}
 use Rattle.std.specs.Prelude.{Option, Some, None, Result, Ok, Err}
 use Rattle.credit.specs.declared.CreditFault.{CreditFault}
-use Rattle.slot.specs.declared.ChannelFault.TheVariants.{RxOverflow, UnexpectedCommand}
 use Rattle.slot.specs.declared.ChannelError.{ChannelError}
 use Rattle.table.specs.declared.NoFreeChannels.{NoFreeChannels}
 
@@ -118,17 +118,21 @@ module _ (p : RxPolicy) (n : ℕ) (ss : List ChannelSlot) (payload rx : List ℕ
       (λ t. pick (λ (o : DispatchOutcome). move_by payload o ≡ stays) (eqb remote.0 0) (λ u. refl)
       (λ u. pick (λ (o : DispatchOutcome). move_by payload o ≡ stays) (eqb local.0 0) (λ v. refl) (λ v. refl)))
 
-  wrote-stays : (i : ℕ) (s t : ChannelSlot) (remote : RemoteId) (d : Result (Option ℕ) SlotFault) → wrote_stays (wrote_by p i s remote payload rx t d)
+  kept-stays : (i : ℕ) (s t : ChannelSlot) (due : Option ℕ) → step_stays (stored (buffered_at i s due) i t)
+  unfolding move_by
+  kept-stays i s t (Some len) = refl
+  kept-stays i s t None = refl
+
+  wrote-stays : (i : ℕ) (s : ChannelSlot) (remote : RemoteId) (r : Wrote) → wrote_stays (wrote_by p i s remote payload rx r)
   unfolding wrote_by move_by
-  wrote-stays i s t remote (Ok (Some len)) = refl
-  wrote-stays i s t remote (Ok None) = refl
-  wrote-stays i s t remote (Err why) = refl
+  wrote-stays i s remote (Ok w) = kept-stays i s w.slot w.ack
+  wrote-stays i s remote (Err why) = refl
 
   write-stays : (remote : RemoteId) (local : LocalId) → wrote_stays (table_write p n ss remote local payload rx)
   unfolding table_write wrote_at move_by
   write-stays remote local =
       let f = place_of (Local local) n ss in
-      pick wrote_stays (ltb f n) (λ t. pick wrote_stays (is_failed (slot_in ss f).failed) (λ u. refl) (λ u. wrote-stays f (slot_in ss f) _ remote _)) (λ t. refl)
+      pick wrote_stays (ltb f n) (λ t. pick wrote_stays (is_failed (slot_in ss f).failed) (λ u. refl) (λ u. wrote-stays f (slot_in ss f) remote _)) (λ t. refl)
 
   route-answer : (c : Command) (a b : ℕ) → move_by payload (route_of p n ss c a b payload rx).step.result ≡ command_move n ss c a b payload
   unfolding route_of command_move move_by

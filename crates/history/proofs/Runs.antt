@@ -20,8 +20,8 @@ use Rattle.protocol.specs.Command.{letters_of, word_of, magic_of, commands, amon
 use Rattle.protocol.specs.Message.{message_of, header_bytes}
 use Rattle.protocol.specs.Packet.{payload_of, check_passes, packet_of, known_of, named_of, decode_of, used_of, message_for, packet_bytes as frame_bytes-protocol}
 use Rattle.slot.specs.Ids.{named_by, closed_by}
-use Rattle.credit.specs.Credit.{credit_of, at_least_zero, credit_fault_number}
-use Rattle.slot.specs.Slot.{emptied_slot, total_with, opening_slot, empty_slot, is_opening, is_closed, is_failed, opened_by, opened_of, ready_of, held_of as held_of-slot, acks_now, buffered_with, wrote_of, some_len, delivered_of, ack_len_of, has_data, settled_by, settled_some, settled_of, take_len, took_of, taken_of, some_budget, budget_of, spent_of, closed_slot, slot_ok}
+use Rattle.credit.specs.Credit.{credit_of, at_least_zero}
+use Rattle.slot.specs.Slot.{emptied_slot, total_with, opening_slot, empty_slot, is_opening, is_closed, is_failed, opened_by, opened_of, ready_of, held_of as held_of-slot, acks_now, buffered_with, wrote_of, some_len, delivered_of, ack_len_of, has_data, settled_by, settled_some, settled_of, take_len, took_of, taken_of, budget_of, spent_of, closed_slot, slot_ok}
 use Rattle.wire.specs.Wire.{credit_bytes, okay_bytes, close_bytes}
 use Rattle.le.specs.Rows.{flat, rows, all_is}
 use Rattle.state.specs.State.{state_len, slot_numbers, slot_counts, tag_of, slot_bytes, slot_of, is_tag, is_slot, queued_bytes, header_sizes, header_words, header_tags, state_header as header_bytes-state, header_of, layout, state_of, is_state, put_slot, put_header}
@@ -30,8 +30,8 @@ use Rattle.table.specs.Table.{first, wanted_by, place_of, next_local_id, allocat
 use Rattle.table_dispatch.specs.Dispatch.{named_place, remote_place, closed_at, close_of, wrote_by, wrote_at, write_of, route_of, dispatch_of}
 use Rattle.connection.specs.Frames.{frame_bytes, frames_bytes}
 use Rattle.connection.specs.Act.{acted_by, table_of, act_on}
-use Rattle.connection.specs.Answer.{refusal_number, answer_number, ack_length, refusal_word, answer_values}
-use Rattle.connection.specs.Calls.{written_by, ends, checked, checked_out, is_there, slot_for, ack_frames, fault_refusal, unless_fault, received_by, received_of, fresh, make_of, dispatch_by, dispatch_step, settled_as, settle_step, taken_by, take_step, reread, read_settled, read_acted, is_direct, read_direct, read_by, read_taken, read_first, read_step, send_len, send_some, send_by, send_again, write_readied, write_acted, write_act, write_by, write_first, write_on, write_step, close_step, open_on, still_pending, open_readied, open_acted, open_by, open_step, open_outcome, dispatch_outcome, settle_outcome, take_outcome, read_outcome, write_outcome, close_outcome}
+use Rattle.connection.specs.Answer.{answer_number, ack_length, refusal_word, answer_values}
+use Rattle.connection.specs.Calls.{written_by, ends, checked, checked_out, is_there, slot_for, ack_frames, unless_fault, received_by, received_of, fresh, make_of, dispatch_by, dispatch_step, settled_as, settle_step, taken_by, take_step, reread, read_settled, read_acted, is_direct, read_direct, read_by, read_taken, read_first, read_step, send_len, send_some, send_by, send_again, write_readied, write_acted, write_act, write_by, write_first, write_on, write_step, close_step, open_on, still_pending, open_readied, open_acted, open_by, open_step, open_outcome, dispatch_outcome, settle_outcome, take_outcome, read_outcome, write_outcome, close_outcome}
 use Rattle.history.specs.Run.{World, Call, open_call, dispatch_call, settle_call, take_call, read_call, write_call, close_call, Start, begins, policy_in, bytes_in, out_of, buf_of, outcome, after, after_all, made}
 use Rattle.history.specs.Seen.{Event, seen_of, held_of, said_by, count_of, sent_by, sent_in, seen_in, events_of}
 use Rattle.history.specs.Book.{Book, Ledger, no_book, clean, book_at, book_slot, new_aside, credit_in, acks_of, last_open, frame_b, damaged_b, packet_b, read_used_b, read_b, write_b, entry_on, opened_b, acks_b, book_after, each_place, entry, ledger_of}
@@ -280,7 +280,7 @@ plain_book =
 
 -- to unfold this is to unfold all that a run computes with
 computing : ℕ
-unfolding num_of bytes_of signed unsigned part put clamp sat_sum positive_part slid fits_behind appended_head appended taken_head within_limits cap_of ceiling_of watermark_of opening_credit rx_store_len open_store_len stores_fit both negotiated_of policy_of credit_of-config total sum_of policy_for check_for letters_of word_of magic_of commands among_of command_of message_of header_bytes payload_of check_passes packet_of known_of named_of decode_of used_of message_for frame_bytes-protocol is_close named_by closed_by credit_of at_least_zero opening_slot empty_slot emptied_slot total_with is_opening is_closed is_failed opened_by opened_of ready_of held_of-slot acks_now buffered_with wrote_of some_len delivered_of ack_len_of has_data settled_by settled_some settled_of take_len took_of taken_of some_budget budget_of spent_of closed_slot slot_ok credit_bytes okay_bytes close_bytes flat rows all_is slot_numbers slot_counts tag_of slot_bytes slot_of is_tag is_slot queued_bytes header_sizes header_words header_tags header_bytes-state header_of layout state_of is_state put_slot put_header filled_ok slot_fine slots_fine queue_fine pending_fine offer_fine opens_fine header_fine filled_at whole is_whole first wanted_by place_of next_local_id allocated slot_in named_place remote_place closed_at close_of share_of buffered_in wrote_by wrote_at write_of route_of dispatch_of frame_bytes frames_bytes acted_by table_of act_on answer_number ack_length refusal_word answer_values written_by ends checked checked_out is_there slot_for ack_frames unless_fault received_by received_of is_write is_ready fresh make_of dispatch_by dispatch_step settled_as settle_step front_of taken_by take_step reread read_settled read_acted is_direct read_direct read_by read_taken read_first read_step send_len send_some send_by send_again write_readied write_acted write_act write_by write_first write_on write_step close_step open_on still_pending open_readied open_acted open_by open_step open_outcome dispatch_outcome settle_outcome take_outcome read_outcome write_outcome close_outcome bytes_in out_of buf_of outcome after after_all made held_of said_by count_of sent_by sent_in seen_in events_of book_slot new_aside credit_in acks_of last_open frame_b damaged_b packet_b read_used_b read_b write_b entry_on opened_b acks_b book_after each_place entry ledger_of run_of opens_in given_by given_in is_the is_open
+unfolding num_of bytes_of signed unsigned part put clamp sat_sum positive_part slid fits_behind appended_head appended taken_head within_limits cap_of ceiling_of watermark_of opening_credit rx_store_len open_store_len stores_fit both negotiated_of policy_of credit_of-config total sum_of policy_for check_for letters_of word_of magic_of commands among_of command_of message_of header_bytes payload_of check_passes packet_of known_of named_of decode_of used_of message_for frame_bytes-protocol is_close named_by closed_by credit_of at_least_zero opening_slot empty_slot emptied_slot total_with is_opening is_closed is_failed opened_by opened_of ready_of held_of-slot acks_now buffered_with wrote_of some_len delivered_of ack_len_of has_data settled_by settled_some settled_of take_len took_of taken_of budget_of spent_of closed_slot slot_ok credit_bytes okay_bytes close_bytes flat rows all_is slot_numbers slot_counts tag_of slot_bytes slot_of is_tag is_slot queued_bytes header_sizes header_words header_tags header_bytes-state header_of layout state_of is_state put_slot put_header filled_ok slot_fine slots_fine queue_fine pending_fine offer_fine opens_fine header_fine filled_at whole is_whole first wanted_by place_of next_local_id allocated slot_in named_place remote_place closed_at close_of share_of buffered_in wrote_by wrote_at write_of route_of dispatch_of frame_bytes frames_bytes acted_by table_of act_on answer_number ack_length refusal_word answer_values written_by ends checked checked_out is_there slot_for ack_frames unless_fault received_by received_of is_write is_ready fresh make_of dispatch_by dispatch_step settled_as settle_step front_of taken_by take_step reread read_settled read_acted is_direct read_direct read_by read_taken read_first read_step send_len send_some send_by send_again write_readied write_acted write_act write_by write_first write_on write_step close_step open_on still_pending open_readied open_acted open_by open_step open_outcome dispatch_outcome settle_outcome take_outcome read_outcome write_outcome close_outcome bytes_in out_of buf_of outcome after after_all made held_of said_by count_of sent_by sent_in seen_in events_of book_slot new_aside credit_in acks_of last_open frame_b damaged_b packet_b read_used_b read_b write_b entry_on opened_b acks_b book_after each_place entry ledger_of run_of opens_in given_by given_in is_the is_open
 computing = 0
 
 -- handed over and buffered is accepted, and set aside is the slot's number; in delayed mode, where the channel is not closed,

@@ -35,7 +35,7 @@ use Rattle.table.specs.Table.{slot_in}
 use Rattle.connection.specs.declared.Answer.{Answer}
 use Rattle.connection.specs.declared.Answer.TheVariants.{Waiting, Refused}
 use Rattle.connection.specs.Act.{act_on}
-use Rattle.connection.specs.Answer.{refusal_number, answer_number, answer_values}
+use Rattle.connection.specs.Answer.{answer_number, answer_values}
 use Rattle.connection.specs.Calls.{Outcome, Work, ends, body_of, frame_len, unless_fault, error_refusal, fault_refusal}
 use Rattle.connection.specs.Frames.{Sent}
 use Rattle.history.specs.Seen.{Seen}
@@ -46,7 +46,7 @@ use Rattle.history.proofs.Good.{Terms, Good, Limits, Settles, already, not-due, 
 use Rattle.history.proofs.Packets.{Stops, Marked, reads-write, reads-arg1, reads-payload, body-small, closes-agree}
 use Rattle.connection.proofs.Slots.{slots_by, slots-append, slot-set-same, slot-set-other}
 use Rattle.history.proofs.Places.{SameRun, TableOk}
-use Rattle.std.specs.Prelude.{Option, Some, None, Result, Ok, Err}
+use Rattle.std.specs.Prelude.{Option, Some, None}
 
 -- ---- what a caller sees
 

@@ -23,7 +23,7 @@ use Rattle.state.specs.State.{is_ours, state_len, Connection, state_of}
 use Rattle.state_whole.specs.Whole.{is_whole}
 use Rattle.table.specs.Table.{slot_in}
 use Rattle.connection.specs.declared.Refusal.TheVariants.{StoreShort, OutShort, BrokenState}
-use Rattle.connection.specs.Answer.{answer_number, refusal_number}
+use Rattle.connection.specs.Answer.{answer_number}
 use Rattle.connection.specs.Calls.{numbers_for, numbers_outcome, Lent, Outcome, checked, checked_out, fresh, open_outcome, dispatch_outcome, settle_outcome, take_outcome, read_outcome, write_outcome, close_outcome, take_front_outcome, accept_outcome, reject_outcome, let_go_outcome}
 use Rattle.connection.proofs.Slots.{slots-by}
 use Rattle.history.specs.Run.{look_outcome, Call, open_call, dispatch_call, settle_call, take_call, read_call, write_call, close_call, front_taken, look_call, numbers_look, accept_call, reject_call, let_go_call, received_in, bytes_in, World, lent, outcome, after, after_all, Start, begins, agreed_in, policy_in}

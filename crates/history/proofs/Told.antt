@@ -39,7 +39,7 @@ use Rattle.history.specs.Book.{Book, gone_book, credit_in, handed_b, acked_b, ac
 use Rattle.history.specs.Demand3.{size_of, Reads, AllRead, Noted, Told}
 use Rattle.history.proofs.Heard.{Writes, counted, heard_of, nothing8, seen-eight, count-eight}
 use Rattle.history.proofs.Opens.{and-false}
-use Rattle.std.specs.Prelude.{Option, Some, None, Result, Ok, Err}
+use Rattle.std.specs.Prelude.{Ok}
 
 -- ---- a call that answers 8
 

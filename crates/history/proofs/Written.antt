@@ -47,7 +47,7 @@ use Rattle.rx_store.proofs.ShareLaws.{share_in}
 use Rattle.connection.specs.declared.Answer.{Answer}
 use Rattle.connection.specs.declared.Answer.TheVariants.{Waiting, Nothing, Read, Refused, Done, Opened}
 use Rattle.connection.specs.declared.Refusal.TheVariants.{ChannelClosed}
-use Rattle.connection.specs.Answer.{refusal_number, answer_number, answer_values}
+use Rattle.connection.specs.Answer.{answer_number, answer_values}
 use Rattle.connection.specs.Act.{Acted, act_on}
 use Rattle.connection.specs.Calls.{looked, numbers_for, numbers_outcome, Lent, Outcome, Work, begun, then, then_acted, storing, ends, checked, checked_out, dropped, pending_for, policy, ids_in, is_there, slot_for, ack_frames, received_of, error_refusal, fault_refusal, unless_fault, body_of, frame_len, dispatch_by, dispatch_step, settled_as, settle_step, taken_by, take_step, reread, read_settled, read_acted, is_direct, read_direct, read_by, read_taken, read_first, read_step, send_len, send_some, send_by, send_again, write_readied, write_acted, write_act, write_by, write_first, write_on, write_step, close_step, take_front_by, take_front_step, open_on, still_pending, open_readied, open_acted, open_by, open_step, open_outcome, dispatch_outcome, settle_outcome, take_outcome, read_outcome, write_outcome, close_outcome, take_front_outcome, accept_outcome, reject_outcome, let_go_outcome, offer_in, is_offered, reject_on, accept_on, accept_step, reject_step, let_go_step}
 use Rattle.connection.specs.Frames.{Frame, close_frame, open_frame, write_frame, frame_bytes, frames_bytes, okay_frame}

@@ -13,7 +13,7 @@ use Rattle.history.specs.Run.{Call, received_in, World, after, after_all, Start,
 use Rattle.history.specs.Seen.{said_by, count_of, Event, seen_of, events_of}
 use Rattle.history.specs.Book.{Book, credit_in, header_at, is_wrte, Ledger, clean, book_at, entry, ledger_of}
 use Rattle.protocol.specs.Message.{message_size}
-use Rattle.std.specs.Prelude.{Option, Some, None, Result, Ok, Err}
+use Rattle.std.specs.Prelude.{Ok}
 
 -- the slot at a place
 abbrev pub place_slot : World → ℕ → ChannelSlot

@@ -13,7 +13,7 @@ use Rattle.table.specs.Table.{wanted_by, count_of}
 use Rattle.connection.specs.Answer.{answer_number}
 use Rattle.history.specs.Run.{bytes_in, dispatch_call, World, lent, outcome, after}
 use Rattle.history.specs.Demand3.{place_slot}
-use Rattle.std.specs.Prelude.{Option, Some, None, Result, Ok, Err}
+use Rattle.std.specs.Prelude.{Some, Ok}
 
 -- how many channels have this remote number and are not closed
 unfoldable pub live_count : World → RemoteId → ℕ

@@ -1,6 +1,6 @@
 -- The queued opens change as the Rust's IncomingQueue does, over every list of calls (incoming.rs; connection.rs, `act_on`
 -- and `try_accept_incoming`). Assumes nothing.
-use Rattle.std.specs.Prelude.{ℕ, ◌≤◌, Bool, true, false, cond, ◌&&◌, ◌||◌, List, [], ◌∷◌, ◌++◌, ◌≡◌, eqb, ltb, length, take, drop, Option, Some, None, Result, Ok, Err}
+use Rattle.std.specs.Prelude.{ℕ, ◌≤◌, Bool, true, false, cond, ◌&&◌, ◌||◌, List, [], ◌∷◌, ◌++◌, ◌≡◌, eqb, ltb, length, take, drop, Result, Ok, Err}
 use Rattle.le.specs.Le.{part}
 use Rattle.config.specs.Config.{stores_fit}
 use Rattle.incoming.specs.Incoming.{Incoming, queued_as, queued_opens, withdrawn}

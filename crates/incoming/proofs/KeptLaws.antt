@@ -17,7 +17,7 @@ use Rattle.le.proofs.RowLaws.{flat_append, length-flat, walk-over}
 use Rattle.state.proofs.StateLaws.{open_in, state-full}
 use Rattle.incoming.specs.Incoming.{stays_by, kept, Retains}
 use Rattle.slot.specs.declared.ids.RemoteId.{RemoteId}
-use Rattle.std.specs.Prelude.{Option, Some, None, Result, Ok, Err}
+use Rattle.std.specs.Prelude.{Option, None}
 
 -- ---- those that stay
 

@@ -14,7 +14,7 @@ use Rattle.state.specs.State.{state_len, none_queued, state_of, queued_at, put_q
 use Rattle.state.proofs.StateLaws.{open_in, state-full}
 use Rattle.incoming.specs.Incoming.{free_share, kept, with_queued, Retains, withdrawal, offering, popped, returned, Pushes, next_share, pushed}
 use Rattle.incoming.proofs.KeptLaws.{kept-all, put-opens-next}
-use Rattle.std.specs.Prelude.{Option, Some, None, Result, Ok, Err}
+use Rattle.std.specs.Prelude.{Some, None}
 
 module _ (h : Header) (b : List ℕ) (remote : RemoteId) (credit : ℕ) (destination store : List ℕ) where
   -- as many wait as there are channels: nothing changes

@@ -23,7 +23,7 @@ use Rattle.state_whole.specs.Whole.{queued_fine, queue_fine}
 use Rattle.le.proofs.RowLaws.{walk_here, never, Every}
 use Rattle.incoming.specs.Incoming.{queued_as, queued_opens, named, free_share, stays_by, kept, withdrawn, with_queued, withdrawal, offering, popped, returned, next_share, pushed}
 use Rattle.incoming.proofs.ShareLaws.{free-unused, next-below, share-fits}
-use Rattle.std.specs.Prelude.{Option, Some, None, Result, Ok, Err}
+use Rattle.std.specs.Prelude.{Option, Some, None}
 
 waits-append : (payload : ℕ) (store : List ℕ) (x y : List QueuedOpen) → queued_opens payload store (x ++ y) ≡ queued_opens payload store x ++ queued_opens payload store y
 unfolding queued_opens

@@ -26,7 +26,7 @@ use Rattle.incoming.specs.Incoming.{free_share, kept, with_queued, withdrawal, o
 use Rattle.incoming.proofs.ShareLaws.{next-below, share-fits}
 use Rattle.incoming.proofs.ListLaws.{fine-parts, fine-cons, fine-snoc, get_or-behind, push-fine, kept_fine, kept-every, length-kept}
 use Rattle.state_whole.proofs.WholeLaws.{Whole, OpensWhole, OfferWhole}
-use Rattle.std.specs.Prelude.{Option, Some, None, Result, Ok, Err}
+use Rattle.std.specs.Prelude.{Option, Some, None}
 
 -- changes to the queued opens os alone, after which the header is `more`
 pub record QueueKeeps (n : Negotiated) (ss : List ChannelSlot) (os : List QueuedOpen) (more : Header) (xs : List Change) : Type 0 where

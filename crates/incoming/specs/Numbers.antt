@@ -1,6 +1,6 @@
 -- The numbers of the queue's answers (docs/SCOPE.md, 6). Assumes nothing.
 use Rattle.refusal.specs.Refusal.{there_number_of}
-use Rattle.std.specs.Prelude.{ℕ, Option, Some, None, Result, Ok, Err}
+use Rattle.std.specs.Prelude.{ℕ, Option}
 use Rattle.state.specs.declared.Header.{Header}
 use Rattle.state.specs.declared.QueuedOpen.{QueuedOpen}
 

@@ -1,6 +1,7 @@
 // The device's queued OPENs: entries in the lent state, the first `queued` of 64, and their destinations in
 // the open store, where share k is the max_payload bytes from k * max_payload on. The header is handed in and handed back
-// by value: the caller stores it once.
+// by value: the caller stores it once. Shares are numbers into lent memory, since nothing is allocated.
+// `as usize` widens a u32: std has no From for it, as usize may be narrower elsewhere.
 #![tactic(auto)]
 
 ghost use Rattle.std.specs.Prelude.{◌≡◌, ◌≤◌, ◌<◌, ◌∷◌, length, take, drop};
@@ -10,12 +11,12 @@ ghost use Rattle.incoming.specs.Numbers.{pushed_number, front_number};
 ghost use Rattle.incoming.specs.Incoming.{named, free_share, stays_by, kept, with_queued, Retains, QueueOk, withdrawal, popped};
 ghost use Rattle.incoming.specs.Incoming.{PushRoom, Pushes, pushed, offering, FrontRoom, returned};
 
-use refusal::there_number_of;
+use refusal::{NOTHING, there_number_of};
 use slot::ids::RemoteId;
 use state::{Header, Pending, PendingOpen, QueuedOpen, put_queued, queued_at};
 
 // The numbers of answers (docs/SCOPE.md, 6): an OPEN beyond the number of channels is answered by a CLSE and is no refusal of
-// the call; 101 for none queued.
+// the call; 101 for none queued. Public functions with promises of their own, each one call of refusal's.
 
 pub fn pushed_number(pushed: Option<Header>) -> u32
     ensures { result ≡ pushed_number pushed }
@@ -26,10 +27,10 @@ pub fn pushed_number(pushed: Option<Header>) -> u32
 pub fn front_number(front: Option<(QueuedOpen, Header)>) -> u32
     ensures { result ≡ front_number front }
 {
-    there_number_of(front, 101)
+    there_number_of(front, NOTHING)
 }
 
-// Whether one of the first `queued` uses share k.
+// Whether one of the first `queued` uses share k. A `for`: `any` would take two clauses on its closure for these few lines, and say no more.
 fn is_named(state: &[u8], queued: usize, k: usize) -> bool
     requires { (queued ≤ 64) × (state_len ≤ length state.now) }
     ensures { result ≡ named k (take queued (state_of state.now).queue) }
@@ -43,7 +44,8 @@ fn is_named(state: &[u8], queued: usize, k: usize) -> bool
     false
 }
 
-// The lowest share below n that none of the first `queued` uses, or n.
+// The lowest share below n that none of the first `queued` uses, or n: its one caller has room, and an Option would give it an arm that
+// never comes. A `for`, as `is_named` has.
 fn free_share(state: &[u8], queued: usize, n: usize) -> usize
     requires { (queued ≤ 64) × (state_len ≤ length state.now) }
     ensures { result ≡ free_share n (take queued (state_of state.now).queue) }
@@ -66,7 +68,9 @@ fn stays(q: QueuedOpen, gone: Option<RemoteId>) -> bool
     }
 }
 
-// Those of the first `queued` that stay, from place `from` on, moved to the front in one pass. Answers how many.
+// Those of the first `queued` that stay, from place `from` on, moved to the front in one pass. Answers how many. `retain` of std
+// needs a Vec, and this is lent memory; `copy_within` moves one run, and those that go lie between those that stay. `gone` and not a
+// closure: the definition (`kept`) names the two cases.
 fn retain(state: &mut [u8], from: usize, queued: usize, gone: Option<RemoteId>) -> usize
     requires { (from ≤ queued) × (queued ≤ 64) × (state_len ≤ length state.old) }
     ensures { Retains (kept gone (drop from (take queued (state_of state.old).queue))) state.old result
@@ -102,7 +106,8 @@ fn offer_behind(h: Header) -> Header
     }
 }
 
-// Puts one ahead of the first `queued`, which move down a place each.
+// Puts one ahead of the first `queued`, which move down a place each. One at a time, by what `state` promises of a place; `copy_within` would
+// need the layout's bytes and a law of a run of entries.
 fn put_first(state: &mut [u8], queued: usize, first: QueuedOpen)
     requires { (queued < 64) × (state_len ≤ length state.old) }
     ensures { state.new ≡ put_queue state.old (first ∷ take queued (state_of state.old).queue) }
@@ -130,8 +135,7 @@ pub fn push_back(
     ensures { Pushes (pushed h (state_of state.old).queue remote credit destination.now store.old)
         state.old result state.new store.new }
 {
-    let negotiated = h.negotiated;
-    let config = negotiated.config;
+    let config = h.negotiated.config;
     let queued = h.queued;
     if queued >= config.channels {
         return None;

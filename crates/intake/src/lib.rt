@@ -11,7 +11,8 @@ use std::io::Read;
 use std::ops::ControlFlow;
 
 // Where held bytes lie in their buffer: from `at` to `end`. The buffer stays beside it: a struct with a `&mut` in it would need a
-// clause in each method that it is the same reference, and reads no plainer.
+// clause in each method that it is the same reference, and reads no plainer. One that owns an array proves (tried), but would be a narrower
+// type: `convert` takes a buffer of any length.
 #[derive(Clone, Copy, Debug, PartialEq, Eq)]
 pub struct Held {
     pub at: usize,

@@ -1,6 +1,5 @@
 -- Laws of parts of a list and of what is put into it. Assumes nothing.
 use mathlib.Core.Path.{◌≡◌, refl, sym, ap, ◌∙◌}
-use mathlib.Core.Bool.{Bool, true, false}
 use mathlib.Core.List.{List, [], ◌∷◌, ◌++◌, append_assoc, append-nil}
 use Prim.Native.Nat.{ℕ, zero, suc, ◌+◌, ◌-◌, ◌≤◌}
 use native.Mathlib.Nat.{zero-add, suc-add}
@@ -9,11 +8,7 @@ use lib.ListN.{length, take, drop, length-append, length-take, length-drop, drop
 use lib.Seq.{take-length, take-append-le, drop-append-le, take_at, drop_at, drop-drop, take-append_seam, take-nil, take-take, take-add, drop-append-add}
 use borrow.Rule.Slice.PartMut.{put_mid}
 use Rattle.le.specs.Le.{part, put}
-
--- a test goes one of two ways
-pub by-test : {P : Type 0} (t : Bool) → (t ≡ true → P) → (t ≡ false → P) → P
-by-test true f g = f refl
-by-test false f g = g refl
+pub use Rattle.le.specs.WordLaws.{by-test}
 
 pub drop-take : (n k : ℕ) (l : List ℕ) → drop n (take (n + k) l) ≡ take k (drop n l)
 drop-take zero k l = rw zero-add

@@ -2,15 +2,15 @@
 use mathlib.Core.Path.{◌≡◌, refl, sym, ap, subst, ◌∙◌}
 use mathlib.Core.Bool.{Bool, true, false}
 use mathlib.Core.List.{List, [], ◌∷◌, ◌++◌, append_assoc, append-nil}
-use Prim.Native.Nat.{ℕ, zero, suc, ◌+◌, ◌*◌, ◌≤◌, ◌<◌}
+use Prim.Native.Nat.{ℕ, zero, suc, ◌+◌, ◌*◌, ◌^◌, ◌≤◌, ◌<◌}
 use native.Mathlib.Nat.{zero-mul, suc-mul}
 use native.Mathlib.Omega.{arith}
 use lib.Dec.{T}
 use lib.ListN.{length, take, drop, get_or, set, length-append, length-drop, length-take, take-append-drop, drop_of_length-le}
 use lib.Seq.{split_at, set_split, take_at, drop_at, drop-drop, drop-cons, get_or-take, take-add, length-take-le}
-use Rattle.le.specs.Le.{part, put, Bytes}
+use Rattle.le.specs.Le.{num_of, bytes_of, part, put, Bytes}
 use Rattle.le.proofs.Parts.{by-test, put-put}
-use Rattle.le.proofs.Laws.{bytes_drop, bytes_take}
+use Rattle.le.proofs.Laws.{length-bytes_of, write_read, bytes_drop, bytes_take}
 use Rattle.std.proofs.Common.{add-one}
 use Rattle.std.proofs.lemmas.List.{take_more}
 use Rattle.std.proofs.Math.Nat.{mul-le-mul_right}
@@ -181,3 +181,24 @@ module _ {A : Type 0} (size : ℕ) (bytes : A → List ℕ) (is : List ℕ → B
   all-flat (a ∷ x) r =
       let g : bytes a ++ flat bytes x ++ r ≡ bytes a ++ (flat bytes x ++ r) = append_assoc (bytes a) (flat bytes x) r in
       rw (g, take_at (bytes a) (flat bytes x ++ r) size (sized a), drop_at (bytes a) (flat bytes x ++ r) size (sized a), good a) (all-flat x r)
+
+-- ---- numbers of 64 bits, eight bytes for each
+
+abbrev pub Small : ℕ → Type 0
+Small x = x < 2 ^ 64
+
+-- each of them is below 2^64
+pub small_each : (l : List ℕ) → ((k : ℕ) → get_or l k 0 < 2 ^ 64) → Every Small l
+small_each [] h = tt
+small_each (x ∷ l) h = (h 0, small_each l (λ k. h (suc k)))
+
+-- numbers put at the start are read back
+pub put_back : (d l : List ℕ) → Every Small l → rows 8 num_of (length l) (put d 0 (flat (bytes_of 8) l)) ≡ l
+unfolding put
+put_back d l fits =
+    rows-flat 8 (bytes_of 8) num_of Small (λ x. length-bytes_of 8 x) (λ x q. write_read 8 x q) l (drop (0 + length (flat (bytes_of 8) l)) d) fits
+
+-- and so is one
+pub count_back : (d : List ℕ) (n : ℕ) → n < 2 ^ 64 → rows 8 num_of 1 (put d 0 (bytes_of 8 n)) ≡ n ∷ []
+unfolding flat
+count_back d n h = ap (rows 8 num_of 1) (ap (put d 0) (sym (append-nil (bytes_of 8 n)))) ∙ put_back d (n ∷ []) (h, tt)

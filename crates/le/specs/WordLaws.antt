@@ -12,9 +12,10 @@ use borrow.Author.Tests.{ltb-true, ltb-false}
 use Rattle.le.specs.Le.{num_of, bytes_of, signed, unsigned, Bytes}
 use Rattle.le.specs.Word.{WordLaws}
 
-by_test : {P : Type 0} (t : Bool) → (t ≡ true → P) → (t ≡ false → P) → P
-by_test true f g = f refl
-by_test false f g = g refl
+-- a test goes one of two ways
+pub by-test : {P : Type 0} (t : Bool) → (t ≡ true → P) → (t ≡ false → P) → P
+by-test true f g = f refl
+by-test false f g = g refl
 
 pub length-bytes_of : (k x : ℕ) → length (bytes_of k x) ≡ k
 unfolding bytes_of
@@ -47,14 +48,14 @@ read-write (b ∷ l) h =
 pub unsigned_signed : (k x : ℕ) → x < 2 * 2 ^ k → unsigned k (signed k x) ≡ x
 unfolding signed unsigned
 unsigned_signed k x h =
-    by_test (ltb x (2 ^ k)) (λ t. rw t)
+    by-test (ltb x (2 ^ k)) (λ t. rw t)
     (λ t. let e : 2 * 2 ^ k - 1 - (2 * 2 ^ k - 1 - x) ≡ x = omega arith in rw (t, e))
 
 -- the number that bits stand for is within its range
 pub signed-small : (k x : ℕ) → x < 2 * 2 ^ k → mag (signed k x) < 2 ^ k
 unfolding signed
 signed-small k x h =
-    by_test (ltb x (2 ^ k)) (λ t. rw t (omega (arith, ltb-true))) (λ t. rw t (omega (arith, ltb-false)))
+    by-test (ltb x (2 ^ k)) (λ t. rw t (omega (arith, ltb-true))) (λ t. rw t (omega (arith, ltb-false)))
 
 pub unsigned_laws : (k : ℕ) → WordLaws k num_of (bytes_of k)
 unsigned_laws k = record {

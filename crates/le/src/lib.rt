@@ -75,7 +75,8 @@ impl Word for u32 {
     }
 }
 
-// Read in two halves, so that what is proved of four bytes serves for eight.
+// Read in two halves, so that what is proved of four bytes serves for eight: `from_le_bytes` here would be eight places in an array, and
+// would need a law of its own.
 impl Word for u64 {
     const LEN: usize = 8;
 
@@ -97,6 +98,7 @@ impl Word for u64 {
     }
 }
 
+// By `as`, which changes no bit: usize has 64 bits here, and std has no From between the two.
 impl Word for usize {
     const LEN: usize = 8;
 
@@ -171,7 +173,8 @@ pub fn put<T: Word>(s: &mut [u8], at: usize, x: T)
     x.put_at(s, at);
 }
 
-// Several, one behind the other.
+// Several, one behind the other. The offset is counted beside the `for`: `chunks_exact_mut` would ask that no width is 0, and hand each
+// number a slice of its own.
 pub fn put_all<T: Word>(s: &mut [u8], at: usize, xs: &[T])
     requires { at + length xs.now * T.LEN ≤ length s.old }
     ensures { s.new ≡ put s.old at (flat T.bytes xs.now) }

@@ -14,7 +14,7 @@ use Rattle.connection.specs.Answer.{answer_number}
 use Rattle.connection.specs.Calls.{Outcome, dispatch_step}
 use Rattle.slot.specs.declared.ChannelSlot.{ChannelSlot}
 use Rattle.slot.specs.declared.Settled.{Settled}
-use Rattle.slot.specs.declared.Wrote.{Wrote}
+use Rattle.slot.specs.declared.ChannelFault.{ChannelFault}
 use Rattle.credit.specs.Credit.{credit_number, credit_of}
 use Rattle.slot.specs.Numbers.{decision_number, taken_number}
 use Rattle.slot.specs.Slot.{accepted_slot, is_closed, wrote_of, settled_of, taken_of}
@@ -122,11 +122,16 @@ budget payload =
     answer_number o.answer ∷ o.used ∷ sized (slot_in (changed_all ones o.changes).slots 0).send_budget
 
 -- M8, step by step: a WRTE of 6, a settling of 4
-abbrev six : Wrote
+abbrev six : Result Settled ChannelFault
 six = wrote_of channel ten 6
 
+-- the slot that a WRTE leaves: its own, where it is refused
+abbrev left_by : ChannelSlot → Result Settled ChannelFault → ChannelSlot
+left_by s (Ok w) = w.slot
+left_by s (Err f) = s
+
 abbrev four : Settled
-four = settled_of six.slot ten 4
+four = settled_of (left_by channel six) ten 4
 
 -- an acknowledgement's length
 abbrev length-of : Option ℕ → List ℕ
@@ -134,8 +139,8 @@ length-of (Some n) = n ∷ []
 length-of None = []
 
 -- what a WRTE does: its answer's number, and what is then unacknowledged
-abbrev wrote : Wrote → List ℕ
-wrote w = decision_number w.decision ∷ w.slot.unacked ∷ []
+abbrev wrote : ChannelSlot → Result Settled ChannelFault → List ℕ
+wrote s r = decision_number r ∷ (left_by s r).unacked ∷ []
 
 -- what a take does: its answer's number, its length, and what is then set aside
 abbrev took : Result (Option (ChannelSlot × ℕ)) ChannelError → List ℕ
@@ -185,11 +190,11 @@ table =
     ∷ row 6 (budget (255 ∷ 255 ∷ 255 ∷ 255 ∷ [])) (21 ∷ 28 ∷ 0 ∷ 1 ∷ [])
     ∷ row 6 (budget (255 ∷ 255 ∷ 255 ∷ [])) (5 ∷ 27 ∷ 0 ∷ 1 ∷ [])
     ∷ row 7 (next_local_id 0xffff_ffff ∷ []) (1 ∷ [])
-    ∷ row 8 (wrote six) (0 ∷ 6 ∷ [])
+    ∷ row 8 (wrote channel six) (0 ∷ 6 ∷ [])
     ∷ row 8 (four.slot.unacked ∷ length-of four.ack) (2 ∷ 4 ∷ [])
-    ∷ row 8 (wrote (wrote_of four.slot ten 9)) (11 ∷ 2 ∷ [])
-    ∷ row 8 (wrote (wrote_of four.slot ten 8)) (0 ∷ 10 ∷ [])
-    ∷ row 8 (took (taken_of (wrote_of four.slot ten 8).slot 3)) (0 ∷ 3 ∷ 1 ∷ [])
+    ∷ row 8 (wrote four.slot (wrote_of four.slot ten 9)) (11 ∷ 2 ∷ [])
+    ∷ row 8 (wrote four.slot (wrote_of four.slot ten 8)) (0 ∷ 10 ∷ [])
+    ∷ row 8 (took (taken_of (left_by four.slot (wrote_of four.slot ten 8)) 3)) (0 ∷ 3 ∷ 1 ∷ [])
     ∷ row 9 (withdrew zeros clse) (0 ∷ 24 ∷ flag false ++ 1 ∷ [])
     ∷ row 10 (flag (has_feature identity (98 ∷ []))) (flag false)
     ∷ []

@@ -10,7 +10,7 @@ use Rattle.le.specs.Le.{bytes_of, put}
 use Rattle.le.specs.Rows.{flat}
 use Rattle.le.proofs.Parts.{put-put}
 use Rattle.pcap.specs.declared.Time.{Time}
-use Rattle.pcap.specs.Header.{file_header, write_header}
+use Rattle.pcap.specs.Header.{file_header}
 use Rattle.pcap.specs.Record.{snap_length, record_head, record_bytes, write_record, Writes}
 
 pub length-header : length file_header ≡ 24
@@ -26,9 +26,9 @@ unfolding record_bytes
 length-record t frame = rw (length-append, length-head)
 
 -- four words are a record's header
-pub four-words : (t : Time) (n : ℕ) → flat (bytes_of 4) (t.seconds ∷ t.micros ∷ n ∷ n ∷ []) ≡ record_head t n
+pub four_words : (t : Time) (n : ℕ) → flat (bytes_of 4) (t.seconds ∷ t.micros ∷ n ∷ n ∷ []) ≡ record_head t n
 unfolding flat record_head bytes_of
-four-words t n = refl
+four_words t n = refl
 
 -- a frame behind a record's header is a record
 pub put_record : (d : List ℕ) (t : Time) (frame : List ℕ) → 16 + length frame ≤ length d
@@ -36,12 +36,7 @@ pub put_record : (d : List ℕ) (t : Time) (frame : List ℕ) → 16 + length fr
 unfolding record_bytes
 put_record d t frame h = put-put d 0 (record_head t (length frame)) 16 frame (omega (arith, length-head t (length frame))) h
 
--- ---- past its tests, what a writer put is what writing gives
-
-pub header-written : (d out : List ℕ) → 24 ≤ length d → out ≡ put d 0 file_header → Writes (write_header d) (Ok 24) out
-unfolding write_header
-header-written d out h e = rw (le-ltb (length d) 24 h) (record { result-is = refl; out-is = e })
-
+-- past its tests, what a writer put is what writing gives
 pub record-written : (t : Time) (frame d out : List ℕ) → length frame ≤ snap_length → 16 + length frame ≤ length d → out ≡ put d 0 (record_bytes t frame)
     → Writes (write_record t frame d) (Ok (16 + length frame)) out
 unfolding write_record

@@ -5,7 +5,7 @@ use Rattle.refusal.specs.Refusal.{read_number_of}
 use Rattle.pcap.specs.declared.Header.{Header}
 use Rattle.pcap.specs.declared.HeaderError.{HeaderError}
 use Rattle.pcap.specs.declared.HeaderError.TheVariants.{Invalid}
-use Rattle.pcap.specs.declared.WriteError.TheVariants.{OutShort}
+use Rattle.refusal.specs.declared.WriteError.TheVariants.{OutShort}
 use Rattle.pcap.specs.Record.{snap_length, Composed}
 
 -- its 24 bytes: the magic number of microseconds, version 2.4, zone 0, accuracy 0, snap length, link type

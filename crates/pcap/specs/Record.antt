@@ -1,13 +1,15 @@
 -- The records of a pcap file (docs/SCOPE.md, 12). Assumes nothing.
-use Rattle.std.specs.Prelude.{ℕ, ◌+◌, ◌≤◌, ◌<◌, ◌^◌, ◌≡◌, Bool, true, cond, not, List, ◌++◌, ltb, eqb, Option, Some, None, Result, Ok, Err, length}
+use Rattle.std.specs.Prelude.{ℕ, ◌+◌, ◌≤◌, ◌<◌, ◌^◌, Bool, true, cond, not, List, ◌++◌, ltb, eqb, Option, Some, None, Result, Ok, Err, length}
 use Rattle.refusal.specs.Refusal.{number_of, read_number_of}
+use Rattle.refusal.specs.declared.WriteError.{WriteError}
+use Rattle.refusal.specs.declared.WriteError.TheVariants.{Refused, OutShort}
+use Rattle.refusal.specs.Written.{Composed as ComposedOf, write_refusal as refusal_of}
+pub use Rattle.refusal.specs.Written.{Writes}
 use Rattle.le.specs.Le.{num_of, bytes_of, part, put}
 use Rattle.pcap.specs.declared.Time.{Time}
 use Rattle.pcap.specs.declared.Record.{Record}
 use Rattle.pcap.specs.declared.ReadError.{ReadError}
 use Rattle.pcap.specs.declared.ReadError.TheVariants.{InvalidLength}
-use Rattle.pcap.specs.declared.WriteError.{WriteError}
-use Rattle.pcap.specs.declared.WriteError.TheVariants.{OutShort, InvalidLength as NotWritten}
 
 -- the longest frame of a record: a frame's header of 24 bytes and a payload of 1,048,576
 abbrev pub snap_length : ℕ
@@ -82,36 +84,29 @@ pub record Room (out frame : List ℕ) : Type 0 where
 
 -- what became of what was to be written: its length, or why it was not
 abbrev pub Written : Type 0
-Written = Result ℕ WriteError
+Written = Result ℕ (WriteError ReadError)
 
 -- what writing gives: its answer, and the outgoing bytes after it
-pub record Composed : Type 0 where
-  pub result : Written
-  pub out : List ℕ
+abbrev pub Composed : Type 0
+Composed = ComposedOf (WriteError ReadError)
 
 -- a record's header alone: a frame over the snap length is refused by 23, a short buffer by 9
 unfoldable pub write_head : Time → ℕ → List ℕ → Composed
 write_head t n out =
-    cond (ltb snap_length n) (record { result = Err NotWritten; out = out })
+    cond (ltb snap_length n) (record { result = Err (Refused InvalidLength); out = out })
     (cond (ltb (length out) 16) (record { result = Err OutShort; out = out })
     (record { result = Ok 16; out = put out 0 (record_head t n) }))
 
 -- a record: the same refusals, with room for the frame
 unfoldable pub write_record : Time → List ℕ → List ℕ → Composed
 write_record t frame out =
-    cond (ltb snap_length (length frame)) (record { result = Err NotWritten; out = out })
+    cond (ltb snap_length (length frame)) (record { result = Err (Refused InvalidLength); out = out })
     (cond (ltb (length out) (16 + length frame)) (record { result = Err OutShort; out = out })
     (record { result = Ok (16 + length frame); out = put out 0 (record_bytes t frame) }))
 
--- what a writer promises: the definition's answer, and every byte of out
-pub record Writes (o : Composed) (r : Written) (out : List ℕ) : Type 0 where
-  pub result-is : r ≡ o.result
-  pub out-is : out ≡ o.out
-
 -- a refusal's number
-abbrev pub write_refusal : WriteError → ℕ
-write_refusal NotWritten = 23
-write_refusal OutShort = 9
+abbrev pub write_refusal : WriteError ReadError → ℕ
+write_refusal = refusal_of read_refusal
 
 -- the number of its answer: a refusal's own, 0 for what was written
 abbrev pub written_number : Written → ℕ

@@ -1,12 +1,14 @@
 // Classic pcap files, version 2.4, of one kind: little-endian, times in microseconds, link type 147, one record a frame. A file is
 // a header of 24 bytes and records, each a header of 16 bytes and a frame.
+// `as usize` widens a u32, and `as u32` narrows a length that fits: std has no From for either, and `try_from` would need an arm that
+// never comes.
 #![tactic(auto)]
 
 ghost use Rattle.std.specs.Prelude.{◌≡◌, ◌≤◌, length};
 ghost use Rattle.le.specs.Le.{put};
 ghost use Rattle.pcap.specs.Header.{read_header, header_refusal, write_header};
 ghost use Rattle.pcap.specs.Record.{time_of, is_refused, read_record, read_refusal, record_head, record_bytes, Room};
-ghost use Rattle.pcap.specs.Record.{write_head, write_record, Writes, write_refusal};
+ghost use Rattle.pcap.specs.Record.{write_head, write_record, Writes};
 
 use refusal::Numbered;
 
@@ -66,29 +68,11 @@ pub fn read_header(received: &[u8]) -> Result<Option<Header>, HeaderError>
     }
 }
 
-// ---- what became of what was to be written
-
-#[derive(Clone, Copy, Debug, PartialEq, Eq)]
-pub enum WriteError {
-    // 23: a frame over the snap length.
-    InvalidLength,
-    // 9: the buffer is too short.
-    OutShort,
-}
-
-impl Numbered for WriteError {
-    ghost number = { write_refusal };
-
-    fn number(self) -> u32 {
-        match self {
-            WriteError::InvalidLength => 23,
-            WriteError::OutShort => 9,
-        }
-    }
-}
+// Why a header or a record is not written.
+pub type WriteError = refusal::WriteError<ReadError>;
 
 // A file's header, written at the start of out where it fits.
-#[tactic(auto, unfolding(crate::specs::Header::write_header))]
+#[tactic(auto, unfolding(crate::specs::Header::write_header, crate::specs::Header::file_header, le::specs::Le::bytes_of))]
 pub fn write_header(out: &mut [u8]) -> Result<usize, WriteError>
     ensures { Writes (write_header out.old) result out.new }
 {
@@ -102,7 +86,7 @@ pub fn write_header(out: &mut [u8]) -> Result<usize, WriteError>
 // ---- records
 
 // When a frame went: seconds since 1970, and microseconds.
-#[derive(Clone, Copy, Debug, PartialEq, Eq)]
+#[derive(Clone, Copy, Debug, Default, PartialEq, Eq)]
 pub struct Time {
     pub seconds: u32,
     pub micros: u32,
@@ -173,6 +157,7 @@ pub fn read_record(received: &[u8], limit: u32) -> Result<Option<Record>, ReadEr
     Ok(Some(Record { time, length, used }))
 }
 
+#[tactic(auto, using(crate::proofs::WriteLaws::four_words))]
 fn put_head(out: &mut [u8], time: Time, len: u32)
     requires { 16 ≤ length out.old }
     ensures { out.new ≡ put out.old 0 (record_head time len) }
@@ -186,7 +171,7 @@ pub fn write_head(time: Time, len: usize, out: &mut [u8]) -> Result<usize, Write
     ensures { Writes (write_head time len out.old) result out.new }
 {
     if len > SNAP_LENGTH as usize {
-        return Err(WriteError::InvalidLength);
+        return Err(WriteError::Refused(ReadError::InvalidLength));
     }
     if out.len() < RECORD_SIZE {
         return Err(WriteError::OutShort);
@@ -195,6 +180,7 @@ pub fn write_head(time: Time, len: usize, out: &mut [u8]) -> Result<usize, Write
     Ok(RECORD_SIZE)
 }
 
+#[tactic(auto, using(crate::proofs::WriteLaws::put_record))]
 fn put_record(out: &mut [u8], time: Time, frame: &[u8])
     requires { Room out.old frame.now }
     ensures { out.new ≡ put out.old 0 (record_bytes time frame.now) }
@@ -209,8 +195,9 @@ pub fn write_record(time: Time, frame: &[u8], out: &mut [u8]) -> Result<usize, W
     ensures { Writes (write_record time frame.now out.old) result out.new }
 {
     let len = frame.len();
+    // The tests are write_head's but for the room: a function of both would be handed each one's room, for two tests.
     if len > SNAP_LENGTH as usize {
-        return Err(WriteError::InvalidLength);
+        return Err(WriteError::Refused(ReadError::InvalidLength));
     }
     if out.len() < RECORD_SIZE + len {
         return Err(WriteError::OutShort);

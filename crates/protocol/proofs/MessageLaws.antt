@@ -1,38 +1,18 @@
 -- Laws of headers. Assumes nothing.
 use mathlib.Core.Path.{◌≡◌, refl}
 use mathlib.Core.List.{List, ◌++◌}
-use Prim.Native.Nat.{ℕ, ◌+◌, ◌≤◌, ◌<◌, ◌^◌}
+use Prim.Native.Nat.{ℕ, ◌≤◌, ◌<◌, ◌^◌}
 use native.Mathlib.Omega.{arith}
 use lib.ListN.{length}
-use Rattle.le.specs.Le.{bytes_of, part, put, Bytes}
+use Rattle.le.specs.Le.{bytes_of, part, Bytes}
 use Rattle.le.proofs.Laws.{write_read, read-write-part}
-use Rattle.le.proofs.Parts.{part_join, put-put}
+use Rattle.le.proofs.Parts.{part_join}
 use Rattle.protocol.specs.declared.message.Message.{Message}
 use Rattle.protocol.specs.Message.{message_of, header_bytes}
 
 pub length-header : (m : Message) → length (header_bytes m) ≡ 24
 unfolding header_bytes bytes_of
 length-header m = refl
-
--- six words are a header
-pub put-header : (d : List ℕ) (at : ℕ) (m : Message) → at + 24 ≤ length d
-    → put (put (put (put (put (put d at (bytes_of 4 m.command)) (at + 4) (bytes_of 4 m.arg0)) (at + 8) (bytes_of 4 m.arg1)) (at + 12) (bytes_of 4 m.data_length)) (at + 16) (bytes_of 4 m.data_check)) (at + 20) (bytes_of 4 m.magic)
-    ≡ put d at (header_bytes m)
-unfolding header_bytes bytes_of
-put-header d at m h =
-    let w0 = bytes_of 4 m.command in
-    let w1 = bytes_of 4 m.arg0 in
-    let w2 = bytes_of 4 m.arg1 in
-    let w3 = bytes_of 4 m.data_length in
-    let w4 = bytes_of 4 m.data_check in
-    let w5 = bytes_of 4 m.magic in
-    rw (
-      put-put d at w0 (at + 4) w1 refl (omega arith),
-      put-put d at (w0 ++ w1) (at + 8) w2 refl (omega arith),
-      put-put d at (w0 ++ w1 ++ w2) (at + 12) w3 refl (omega arith),
-      put-put d at (w0 ++ w1 ++ w2 ++ w3) (at + 16) w4 refl (omega arith),
-      put-put d at (w0 ++ w1 ++ w2 ++ w3 ++ w4) (at + 20) w5 refl (omega arith),
-    )
 
 -- every word of a header is of 32 bits
 pub record Words (m : Message) : Type 0 where

@@ -39,11 +39,14 @@ impl Message {
         requires { at + message_size ≤ length out.old }
         ensures { out.new ≡ put out.old at (header_bytes self) }
     {
-        le::put(out, at, self.command);
-        le::put(out, at + 4, self.arg0);
-        le::put(out, at + 8, self.arg1);
-        le::put(out, at + 12, self.data_length);
-        le::put(out, at + 16, self.data_check);
-        le::put(out, at + 20, self.magic);
+        let words = [
+            self.command,
+            self.arg0,
+            self.arg1,
+            self.data_length,
+            self.data_check,
+            self.magic,
+        ];
+        le::put_all(out, at, &words);
     }
 }

@@ -1,4 +1,6 @@
 // A frame: a header and its payload, which stays where it was received.
+// `as usize` widens a u32, and `as u32` narrows a length that is within the limit: std has no From for either, and a fallible
+// conversion would need an arm that never comes.
 ghost use Rattle.std.specs.Prelude.{◌≡◌, ◌+◌, ◌≤◌, min, length};
 ghost use Rattle.le.specs.Le.{part};
 ghost use Rattle.protocol.specs.Packet.{empty_packet, payload_of, check_passes, known_of, decode_of, missing_of, frame_for, FrameRoom, Puts};
@@ -54,7 +56,7 @@ impl From<UnknownCommand> for DecodeError {
     }
 }
 
-// Why a frame was not written.
+// Why a frame was not written. Not refusal's WriteError over DecodeError: of what the reader refuses, a writer can meet the first alone.
 #[derive(Clone, Copy, Debug, PartialEq, Eq)]
 pub enum EncodeError {
     // Refusal 3.
@@ -131,12 +133,12 @@ impl Packet {
         }
     }
 
-    // The length of a frame whose payload has these many bytes.
-    pub fn frame_len(data_length: usize) -> usize
-        requires { data_length ≤ 1_048_576 }
-        ensures { result ≡ message_size + data_length }
+    // The length of the frame.
+    pub fn frame_len(self) -> usize
+        requires { self.data_length ≤ 1_048_576 }
+        ensures { result ≡ message_size + self.data_length }
     {
-        Packet::MESSAGE_SIZE + data_length
+        Packet::MESSAGE_SIZE + self.data_length
     }
 
     // The frame that received bytes begin with, none until it is all there, or why there is none.
@@ -151,12 +153,12 @@ impl Packet {
         decode_known(received, max_payload, command, message)
     }
 
-    // The payload of a frame, where it was received.
-    pub fn payload(received: &[u8], data_length: usize) -> &[u8]
-        requires { message_size + data_length ≤ length received.now }
-        ensures { result.now ≡ payload_of received.now data_length }
+    // The payload, where it was received.
+    pub fn payload_in(self, received: &[u8]) -> &[u8]
+        requires { message_size + self.data_length ≤ length received.now }
+        ensures { result.now ≡ payload_of received.now self.data_length }
     {
-        let end = Packet::MESSAGE_SIZE + data_length;
+        let end = Packet::MESSAGE_SIZE + self.data_length;
         &received[Packet::MESSAGE_SIZE..end]
     }
 
@@ -172,7 +174,8 @@ impl Packet {
         (le::get::<u32>(received, 12) as usize).saturating_sub(here)
     }
 
-    // A frame, written at a place of out. Answers with the place past it.
+    // A frame, written at a place of out. Answers with the place past it. Its parts one by one: a Packet has a payload's length, not the
+    // payload, and only a frame with none is made as a Packet first.
     pub fn put_at(
         out: &mut [u8],
         at: usize,

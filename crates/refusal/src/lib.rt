@@ -3,6 +3,7 @@
 
 ghost use Rattle.std.specs.Prelude.{◌≡◌, ℕ};
 ghost use Rattle.refusal.specs.Refusal.{number_of, found_number_of, there_number_of, read_number_of};
+ghost use Rattle.refusal.specs.Written.{write_refusal};
 
 // Why a call refuses.
 pub trait Numbered: Copy {
@@ -10,6 +11,26 @@ pub trait Numbered: Copy {
 
     fn number(self) -> u32
         ensures { result ≡ number self };
+}
+
+// Why bytes are not written: for what their reader would refuse them, or for want of room.
+#[derive(Clone, Copy, Debug, PartialEq, Eq)]
+pub enum WriteError<E> {
+    // The reader's own number.
+    Refused(E),
+    // 9: the buffer is too short, or the data too long for its length's field.
+    OutShort,
+}
+
+impl<E: Numbered> Numbered for WriteError<E> {
+    ghost number = { write_refusal E.number };
+
+    fn number(self) -> u32 {
+        match self {
+            WriteError::Refused(refusal) => refusal.number(),
+            WriteError::OutShort => 9,
+        }
+    }
 }
 
 // The number of an answer.
@@ -42,9 +63,15 @@ pub fn there_number_of<T: Copy>(found: Option<T>, nothing: u32) -> u32
     }
 }
 
+// The number of an answer that waits for more bytes.
+pub const WAITING: u32 = 100;
+
+// The number of an answer that finds nothing.
+pub const NOTHING: u32 = 101;
+
 // The number of an answer that may have to wait for more bytes.
 pub fn read_number_of<T: Copy, E: Numbered>(answer: Result<Option<T>, E>) -> u32
     ensures { result ≡ read_number_of E.number answer }
 {
-    found_number_of(answer, 100)
+    found_number_of(answer, WAITING)
 }

@@ -174,3 +174,13 @@ cut-is s at n a m e f =
 -- what `{:02x}` writes of a byte
 pub hex-pair : (b : ℕ) → b < 256 → padded_integral (format_spec 32 0 4 2 (2 ^ 64 - 1)) false [] (digits 16 false b) ≡ last_digits 16 2 b
 hex-pair b h = let e : b / 16 % 16 ≡ b / 16 = omega arith in rw e (hex_byte false b h)
+
+-- ---- for the functions
+
+pub ruleset put_rules = puts-take
+
+pub ruleset number_rules = decimal-digits
+
+pub ruleset hex_rules = (hex-none, hex-some)
+
+pub ruleset cut_rules = cut-is

@@ -1,12 +1,12 @@
 -- Laws of the words of a line, and of the numbers and bytes that they spell. Assumes nothing.
 use mathlib.Core.Path.{◌≡◌, refl, sym, ap, subst, ◌∙◌}
-use mathlib.Core.Bool.{true, false}
+use mathlib.Core.Bool.{true, false, cond}
 use mathlib.Core.List.{List, [], ◌∷◌}
 use Prim.Native.Nat.{ℕ, zero, suc, ◌+◌, ◌-◌, ◌*◌, ◌/◌, ◌≤◌, ◌<◌, min}
 use native.Mathlib.Numerals.{add-one}
 use native.Mathlib.Omega.{arith}
 use Rattle.std.proofs.Common.{Option, Some, None, Bor, option_map, unwrap_or, slice_get}
-use Rattle.std.specs.List.{position, position_or_len, slice_split}
+use Rattle.std.specs.List.{position, slice_split}
 use lib.Dec.{T, eqb, ltb}
 use lib.IntN.{pos, negsuc, neg_ℤ}
 use lib.ListN.{length, take, drop, get_or, set, length-take, length-drop, drop_of_length-le}
@@ -19,11 +19,10 @@ use Rattle.replay.specs.Text.{Puts}
 use Rattle.replay.specs.Words.{index_of, from_word, word_of, is_digit, grown, spelled, is_negative, signed_of, nibble_of, unhexed}
 use Rattle.replay.proofs.TextLaws.{puts-take}
 
--- the first place of a byte, by std's words
-place-is : (b : ℕ) (l : List ℕ) → position_or_len (λ x. eqb x b) l ≡ index_of b l
+-- the first place of a byte, from the front on
+index-cons : (b x : ℕ) (l : List ℕ) → index_of b (x ∷ l) ≡ cond (eqb x b) 0 (suc (index_of b l))
 unfolding index_of
-place-is b [] = refl
-place-is b (x ∷ l) = by-test (eqb x b) (λ t. rw t) (λ t. let i = place-is b l in rw t (omega arith))
+index-cons b x l = by-test (eqb x b) (λ t. rw t) (λ t. rw t (omega arith))
 
 index-fits : (b : ℕ) (l : List ℕ) → index_of b l ≤ length l
 unfolding index_of
@@ -32,10 +31,10 @@ index-fits b (x ∷ l) = let i = index-fits b l in by-test (eqb x b) (λ t. rw t
 
 -- that place, or the length
 pub find-is : (b : ℕ) (l : List ℕ) (r : Option ℕ) → r ≡ position (λ x. eqb x b) l → (unwrap_or r (length l) ≡ index_of b l) × (index_of b l ≤ length l)
-find-is b l r e = (rw e (by-test (ltb (position_or_len (λ x. eqb x b) l) (length l)) (λ t. rw t (place-is b l)) (λ t. rw t (last t))), index-fits b l)
-  where
-    last : ltb (position_or_len (λ x. eqb x b) l) (length l) ≡ false → length l ≡ index_of b l
-    last t = let p = place-is b l in let f = index-fits b l in omega (arith, ltb-false)
+unfolding index_of
+find-is b l r e =
+    let f = index-fits b l in
+    (rw e (by-test (ltb (index_of b l) (length l)) (λ t. rw t) (λ t. rw t (omega (arith, ltb-false)))), f)
 
 -- the same from place `at` to `end`, where u is what a search of that part answers
 pub find-in : (s : List ℕ) (at end b : ℕ) (r : Option ℕ) (u : ℕ) → at ≤ end → end ≤ length s → r ≡ position (λ x. eqb x b) (take (end - at) (drop at s))
@@ -62,9 +61,10 @@ no-space (x ∷ l) h = by-test (eqb x 32) (λ t. absurd (let z = rw t at h in om
 -- one that has some is a word, and what stands behind the space
 a-space : (l : List ℕ) → index_of 32 l < length l
     → slice_split (λ b. eqb b 32) l ≡ take (index_of 32 l) l ∷ slice_split (λ b. eqb b 32) (drop (suc (index_of 32 l)) l)
-unfolding index_of
 a-space [] h = absurd (omega arith)
-a-space (x ∷ l) h = by-test (eqb x 32) (λ t. rw t) (λ t. let z = rw t at h in rw (t, a-space l (omega arith)))
+a-space (x ∷ l) h =
+    let c = index-cons 32 x l in
+    by-test (eqb x 32) (λ t. rw (c, t)) (λ t. let z = rw (c, t) at h in rw (c, t, a-space l (omega arith)))
 
 -- word k is part k of std's split
 pub word-is : (l : List ℕ) (k : ℕ) → unwrap_or (slice_get (slice_split (λ b. eqb b 32) l) k) [] ≡ word_of l k

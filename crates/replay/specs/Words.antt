@@ -1,11 +1,11 @@
 -- The words of a line, and the numbers and bytes that they spell. Assumes nothing.
 use Rattle.std.specs.Prelude.{ℕ, zero, suc, ◌+◌, ◌-◌, ◌*◌, ◌%◌, Bool, false, cond, List, [], ◌∷◌, eqb, leb, ltb, ℤ, pos, neg_ℤ, take, drop}
+use Rattle.std.specs.List.{position_or_len}
 use Rattle.saturate.specs.Saturate.{clamp}
 
 -- where byte b stands first in l, or l's length
 unfoldable pub index_of : ℕ → List ℕ → ℕ
-index_of b [] = 0
-index_of b (x ∷ l) = cond (eqb x b) 0 (suc (index_of b l))
+index_of b l = position_or_len (λ x. eqb x b) l
 
 -- a line from its word k on: past k spaces
 unfoldable pub from_word : ℕ → List ℕ → List ℕ

@@ -1,4 +1,4 @@
-// The lines of the scripts that the programs replay: the words of a call (`words`), and the line that answers it (`text`).
+// The lines of the scripts that the programs replay: the words of a call (`words`), and what lends a line or prints (`text`).
 #![tactic(auto)]
 
 pub mod scan;
@@ -9,7 +9,7 @@ ghost use Rattle.std.specs.Prelude.{◌≡◌, length};
 
 pub type Space = [u8; 524288];
 
-// Room for a script. The `ensures` gives the length, which a program's proof would otherwise count out.
+// Room for a script. The `ensures` gives the length, which a program's proof would otherwise count out (tried: it runs out of stack).
 pub fn space() -> Space
     ensures { 524288 ≡ length result }
 {

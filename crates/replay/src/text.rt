@@ -1,5 +1,6 @@
 // Numbers and bytes as text: `Hex` for what a program prints, and writers of a line in lent bytes. Each of those puts as much of its
-// text as fits from `at` on, and answers where it ends.
+// text as fits from `at` on, and answers where it ends. No program calls the writers since they print by Display: they
+// stay as public functions with promises and edits of their own.
 ghost use Rattle.std.specs.Prelude.{◌≡◌, ◌++◌, ◌<◌, take, Some};
 ghost use Rattle.std.specs.Fmt.{HasWritten, IsPlainFormatter};
 ghost use Rattle.std.specs.Result.{IsOk};
@@ -9,6 +10,7 @@ ghost use Rattle.replay.specs.Text.{Puts, decimal_of, signed_text, hex_of, hex_t
 
 use std::fmt;
 
+#[tactic(auto, using(crate::proofs::TextLaws::put_rules))]
 pub fn put(line: &mut [u8], at: usize, s: &[u8]) -> usize
     ensures { Puts line.old at s.now line.new result }
 {
@@ -22,6 +24,7 @@ pub fn put(line: &mut [u8], at: usize, s: &[u8]) -> usize
 }
 
 // A number in decimal.
+#[tactic(auto, using(crate::proofs::TextLaws::number_rules))]
 pub fn put_number(line: &mut [u8], at: usize, n: u64) -> usize
     ensures { Puts line.old at (decimal_of n) line.new result }
 {
@@ -50,7 +53,7 @@ pub fn put_signed(line: &mut [u8], at: usize, z: i64) -> usize
     }
 }
 
-// By hand: the kit's hex makes a String or fills a buffer of exactly its size, and a line here takes what fits.
+// By hand: the crate hex makes a String or fills a buffer of exactly its size, and a line here takes what fits.
 fn glyph(d: u8) -> u8
     requires { d < 16 }
     ensures { result ≡ hex_digit_ascii d }
@@ -76,6 +79,7 @@ fn put_bytes(line: &mut [u8], at: usize, s: &[u8]) -> usize
 }
 
 // Bytes in hexadecimal, "-" for none.
+#[tactic(auto, using(crate::proofs::TextLaws::hex_rules))]
 pub fn put_hex(line: &mut [u8], at: usize, s: &[u8]) -> usize
     ensures { Puts line.old at (hex_text s.now) line.new result }
 {
@@ -112,6 +116,7 @@ impl fmt::Display for Hex<'_> {
 }
 
 // n bytes from `at` on, or as many as there are.
+#[tactic(auto, using(crate::proofs::TextLaws::cut_rules))]
 pub fn cut(s: &[u8], at: usize, n: usize) -> &[u8]
     ensures { result.now ≡ part s.now at n }
 {

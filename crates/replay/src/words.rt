@@ -19,12 +19,12 @@ fn is_digit(b: u8) -> bool
 }
 
 // A number with one digit more.
-#[tactic(auto, unfolding(crate::specs::Words::grown))]
-fn grow(n: usize, b: u8) -> usize
+#[tactic(auto, using(crate::proofs::WordsLaws::digit_low), unfolding(crate::specs::Words::grown))]
+fn grow(n: u64, b: u8) -> u64
     ensures { result ≡ min (grown n b) 0xffff_ffff_ffff_ffff }
 {
     if is_digit(b) {
-        let d = usize::from(b - b'0');
+        let d = u64::from(b - b'0');
         n.saturating_mul(10).saturating_add(d)
     } else {
         n
@@ -32,7 +32,7 @@ fn grow(n: usize, b: u8) -> usize
 }
 
 // The number that decimal digits spell, held within 64 bits; other bytes are passed over.
-fn magnitude(s: &[u8]) -> usize
+fn magnitude(s: &[u8]) -> u64
     ensures { result ≡ min (spelled 0 s.now) 0xffff_ffff_ffff_ffff }
 {
     let mut n = 0;
@@ -43,17 +43,17 @@ fn magnitude(s: &[u8]) -> usize
 }
 
 // n, held within 64 bits and a sign.
-fn above(n: usize) -> i64
+fn above(n: u64) -> i64
     ensures { result ≡ clamp (pos n) }
 {
-    0_i64.saturating_add_unsigned(n as u64)
+    0_i64.saturating_add_unsigned(n)
 }
 
 // -n, held within 64 bits and a sign.
-fn below(n: usize) -> i64
+fn below(n: u64) -> i64
     ensures { result ≡ clamp (neg_ℤ (pos n)) }
 {
-    0_i64.saturating_sub_unsigned(n as u64)
+    0_i64.saturating_sub_unsigned(n)
 }
 
 #[tactic(auto, unfolding(crate::specs::Words::is_negative))]
@@ -71,6 +71,7 @@ fn signed(s: &[u8]) -> i64
     if is_negative(s) { below(n) } else { above(n) }
 }
 
+// By hand: `to_digit` takes capitals too, and has no value for the other bytes, where the clause has one for each.
 #[tactic(auto, unfolding(crate::specs::Words::nibble_of))]
 fn nibble(b: u8) -> u8
     ensures { (result ≡ nibble_of b) × (result < 16) }
@@ -84,8 +85,8 @@ fn byte(high: u8, low: u8) -> u8
     nibble(high) * 16 + nibble(low)
 }
 
-// The bytes that hexadecimal digits spell, at the start of out, and how many they are; "-" spells none. By index, since a proof knows
-// nothing of what was written through `iter_mut`.
+// The bytes that hexadecimal digits spell, at the start of out, and how many they are; "-" spells none. By index: `chunks_exact(2)`
+// beside `iter_mut` would still index each pair, in a zip of two iterators.
 fn unhex(s: &[u8], out: &mut [u8]) -> usize
     ensures puts { Puts out.old 0 (unhexed s.now) out.new result }
     ensures prefix_len { IsPrefixLen result out.new }
@@ -107,7 +108,7 @@ pub fn number_at(line: &[u8], k: usize) -> u32
 pub fn size_at(line: &[u8], k: usize) -> usize
     ensures { result ≡ min (spelled 0 (word_of line.now k)) 0xffff_ffff_ffff_ffff }
 {
-    magnitude(word(line, k))
+    usize::try_from(magnitude(word(line, k))).unwrap_or(usize::MAX)
 }
 
 pub fn signed_at(line: &[u8], k: usize) -> i64
@@ -116,7 +117,8 @@ pub fn signed_at(line: &[u8], k: usize) -> i64
     signed(word(line, k))
 }
 
-// The bytes that word k spells, at the start of out, and how many they are.
+// The bytes that word k spells, at the start of out, and how many they are. A length, and not those bytes of `out` handed back (tried): a
+// buffer that went into the result has no value after the call, and the promise on every byte of it could not be said.
 pub fn bytes_at(line: &[u8], k: usize, out: &mut [u8]) -> usize
     ensures puts { Puts out.old 0 (unhexed (word_of line.now k)) out.new result }
     ensures prefix_len { IsPrefixLen result out.new }

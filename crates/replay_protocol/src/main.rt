@@ -30,6 +30,7 @@ impl Call {
     }
 }
 
+// A command's four letters, for the output alone: protocol has them as numbers (`CMD_SYNC` and the others), as libadb has.
 fn letters(command: Command) -> &'static str {
     match command {
         Command::Sync => "SYNC",
@@ -58,12 +59,13 @@ fn refused<W: Write>(output: &mut W, refusal: DecodeError) -> std::io::Result<()
     }
 }
 
+// A frame that was taken. That it is all there is tested again: `decode` promises its answer by a definition, and no clause has lengths.
 fn accepted<W: Write>(output: &mut W, p: Packet, received: &[u8]) -> std::io::Result<()> {
     let n = p.data_length;
     if n <= 1_048_576 && 24 + n <= received.len() {
         let command = letters(p.command);
-        let payload = Hex(Packet::payload(received, n));
-        let used = 24 + n;
+        let payload = Hex(p.payload_in(received));
+        let used = p.frame_len();
         writeln!(
             output,
             "decoded command={command} arg0={} arg1={} payload={payload} used={used}",
@@ -113,6 +115,8 @@ fn answer<W: Write>(output: &mut W, line: &[u8]) -> std::io::Result<()> {
     }
 }
 
+// This and `main` are alike in the three replay programs: one for all would take the reader, the writer and a closure, with a clause that it
+// may be called, in place of these few lines.
 fn replay<W: Write>(output: &mut W, script: &[u8]) -> std::io::Result<()> {
     for line in script.split(|b| *b == b'\n') {
         answer(output, line)?;

@@ -8,8 +8,8 @@ ghost use Rattle.replay_shell.specs.Bounds.{Room};
 
 use console::Gathered;
 use intake::read_full;
-use refusal::{Numbered, number_of};
-use replay::text::{Hex, cut, written};
+use refusal::{Numbered, WAITING, number_of};
+use replay::text::{Hex, written};
 use replay::words::{bytes_at, number_at, size_at};
 use shell::{Frame, Kind};
 use std::io;
@@ -42,10 +42,9 @@ impl Call {
 fn whole<W: Write>(
     output: &mut W,
     frame: Frame,
-    received: &[u8],
+    payload: &[u8],
     back: &mut [u8],
 ) -> io::Result<()> {
-    let payload = cut(received, frame.at, frame.length);
     let kind = u8::from(frame.kind);
     let code = frame.code.unwrap_or(0);
     let n = shell_write::write_frame(u32::from(kind), payload, back).unwrap_or(0);
@@ -65,7 +64,7 @@ fn whole<W: Write>(
 fn read<W: Write>(output: &mut W, received: &[u8], back: &mut [u8]) -> io::Result<()> {
     match shell::read_frame(received) {
         Ok(None) => writeln!(output, "waiting used=0"),
-        Ok(Some(frame)) => whole(output, frame, received, back),
+        Ok(Some(frame)) => whole(output, frame, frame.payload(received), back),
         Err(refusal) => writeln!(output, "refused {} used=0", refusal.number()),
     }
 }
@@ -132,12 +131,12 @@ fn session<W: Write>(
     let shown = show(Kind::Errors, received, piece, back);
     write!(output, " errors={}", Hex(written(back, shown.length)))?;
     let shown = show(Kind::Exit, received, piece, back);
-    let ending = shown.refusal.map_or(100, |refusal| refusal.number());
+    let ending = shown.refusal.map_or(WAITING, |refusal| refusal.number());
     let exit = Hex(written(back, shown.length));
     writeln!(output, " exit={exit} ending={ending} used={}", shown.used)
 }
 
-// The room for a frame that word 3 spells.
+// The room for a frame that word 3 spells. replay_sync has its like: a public one would have to say how the buffer's borrow ends.
 fn room<'a>(line: &[u8], back: &'a mut [u8]) -> &'a mut [u8] {
     let n = size_at(line, 3).min(back.len());
     &mut back[..n]
@@ -179,6 +178,8 @@ fn answer<W: Write>(output: &mut W, line: &[u8]) -> io::Result<()> {
     }
 }
 
+// This and `main` are alike in the three replay programs: one for all would take the reader, the writer and a closure, with a clause that it
+// may be called, in place of these few lines.
 fn replay<W: Write>(output: &mut W, script: &[u8]) -> io::Result<()> {
     for line in script.split(|b| *b == b'\n') {
         answer(output, line)?;

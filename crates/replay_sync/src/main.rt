@@ -7,11 +7,11 @@ pub mod wide;
 use exchange::{Exchange, SyncId};
 use intake::read_full;
 use refusal::{Numbered, number_of};
-use replay::text::{Hex, cut, written};
+use replay::text::{Hex, written};
 use replay::words::{bytes_at, number_at, size_at};
 use std::io::Write;
 use std::{fmt, io};
-use sync::{Fields, FileMode, Message, StatV1, Whole};
+use sync::{Fields, FileMode, Message, Stat, StatV1, Whole};
 use wide::Wide;
 
 // What a line asks for.
@@ -43,7 +43,7 @@ impl Call {
     }
 }
 
-// The id that a number of a line names.
+// The id that a number of a line names: numbers of the scripts alone, and neither type is this program's, so no From.
 fn id_of(n: u32) -> SyncId {
     match n {
         0 => SyncId::List,
@@ -77,16 +77,29 @@ impl fmt::Display for Letters {
 
 // A stat of the first layout, each of its numbers behind a space and its name.
 #[derive(Clone, Copy)]
-pub struct Stat(StatV1);
+pub struct First(StatV1);
 
-impl fmt::Display for Stat {
+impl fmt::Display for First {
     fn fmt<W: fmt::Write>(&self, f: &mut fmt::Formatter<W>) -> fmt::Result {
         let s = self.0;
         write!(f, " mode={} size={} mtime={}", s.mode.0, s.size, s.mtime)
     }
 }
 
-// A message's fields, as a stat.
+// A stat of either layout.
+#[derive(Clone, Copy)]
+struct Either(Stat);
+
+impl fmt::Display for Either {
+    fn fmt<W: fmt::Write>(&self, f: &mut fmt::Formatter<W>) -> fmt::Result {
+        match self.0 {
+            Stat::V1(stat) => write!(f, "{}", First(stat)),
+            Stat::V2(stat) => write!(f, "{}", Wide(stat)),
+        }
+    }
+}
+
+// A message's fields, shown as a stat is.
 #[derive(Clone, Copy)]
 struct Shown(Fields);
 
@@ -95,10 +108,8 @@ impl fmt::Display for Shown {
         match self.0 {
             Fields::Text => Ok(()),
             Fields::Number(n) => write!(f, " number={n}"),
-            Fields::Stat(s) | Fields::Entry(s) => write!(f, "{}", Stat(s)),
-            Fields::End(s, last) => write!(f, "{} last={last}", Stat(s)),
-            Fields::StatV2(s) | Fields::EntryV2(s) => write!(f, "{}", Wide(s)),
-            Fields::EndV2(s, last) => write!(f, "{} last={last}", Wide(s)),
+            Fields::Stat(stat) | Fields::Entry(stat) => write!(f, "{}", Either(stat)),
+            Fields::End(stat, last) => write!(f, "{} last={last}", Either(stat)),
         }
     }
 }
@@ -106,11 +117,11 @@ impl fmt::Display for Shown {
 // Fields by the number of their layout, from the numbers of a line.
 fn fields_of(kind: u32, a: u32, b: u32, c: u32, d: u32) -> Fields {
     let mode = FileMode(a);
-    let stat = StatV1 {
+    let stat = Stat::V1(StatV1 {
         mode,
         size: b,
         mtime: c,
-    };
+    });
     match kind {
         0 => Fields::Text,
         1 => Fields::Number(a),
@@ -125,11 +136,10 @@ fn whole<W: Write>(
     output: &mut W,
     x: Exchange,
     w: Whole,
-    received: &[u8],
+    text: &[u8],
     back: &mut [u8],
 ) -> io::Result<()> {
     let Message { id, fields } = w.message;
-    let text = cut(received, w.at, w.length);
     let n = sync_write::write(w.message, x, text, back).unwrap_or(0);
     write!(
         output,
@@ -144,7 +154,7 @@ fn whole<W: Write>(
 fn read<W: Write>(output: &mut W, x: Exchange, received: &[u8], back: &mut [u8]) -> io::Result<()> {
     match Message::read(x, received) {
         Ok(None) => writeln!(output, "waiting used=0"),
-        Ok(Some(w)) => whole(output, x, w, received, back),
+        Ok(Some(w)) => whole(output, x, w, w.text(received), back),
         Err(refusal) => writeln!(output, "refused {} used=0", refusal.number()),
     }
 }
@@ -189,7 +199,7 @@ fn exchange_of(n: u32) -> Exchange {
     }
 }
 
-// The room for a message that word k spells.
+// The room for a message that word k spells. replay_shell has its like: a public one would have to say how the buffer's borrow ends.
 fn room<'a>(line: &[u8], k: usize, back: &'a mut [u8]) -> &'a mut [u8] {
     let n = size_at(line, k).min(back.len());
     &mut back[..n]
@@ -243,6 +253,8 @@ fn answer<W: Write>(output: &mut W, line: &[u8]) -> io::Result<()> {
     }
 }
 
+// This and `main` are alike in the three replay programs: one for all would take the reader, the writer and a closure, with a clause that it
+// may be called, in place of these few lines.
 fn replay<W: Write>(output: &mut W, script: &[u8]) -> io::Result<()> {
     for line in script.split(|b| *b == b'\n') {
         answer(output, line)?;

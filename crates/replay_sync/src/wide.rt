@@ -1,10 +1,11 @@
 // The second stat layout in a line, and the calls of the conversion.
-use crate::Stat;
+// `as u64` widens a usize: std has no From for it.
+use crate::First;
 use refusal::Numbered;
 use replay::words::{number_at, signed_at, size_at};
 use std::io::Write;
 use std::{fmt, io};
-use sync::{Fields, FileMode, StatV1, StatV2};
+use sync::{Fields, FileMode, Stat, StatV1, StatV2};
 
 // A stat of the second layout, each of its numbers behind a space and its name.
 #[derive(Clone, Copy)]
@@ -47,17 +48,17 @@ fn stat_at(line: &[u8]) -> StatV2 {
 
 // Fields by the number of their layout, from the numbers of a line.
 pub fn fields_at(line: &[u8]) -> Fields {
-    let stat = stat_at(line);
+    let stat = Stat::V2(stat_at(line));
     match number_at(line, 3) {
-        5 => Fields::StatV2(stat),
-        6 => Fields::EntryV2(stat),
-        _ => Fields::EndV2(stat, number_at(line, 15)),
+        5 => Fields::Stat(stat),
+        6 => Fields::Entry(stat),
+        _ => Fields::End(stat, number_at(line, 15)),
     }
 }
 
 pub fn narrow<W: Write>(output: &mut W, line: &[u8]) -> io::Result<()> {
     match stat_convert::narrow(stat_at(line)) {
-        Ok(stat) => writeln!(output, "narrowed 0{}", Stat(stat)),
+        Ok(stat) => writeln!(output, "narrowed 0{}", First(stat)),
         Err(refusal) => writeln!(output, "narrowed {}", refusal.number()),
     }
 }

@@ -1,7 +1,8 @@
 // The receive store: for each slot a share of 2 × cap bytes, with `buffered` bytes from `head` on in one run. Taking moves the head; an
 // append that would pass the share's end first moves the run down to the start, so that a byte is moved about once.
 //
-// `head` and `buffered` stay two numbers, and no struct: a slot's record, whose layout C sees, has them so, and callers pass them on from there.
+// `head` and `buffered` stay two numbers: `take` and `hand_over` need the head alone, a slot's tests `buffered` alone, and intake moves bytes
+// of no slot, so that most callers would make a struct, or take one apart, for a single call.
 #![tactic(auto)]
 
 ghost use Rattle.std.specs.Prelude.{◌≡◌, ◌+◌, ◌*◌, ◌≤◌, length};

@@ -1,15 +1,14 @@
 -- Laws of sums that are held within 64 bits. Assumes nothing.
-use mathlib.Core.Path.{◌≡◌, refl, subst}
-use mathlib.Core.Bool.{true, false}
+use mathlib.Core.Path.{◌≡◌, refl}
 use Prim.Native.Nat.{ℕ, zero, suc, ◌+◌, ◌≤◌, ◌<◌, ◌^◌}
 use native.Mathlib.Omega.{arith}
-use lib.Dec.{T}
 use lib.IntN.{+ℤ_idl, ℤ, pos, negsuc, nat_abs, neg_ℤ, ◌-ℤ◌}
-use lib.Signed.{lt_z, mag, non_neg}
+use lib.Signed.{mag}
 use mir.Syntax.{w64}
 use mir.Val.{SFits}
-use borrow.Author.Tests.{ltb-true}
-use Rattle.std.specs.Int.{saturate_signed}
+use Rattle.std.specs.Int.{saturate_signed, FitsUnsignedBits}
+use Rattle.std.specs.Prelude.{Result, Ok, Err}
+use Rattle.std.specs.Result.{OkIff, result_unwrap_or}
 use Rattle.saturate.specs.Saturate.{clamp, sat_sum, positive_part}
 
 -- the library's word for it
@@ -32,16 +31,13 @@ pub neg-fits : (n : ℕ) → n < 2 ^ 63 → SFits w64 (neg_ℤ (pos n))
 neg-fits zero h = record { sfits = omega arith }
 neg-fits (suc n) h = record { sfits = omega arith }
 
--- a budget below 1 gives nothing, and any other itself
-pub below_one : (b : ℤ) → lt_z b (pos 1) ≡ true → 0 ≡ positive_part b
+-- std's conversion to a number with no sign fails below 0, and then 0 stands
+pub positive_is : {E : Type 0} (b : ℤ) (r : Result ℕ E) → SFits w64 b → OkIff r (FitsUnsignedBits 64 b) (nat_abs b) → result_unwrap_or r 0 ≡ positive_part b
 unfolding positive_part
-below_one (pos n) t = omega (arith, ltb-true)
-below_one (negsuc n) t = refl
-
-pub not-below-one : (b : ℤ) → lt_z b (pos 1) ≡ false → T (non_neg b) × (nat_abs b ≡ positive_part b)
-unfolding positive_part
-not-below-one (pos n) t = (tt, refl)
-not-below-one (negsuc n) t = absurd (subst T t tt)
+positive_is (pos n) (Ok x) f e = e.1
+positive_is (pos n) (Err x) f e = absurd (e (omega (arith, f.sfits)))
+positive_is (negsuc n) (Ok x) f e = absurd e.0
+positive_is (negsuc n) (Err x) f e = refl
 
 -- a sum that stops is at least either part, where they are of 64 bits
 pub sum-grows : (a b : ℕ) → a < 2 ^ 64 → a ≤ sat_sum a b

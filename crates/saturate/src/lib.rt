@@ -4,7 +4,7 @@
 ghost use Rattle.std.specs.Prelude.{◌≡◌, ℤ, ◌+ℤ◌};
 ghost use Rattle.saturate.specs.Saturate.{clamp, positive_part};
 
-// a + b, held within 64 bits and a sign.
+// a + b, held within 64 bits and a sign: std's sum, with what it promises said over ℤ.
 pub fn sat_add(a: i64, b: i64) -> i64
     ensures { result ≡ clamp (a +ℤ b) }
 {
@@ -15,8 +15,5 @@ pub fn sat_add(a: i64, b: i64) -> i64
 pub fn positive(b: i64) -> usize
     ensures { result ≡ positive_part b }
 {
-    if b < 1 {
-        return 0;
-    }
-    b as usize
+    usize::try_from(b).unwrap_or(0)
 }

@@ -1,13 +1,16 @@
 // The frames of AOSP's shell protocol over a channel's bytes, and their reader: a kind, the data's length in 32 bits, data. Data
 // stays where it was received.
+// `as usize` widens a u32: std has no From for it, as usize may be narrower elsewhere.
 #![tactic(auto)]
 
 ghost use Rattle.std.specs.Prelude.{◌≡◌, ◌≤◌, length};
+ghost use Rattle.le.specs.Le.{part};
 ghost use Rattle.shell.specs.declared.ReadError.TheVariants.{InvalidKind};
+ghost use Rattle.refusal.specs.declared.WriteError.TheVariants.{Refused};
 ghost use Rattle.shell.specs.Kind.{kind_number, kind_from, is_empty_exit, exit_code};
-ghost use Rattle.shell.specs.Frame.{headed_of, read_frame, refusal_number};
+ghost use Rattle.shell.specs.Frame.{headed_of, read_frame, IsHere, ReadHere, refusal_number};
 
-use refusal::Numbered;
+use refusal::{Numbered, WriteError};
 
 // Bytes ahead of the data.
 pub const HEAD_LEN: usize = 5;
@@ -52,6 +55,7 @@ impl TryFrom<u32> for Kind {
     }
 }
 
+// A byte, as a frame has it. A number of 32 or 64 bits is this byte widened: with an impl for each there would be three matches for one.
 impl From<Kind> for u8 {
     ghost from_gives = { λ kind byte. byte ≡ kind_number kind };
 
@@ -100,6 +104,17 @@ pub struct Frame {
     pub code: Option<u8>,
 }
 
+impl Frame {
+    // Its data, of the bytes that it was read from.
+    #[tactic(auto, using(crate::proofs::ReadLaws::payload_lent))]
+    pub fn payload(self, received: &[u8]) -> &[u8]
+        requires { IsHere (length received.now) self }
+        ensures { result.now ≡ part received.now self.at self.length }
+    {
+        &received[self.at..self.used]
+    }
+}
+
 // Why received bytes are no frame.
 #[derive(Clone, Copy, Debug, PartialEq, Eq)]
 pub enum ReadError {
@@ -114,6 +129,15 @@ impl From<UnknownKind> for ReadError {
 
     fn from(_kind: UnknownKind) -> ReadError {
         ReadError::InvalidKind
+    }
+}
+
+// The same for the writer, so that `?` serves both.
+impl From<UnknownKind> for WriteError<ReadError> {
+    ghost from_gives = { λ _ e. e ≡ Refused InvalidKind };
+
+    fn from(_kind: UnknownKind) -> WriteError<ReadError> {
+        WriteError::Refused(ReadError::InvalidKind)
     }
 }
 
@@ -153,9 +177,10 @@ fn read_headed(kind: Kind, received: &[u8]) -> Result<Option<Frame>, ReadError>
 }
 
 // The frame that received bytes begin with, none while more bytes are waited for, or why there is none.
-#[tactic(auto, unfolding(crate::specs::Frame::read_frame, crate::specs::Frame::kind_of, crate::specs::Frame::kinded))]
+#[tactic(auto, using(crate::proofs::ReadLaws::is_here), unfolding(crate::specs::Frame::read_frame, crate::specs::Frame::kind_of, crate::specs::Frame::kinded))]
 pub fn read_frame(received: &[u8]) -> Result<Option<Frame>, ReadError>
-    ensures { result ≡ read_frame received.now }
+    ensures answer { result ≡ read_frame received.now }
+    ensures here { ReadHere (length received.now) result }
 {
     let Some(&first) = received.first() else {
         return Ok(None);

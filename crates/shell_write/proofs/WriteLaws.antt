@@ -22,18 +22,16 @@ unfolding frame_bytes
 length-frame kind payload = rw (length-append, length-head)
 
 -- kind, length and data, put one behind the other, are the frame
-pub put-frame : (d d₁ d₂ d₃ : List ℕ) (kind : ℕ) (payload : List ℕ) → 5 + length payload ≤ length d → d₁ ≡ put d 0 (bytes_of 1 kind)
-    → d₂ ≡ put d₁ 1 (bytes_of 4 (length payload)) → d₃ ≡ put d₂ 5 payload → d₃ ≡ put d 0 (frame_bytes kind payload)
+pub put_parts : (d : List ℕ) (kind : ℕ) (payload : List ℕ) → 5 + length payload ≤ length d
+    → put (put (put d 0 (bytes_of 1 kind)) 1 (bytes_of 4 (length payload))) 5 payload ≡ put d 0 (frame_bytes kind payload)
 unfolding frame_bytes head_bytes
-put-frame d d₁ d₂ d₃ kind payload h e₁ e₂ e₃ =
+put_parts d kind payload h =
     let a = bytes_of 1 kind in
     let b = bytes_of 4 (length payload) in
     let la = length-bytes_of 1 kind in
     let lb = length-bytes_of 4 (length payload) in
     let lab = length-append a b in
-    let p = put-put d 0 a 1 b (omega arith) (omega arith) in
-    let q = put-put d 0 (a ++ b) 5 payload (omega arith) h in
-    cc
+    rw (put-put d 0 a 1 b (omega arith) (omega arith)) (put-put d 0 (a ++ b) 5 payload (omega arith) h)
 
 -- what a kind's number says of it
 pub ruleset kinds = (known-of, unknown-of, number-of)

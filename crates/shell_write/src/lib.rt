@@ -1,50 +1,22 @@
 // Shell frames to bytes, what `shell` reads them from.
+// `as u32` narrows a length that fits: `try_from` would need an arm that never comes.
 #![tactic(auto)]
 
 ghost use Rattle.std.specs.Prelude.{◌≡◌};
 ghost use Rattle.le.specs.Le.{put};
 ghost use Rattle.shell.specs.Kind.{kind_number};
-ghost use Rattle.shell_write.specs.declared.WriteError.TheVariants.{InvalidKind};
-ghost use Rattle.shell_write.specs.Write.{frame_bytes, Room, write_frame, Writes, write_refusal};
+ghost use Rattle.shell_write.specs.Write.{frame_bytes, Room, write_frame, Writes};
 
-use refusal::Numbered;
-use shell::{HEAD_LEN, Kind, UnknownKind};
+use shell::{HEAD_LEN, Kind, ReadError};
 
 // Longest data, what a length of 32 bits can say.
 pub const DATA_MAX: usize = 0xffff_ffff;
 
 // Why a frame is not written.
-#[derive(Clone, Copy, Debug, PartialEq, Eq)]
-pub enum WriteError {
-    // 18: a kind above 5.
-    InvalidKind,
-    // 19: an exit frame of length 0.
-    EmptyExit,
-    // 9: the buffer is too short, or the data too long for its length's field.
-    OutShort,
-}
-
-impl From<UnknownKind> for WriteError {
-    ghost from_gives = { λ _ e. e ≡ InvalidKind };
-
-    fn from(_kind: UnknownKind) -> WriteError {
-        WriteError::InvalidKind
-    }
-}
-
-impl Numbered for WriteError {
-    ghost number = { write_refusal };
-
-    fn number(self) -> u32 {
-        match self {
-            WriteError::InvalidKind => 18,
-            WriteError::EmptyExit => 19,
-            WriteError::OutShort => 9,
-        }
-    }
-}
+pub type WriteError = refusal::WriteError<ReadError>;
 
 // A frame with its data, at the start of out.
+#[tactic(auto, using(crate::proofs::WriteLaws::put_parts))]
 fn put_frame(out: &mut [u8], kind: Kind, payload: &[u8])
     requires { Room out.old payload.now }
     ensures { out.new ≡ put out.old 0 (frame_bytes (kind_number kind) payload.now) }
@@ -54,14 +26,15 @@ fn put_frame(out: &mut [u8], kind: Kind, payload: &[u8])
     le::copy_at(out, HEAD_LEN, payload);
 }
 
-// A frame with its data, written at the start of out where it fits, and its length. The kind comes as a number, which may name none.
+// A frame with its data, written at the start of out where it fits, and its length. The kind comes as a number, which may name none;
+// `Kind` in its place would ask more of a caller.
 #[tactic(auto, using(crate::proofs::WriteLaws::kinds), unfolding(crate::specs::Write::write_frame))]
 pub fn write_frame(kind: u32, payload: &[u8], out: &mut [u8]) -> Result<usize, WriteError>
     ensures { Writes (write_frame kind payload.now out.old) result out.new }
 {
     let kind = Kind::try_from(kind)?;
     if kind.is_empty_exit(payload.len()) {
-        return Err(WriteError::EmptyExit);
+        return Err(WriteError::Refused(ReadError::EmptyExit));
     }
     if payload.len() > DATA_MAX {
         return Err(WriteError::OutShort);

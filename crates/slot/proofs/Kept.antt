@@ -17,7 +17,7 @@ use Rattle.slot.specs.declared.ids.ChannelIds.{ChannelIds}
 use Rattle.slot.specs.declared.ChannelSlot.{ChannelSlot}
 use Rattle.slot.specs.declared.ChannelFault.{ChannelFault}
 use Rattle.slot.specs.declared.Settled.{Settled}
-use Rattle.slot.specs.declared.Wrote.{Wrote}
+use Rattle.slot.proofs.Wrote.{Wrote, left_by}
 use Rattle.slot.specs.Slot.{opening_slot, accepted_slot, opened_of, opened_by, ready_of, ready_by, held_of, is_opening, acks_now, buffered_with, wrote_of, delivered_of, ack_len_of, settled_by, settled_some, settled_of, take_len, took_of, taken_of, has_data, is_closed, budget_of, reserved_by, reserved_of, spent_of, refunded_of, closed_slot, failed_slot, slot_ok, SlotOk}
 use Rattle.credit.specs.Credit.{credit_of}
 use Rattle.slot.proofs.Laws.{take-held, take-room}
@@ -125,11 +125,11 @@ buffered-sound s p n u h ok =
       cap-small = ok.cap-small;
     }
 
-pub wrote-sound : (s : ChannelSlot) (p : RxPolicy) (n : ℕ) → SlotOk s p.rx_cap → SlotOk (wrote_of s p n).slot p.rx_cap
+pub wrote-sound : (s : ChannelSlot) (p : RxPolicy) (n : ℕ) → SlotOk s p.rx_cap → SlotOk (left_by s (wrote_of s p n)) p.rx_cap
 unfolding wrote_of
 wrote-sound s p n ok =
     let cap = p.rx_cap in
-    let P : Wrote → Type 0 = λ w. SlotOk w.slot cap in
+    let P : Wrote → Type 0 = λ w. SlotOk (left_by s w) cap in
     pick P (is_opening s.state) (λ o. ok)
     (λ o. pick P (ltb cap (held_of s + n)) (λ f. ok)
     (λ f. let h = ltb-false cap (held_of s + n) f in

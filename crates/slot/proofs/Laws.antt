@@ -18,11 +18,11 @@ use Rattle.saturate.proofs.Laws.{held_fits, zero-sub, neg-fits}
 use Rattle.slot.specs.declared.ids.RemoteId.{RemoteId}
 use Rattle.slot.specs.declared.ChannelSlot.{ChannelSlot}
 use Rattle.slot.specs.declared.ChannelState.TheVariants.{Open}
-use Rattle.slot.specs.Slot.{with_state, with_remote, with_sending, with_numbers, opened_by, opened_of, ready_by, ready_of, held_of, acks_now, buffered_with, decided, wrote_of, some_len, ack_len_of, take_len, spent_of, refunded_of, is_opening, is_ack}
+use Rattle.slot.specs.Slot.{with_state, with_remote, with_sending, with_numbers, opened_by, opened_of, ready_by, ready_of, held_of, acks_now, acked, buffered_with, wrote_of, some_len, ack_len_of, take_len, spent_of, refunded_of, is_opening, is_ack}
 use Rattle.credit.specs.Credit.{credit_of}
-use Rattle.std.specs.Prelude.{Option, Some, None, Result, Ok, Err, is_some}
+use Rattle.std.specs.Prelude.{Option, Some, None, Ok, Err, is_some}
 use Rattle.slot.specs.declared.ChannelFault.TheVariants.{RxOverflow, UnexpectedCommand}
-use Rattle.slot.specs.declared.ChannelFault.{ChannelFault}
+use Rattle.slot.proofs.Wrote.{Wrote}
 
 -- a choice by a test that is known
 module _ {A : Type 0} where
@@ -109,13 +109,13 @@ opened-is s id p payload z b t r d k e g f =
 module _ (s : ChannelSlot) (p : RxPolicy) (n : ℕ) (r : ChannelSlot) (head held : ℕ) (a : Bool)
     (o : is_opening s.state ≡ false) (fits : held_of s + n ≤ p.rx_cap) (held-is : held ≡ held_of s)
     (acks : a ≡ acks_now s p (held + n)) (head-is : head ≡ appended_head (2 * p.rx_cap) s.head s.buffered n) where
-  fits-is : (w : ChannelSlot) (d : Result (Option ℕ) ChannelFault)
-      → cond (acks_now s p (held_of s + n)) (decided (buffered_with s p n 0) (Ok (Some n))) (decided (buffered_with s p n (sat_sum s.unacked n)) (Ok None)) ≡ decided w d
-      → wrote_of s p n ≡ decided w d
+  fits-is : (w : Wrote)
+      → cond (acks_now s p (held_of s + n)) (Ok (acked (buffered_with s p n 0) (Some n))) (Ok (acked (buffered_with s p n (sat_sum s.unacked n)) None)) ≡ w
+      → wrote_of s p n ≡ w
   unfolding wrote_of
-  fits-is w d e =
-      cond-false (is_opening s.state) (decided s (Err UnexpectedCommand)) _ o
-      ∙ cond-false (ltb p.rx_cap (held_of s + n)) (decided s (Err RxOverflow)) _ (le-ltb p.rx_cap (held_of s + n) fits)
+  fits-is w e =
+      cond-false (is_opening s.state) (Err UnexpectedCommand) _ o
+      ∙ cond-false (ltb p.rx_cap (held_of s + n)) (Err RxOverflow) _ (le-ltb p.rx_cap (held_of s + n) fits)
       ∙ e
 
   now-is : acks_now s p (held_of s + n) ≡ a
@@ -125,16 +125,16 @@ module _ (s : ChannelSlot) (p : RxPolicy) (n : ℕ) (r : ChannelSlot) (head held
   unfolding buffered_with
   buffered-is u e = sym (e ∙ ap (λ (h : ℕ). with_numbers s u s.settled h (s.buffered + n)) head-is)
 
-  pub wrote-now : a ≡ true → r ≡ with_numbers s 0 s.settled head (s.buffered + n) → decided r (Ok (Some n)) ≡ wrote_of s p n
+  pub wrote-now : a ≡ true → r ≡ with_numbers s 0 s.settled head (s.buffered + n) → Ok (acked r (Some n)) ≡ wrote_of s p n
   wrote-now t e =
-      sym (fits-is r (Ok (Some n))
-      (cond-true (acks_now s p (held_of s + n)) _ _ (now-is ∙ t) ∙ ap (λ (x : ChannelSlot). decided x (Ok (Some n))) (buffered-is 0 e)))
+      sym (fits-is (Ok (acked r (Some n)))
+      (cond-true (acks_now s p (held_of s + n)) _ _ (now-is ∙ t) ∙ ap (λ (x : ChannelSlot). Ok (acked x (Some n))) (buffered-is 0 e)))
 
-  pub wrote-hold : (u : ℕ) → a ≡ false → u ≡ sat_sum s.unacked n → r ≡ with_numbers s u s.settled head (s.buffered + n) → decided r (Ok None) ≡ wrote_of s p n
+  pub wrote-hold : (u : ℕ) → a ≡ false → u ≡ sat_sum s.unacked n → r ≡ with_numbers s u s.settled head (s.buffered + n) → Ok (acked r None) ≡ wrote_of s p n
   wrote-hold u t eu e =
-      sym (fits-is r (Ok None)
+      sym (fits-is (Ok (acked r None))
       (cond-false (acks_now s p (held_of s + n)) _ _ (now-is ∙ t)
-      ∙ ap (λ (k : ℕ). decided (buffered_with s p n k) (Ok None)) (sym eu) ∙ ap (λ (x : ChannelSlot). decided x (Ok None)) (buffered-is u e)))
+      ∙ ap (λ (k : ℕ). Ok (acked (buffered_with s p n k) None)) (sym eu) ∙ ap (λ (x : ChannelSlot). Ok (acked x None)) (buffered-is u e)))
 
 -- whether an acknowledgement is due, in the library's word
 pub is-ack : (ack : Option ℕ) → is_some ack ≡ is_ack ack

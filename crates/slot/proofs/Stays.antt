@@ -15,7 +15,7 @@ use Rattle.saturate.proofs.Laws.{held_fits}
 use Rattle.config.specs.declared.negotiated.RxPolicy.{RxPolicy}
 use Rattle.slot.specs.declared.ChannelSlot.{ChannelSlot}
 use Rattle.slot.specs.declared.Settled.{Settled}
-use Rattle.slot.specs.declared.Wrote.{Wrote}
+use Rattle.slot.proofs.Wrote.{Wrote, left_by}
 use Rattle.slot.specs.Slot.{with_total, total_with, ready_of, ready_by, held_of, is_opening, acks_now, buffered_with, wrote_of, delivered_of, ack_len_of, settled_by, settled_some, settled_of, took_of, with_numbers, spent_of, closed_slot}
 use Rattle.credit.specs.Credit.{credit_of, at_least_zero}
 use Rattle.slot.proofs.Kept.{pick}
@@ -88,10 +88,10 @@ stays-numbers : (s : ChannelSlot) (u d h b : ℕ) → (s.unacked < 2 ^ 64 → u 
 stays-numbers s u d h b f =
     record { filled = refl; local = refl; remote = refl; known = refl; opening = λ e. e; failed = refl; unacked = f; total = λ e. e; left = refl; budget = λ e. e }
 
-pub wrote-stays : (s : ChannelSlot) (p : RxPolicy) (k : ℕ) → Stays s (wrote_of s p k).slot
+pub wrote-stays : (s : ChannelSlot) (p : RxPolicy) (k : ℕ) → Stays s (left_by s (wrote_of s p k))
 unfolding wrote_of buffered_with sat_sum
 wrote-stays s p k =
-    let P : Wrote → Type 0 = λ w. Stays s w.slot in
+    let P : Wrote → Type 0 = λ w. Stays s (left_by s w) in
     pick P (is_opening s.state) (λ o. stays_same s)
     (λ o. pick P (ltb p.rx_cap (held_of s + k)) (λ f. stays_same s)
     (λ f. pick P (acks_now s p (held_of s + k)) (λ a. stays-numbers s _ _ _ _ (λ e. omega arith)) (λ a. stays-numbers s _ _ _ _ (λ e. omega arith))))

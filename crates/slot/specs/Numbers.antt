@@ -1,6 +1,6 @@
 -- The numbers of a slot's answers (docs/SCOPE.md, 6): a refusal's own, 0 for none, 100 for waiting, 101 for nothing there.
 -- Assumes nothing.
-use Rattle.std.specs.Prelude.{ℕ, Option, Some, None, Result, Ok, Err}
+use Rattle.std.specs.Prelude.{ℕ, Option, Result}
 use Rattle.refusal.specs.Refusal.{number_of, found_number_of, there_number_of}
 use Rattle.credit.specs.Credit.{credit_fault_number}
 use Rattle.slot.specs.declared.ChannelFault.{ChannelFault}
@@ -8,6 +8,7 @@ use Rattle.slot.specs.declared.ChannelFault.TheVariants.{RxOverflow, BadCredit, 
 use Rattle.slot.specs.declared.ChannelError.{ChannelError}
 use Rattle.slot.specs.declared.ChannelError.TheVariants.{Closed, Fault}
 use Rattle.slot.specs.declared.ChannelSlot.{ChannelSlot}
+use Rattle.slot.specs.declared.Settled.{Settled}
 use Rattle.credit.specs.declared.CreditFault.{CreditFault}
 
 -- 11, a credit's own, and 6
@@ -26,7 +27,7 @@ abbrev pub readied_number : Result ChannelSlot CreditFault → ℕ
 readied_number = number_of credit_fault_number
 
 -- 11: over the cap; 6: a WRTE for a channel still opening
-abbrev pub decision_number : Result (Option ℕ) ChannelFault → ℕ
+abbrev pub decision_number : Result Settled ChannelFault → ℕ
 decision_number = number_of fault_number
 
 -- 101: nothing is buffered

@@ -14,7 +14,6 @@ use Rattle.slot.specs.declared.ChannelFault.{ChannelFault}
 use Rattle.slot.specs.declared.ChannelError.{ChannelError}
 use Rattle.slot.specs.declared.ChannelError.TheVariants.{Fault, Closed as ErrorClosed}
 use Rattle.slot.specs.declared.ChannelSlot.{ChannelSlot}
-use Rattle.slot.specs.declared.Wrote.{Wrote}
 use Rattle.slot.specs.declared.Settled.{Settled}
 use Rattle.credit.specs.declared.CreditFault.{CreditFault}
 use Rattle.slot.specs.declared.ChannelFault.TheVariants.{RxOverflow, UnexpectedCommand}
@@ -223,23 +222,19 @@ acks_now s p held = cond p.delayed false (cond (ltb held p.watermark) s.has_remo
 unfoldable pub buffered_with : ChannelSlot → RxPolicy → ℕ → ℕ → ChannelSlot
 buffered_with s p n u = with_numbers s u s.settled (appended_head (2 * p.rx_cap) s.head s.buffered n) (s.buffered + n)
 
--- a slot, and what became of the payload
-abbrev pub decided : ChannelSlot → Result (Option ℕ) ChannelFault → Wrote
-decided s d = record { slot = s; decision = d }
-
--- `apply_write` of n bytes: too early (6), over the cap (11), acknowledged at once, or held
-unfoldable pub wrote_of : ChannelSlot → RxPolicy → ℕ → Wrote
-wrote_of s p n =
-    cond (is_opening s.state) (decided s (Err UnexpectedCommand))
-    (cond (ltb p.rx_cap (held_of s + n)) (decided s (Err RxOverflow))
-    (cond (acks_now s p (held_of s + n)) (decided (buffered_with s p n 0) (Ok (Some n)))
-    (decided (buffered_with s p n (sat_sum s.unacked n)) (Ok None))))
-
 -- a slot, and the acknowledgement that is due
 abbrev pub acked : ChannelSlot → Option ℕ → Settled
 acked s a = record { slot = s; ack = a }
 
--- a length above 0
+-- `apply_write` of n bytes: too early (6), over the cap (11), acknowledged at once, or held
+unfoldable pub wrote_of : ChannelSlot → RxPolicy → ℕ → Result Settled ChannelFault
+wrote_of s p n =
+    cond (is_opening s.state) (Err UnexpectedCommand)
+    (cond (ltb p.rx_cap (held_of s + n)) (Err RxOverflow)
+    (cond (acks_now s p (held_of s + n)) (Ok (acked (buffered_with s p n 0) (Some n)))
+    (Ok (acked (buffered_with s p n (sat_sum s.unacked n)) None))))
+
+-- a length, or a budget, above 0
 unfoldable pub some_len : ℕ → Option ℕ
 some_len n = cond (eqb n 0) None (Some n)
 
@@ -306,14 +301,10 @@ take_acks s p want =
 
 -- ---- sending
 
--- a budget above 0
-unfoldable pub some_budget : ℕ → Option ℕ
-some_budget n = cond (eqb n 0) None (Some n)
-
 -- `budget`: a budget of 0 or below sends nothing; not delayed, any length after the last WRTE's OKAY
 unfoldable pub budget_of : ChannelSlot → RxPolicy → Option ℕ
 budget_of s p =
-    cond p.delayed (some_budget (positive_part s.send_budget)) (cond s.wrte_acked (Some 0xffff_ffff_ffff_ffff) None)
+    cond p.delayed (some_len (positive_part s.send_budget)) (cond s.wrte_acked (Some 0xffff_ffff_ffff_ffff) None)
 
 -- `spend`
 unfoldable pub spent_of : ChannelSlot → RxPolicy → ℕ → ChannelSlot

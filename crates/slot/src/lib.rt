@@ -12,11 +12,12 @@ ghost use Rattle.slot.specs.Slot.{closed_slot, failed_slot, with_state, with_rem
 use config::negotiated::RxPolicy;
 use credit::CreditFault;
 use ids::{ChannelIds, LocalId, RemoteId};
-use refusal::{Numbered, found_number_of, there_number_of};
+use refusal::{NOTHING, Numbered, WAITING, found_number_of, there_number_of};
 
-#[derive(Clone, Copy, Debug, PartialEq, Eq)]
+#[derive(Clone, Copy, Debug, Default, PartialEq, Eq)]
 pub enum ChannelState {
     // An OPEN was sent and not answered yet.
+    #[default]
     Opening,
     Open,
     Closed,
@@ -37,7 +38,9 @@ pub enum ChannelError {
     Fault(ChannelFault),
 }
 
-#[derive(Clone, Copy)]
+// Flags stand beside the numbers that they say something of, and no Option or enum holds both: the slot is its bytes in the lent state
+// (docs/LAYOUT.md), which come back as they were, whatever number stands beside a flag that is off (the law `state-back`).
+#[derive(Clone, Copy, Default)]
 pub struct ChannelSlot {
     // Whether a channel is here.
     pub filled: bool,
@@ -52,7 +55,7 @@ pub struct ChannelSlot {
     pub send_budget: i64,
     // Bytes that the device has had no OKAY for yet.
     pub unacked: usize,
-    // Bytes at the front of the run that a read has acknowledged and not taken yet.
+    // Bytes at the front of the run that a read has acknowledged and not taken yet. These three have 32 bits, as in the lent bytes.
     pub settled: u32,
     // Where the run of buffered bytes begins in the share.
     pub head: u32,
@@ -65,15 +68,7 @@ pub struct ChannelSlot {
     pub failed: Option<ChannelFault>,
 }
 
-// What became of a WRTE's payload: the slot, and the length to acknowledge at once where one is due. Else the acknowledgement waits for
-// the reader, or the WRTE is refused, by 11 over the cap and by 6 where the channel is still opening.
-#[derive(Clone, Copy)]
-pub struct Wrote {
-    pub slot: ChannelSlot,
-    pub decision: Result<Option<usize>, ChannelFault>,
-}
-
-// What a settling leaves, and the length of the acknowledgement that is due, if one is.
+// What a WRTE or a settling leaves, and the length of the acknowledgement that is due now, if one is.
 #[derive(Clone, Copy)]
 pub struct Settled {
     pub slot: ChannelSlot,
@@ -109,26 +104,28 @@ impl Numbered for ChannelError {
     }
 }
 
-// Of a read.
+// Of a read. Public functions with promises of their own, here and in `incoming`, each one call of refusal's.
 pub fn taken_number(taken: Taken) -> u32
     ensures { result ≡ taken_number taken }
 {
-    found_number_of(taken, 101)
+    found_number_of(taken, NOTHING)
 }
 
 // Of how many bytes may be sent now: none is waiting.
 pub fn budget_number(budget: Option<usize>) -> u32
     ensures { result ≡ budget_number budget }
 {
-    there_number_of(budget, 100)
+    there_number_of(budget, WAITING)
 }
 
+#[tactic(auto, unfolding(crate::specs::Slot::is_opening))]
 pub fn is_opening(state: ChannelState) -> bool
     ensures { result ≡ is_opening state }
 {
     state == ChannelState::Opening
 }
 
+#[tactic(auto, unfolding(crate::specs::Slot::is_closed))]
 pub fn is_closed(state: ChannelState) -> bool
     ensures { result ≡ is_closed state }
 {
@@ -137,27 +134,15 @@ pub fn is_closed(state: ChannelState) -> bool
 
 impl ChannelSlot {
     // A slot with no channel.
+    #[tactic(auto, unfolding(crate::specs::Slot::empty_slot))]
     pub fn empty() -> ChannelSlot
         ensures { result ≡ empty_slot }
     {
-        ChannelSlot {
-            filled: false,
-            local: LocalId(0),
-            remote: RemoteId(0),
-            has_remote: false,
-            state: ChannelState::Opening,
-            wrte_acked: false,
-            send_budget: 0,
-            unacked: 0,
-            settled: 0,
-            head: 0,
-            buffered: 0,
-            acked_total: 0,
-            failed: None,
-        }
+        ChannelSlot::default()
     }
 
     // A channel whose OPEN was sent.
+    #[tactic(auto, unfolding(crate::specs::Slot::opening_slot, crate::specs::Slot::empty_slot))]
     pub fn opening(local: LocalId) -> ChannelSlot
         ensures { result ≡ opening_slot local }
     {
@@ -217,6 +202,7 @@ impl ChannelSlot {
     }
 
     // The place of a channel that we closed: nothing of it stays but the total.
+    #[tactic(auto, unfolding(crate::specs::Slot::emptied_slot))]
     pub fn emptied(self) -> ChannelSlot
         ensures { result ≡ emptied_slot self }
     {
@@ -224,6 +210,7 @@ impl ChannelSlot {
     }
 
     // A channel that the device opened and we take, with the credit of its OPEN.
+    #[tactic(auto, unfolding(crate::specs::Slot::accepted_slot, crate::specs::Slot::opening_slot))]
     pub fn accepted(ids: ChannelIds, credit: u32, policy: RxPolicy) -> ChannelSlot
         ensures { result ≡ accepted_slot ids credit policy }
     {
@@ -231,31 +218,38 @@ impl ChannelSlot {
             .with_remote(ids.remote)
             .with_state(ChannelState::Open);
         if policy.delayed {
-            return slot.with_sending(true, credit as i64);
+            return slot.with_sending(true, i64::from(credit));
         }
         slot
     }
 
+    #[tactic(auto, unfolding(crate::specs::Slot::is_failed))]
     pub fn is_failed(self) -> bool
         ensures { result ≡ is_failed self.failed }
     {
         self.failed.is_some()
     }
 
+    // Our number, with one that a packet gave for the device's.
+    pub fn ids_with(self, remote: RemoteId) -> ChannelIds
+        ensures { result ≡ record { local = self.local; remote = remote } }
+    {
+        ChannelIds {
+            local: self.local,
+            remote,
+        }
+    }
+
     // A channel's numbers, once the device's is known.
+    #[tactic(auto, unfolding(crate::specs::Slot::ids_of))]
     pub fn ids(self) -> Option<ChannelIds>
         ensures { result ≡ ids_of self }
     {
-        if self.has_remote {
-            return Some(ChannelIds {
-                local: self.local,
-                remote: self.remote,
-            });
-        }
-        None
+        self.has_remote.then_some(self.ids_with(self.remote))
     }
 
     // Why nothing can be read or written any more.
+    #[tactic(auto, unfolding(crate::specs::Slot::error_of))]
     pub fn closed_error(self) -> ChannelError
         ensures { result ≡ error_of self.failed }
     {
@@ -265,6 +259,7 @@ impl ChannelSlot {
         }
     }
 
+    #[tactic(auto, unfolding(crate::specs::Slot::closed_slot))]
     pub fn apply_close(self) -> ChannelSlot
         ensures { result ≡ closed_slot self }
     {
@@ -273,6 +268,7 @@ impl ChannelSlot {
     }
 
     // Closes the channel for a fault of its own.
+    #[tactic(auto, unfolding(crate::specs::Slot::failed_slot, crate::specs::Slot::closed_slot))]
     pub fn fail(self, fault: ChannelFault) -> ChannelSlot
         ensures { result ≡ failed_slot self fault }
     {

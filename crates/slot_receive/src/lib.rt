@@ -1,5 +1,8 @@
 // What a WRTE of the device's and a read do to a channel's numbers: room, what is set aside, what is acknowledged. The bytes
 // are `rx_store`'s.
+// `as usize` widens a u32: std has no From for it, as usize may be narrower elsewhere. `as u32` narrows what is within
+// a share: `try_from` would need an arm that never comes.
+// A slot's numbers are sound (`SlotOk`) by what 13 tested, not by its type: it is read from lent bytes.
 #![tactic(auto)]
 
 ghost use Rattle.std.specs.Prelude.{◌≡◌, ◌≤◌};
@@ -7,15 +10,13 @@ ghost use Rattle.slot.specs.Slot.{held_of, acks_now, wrote_of, some_len, deliver
 ghost use Rattle.slot.specs.Slot.{take_len, took_of, taken_of, take_acks, total_with, slot_ok, SlotOk};
 
 use config::negotiated::RxPolicy;
-use slot::{ChannelFault, ChannelSlot, Settled, Taken, Wrote, is_closed, is_opening};
+use slot::{ChannelFault, ChannelSlot, Settled, Taken, is_closed, is_opening};
 
+#[tactic(auto, unfolding(slot::specs::Slot::some_len))]
 fn some_len(len: usize) -> Option<usize>
     ensures { result ≡ some_len len }
 {
-    if len == 0 {
-        return None;
-    }
-    Some(len)
+    (len != 0).then_some(len)
 }
 
 // Buffered bytes that no read has acknowledged.
@@ -27,51 +28,39 @@ pub fn held(slot: ChannelSlot) -> usize
 }
 
 // Whether a WRTE that brings the held bytes to `held` is acknowledged at once.
+#[tactic(auto, unfolding(slot::specs::Slot::acks_now))]
 fn acks_now(slot: ChannelSlot, policy: RxPolicy, held: usize) -> bool
     ensures { result ≡ acks_now slot policy held }
 {
-    if policy.delayed {
-        return false;
-    }
-    if held < policy.watermark {
-        return slot.has_remote;
-    }
-    false
+    !policy.delayed && held < policy.watermark && slot.has_remote
 }
 
 // A WRTE of n bytes.
-pub fn apply_write(slot: ChannelSlot, n: usize, policy: RxPolicy) -> Wrote
+pub fn apply_write(slot: ChannelSlot, n: usize, policy: RxPolicy) -> Result<Settled, ChannelFault>
     requires { SlotOk slot policy.rx_cap }
     ensures { result ≡ wrote_of slot policy n }
 {
-    let state = slot.state;
-    if is_opening(state) {
-        return Wrote {
-            slot,
-            decision: Err(ChannelFault::UnexpectedCommand),
-        };
+    if is_opening(slot.state) {
+        return Err(ChannelFault::UnexpectedCommand);
     }
     let held = held(slot);
     if policy.rx_cap - held < n {
-        return Wrote {
-            slot,
-            decision: Err(ChannelFault::RxOverflow),
-        };
+        return Err(ChannelFault::RxOverflow);
     }
     let buffered = slot.buffered as usize;
     let head = rx_store::appended_head(2 * policy.rx_cap, slot.head as usize, buffered, n) as u32;
     let more = (buffered + n) as u32;
     if acks_now(slot, policy, held + n) {
-        return Wrote {
+        return Ok(Settled {
             slot: slot.with_numbers(0, slot.settled, head, more),
-            decision: Ok(Some(n)),
-        };
+            ack: Some(n),
+        });
     }
     let unacked = slot.unacked.saturating_add(n);
-    Wrote {
+    Ok(Settled {
         slot: slot.with_numbers(unacked, slot.settled, head, more),
-        decision: Ok(None),
-    }
+        ack: None,
+    })
 }
 
 // The total of what the device was allowed, where an OKAY for k bytes is written: in delayed mode it carries them.
@@ -126,23 +115,20 @@ fn ack_len(slot: ChannelSlot, n: usize, remaining: usize, policy: RxPolicy) -> O
     None
 }
 
+#[tactic(auto, unfolding(slot::specs::Slot::has_data))]
 pub fn has_data(slot: ChannelSlot) -> bool
     ensures { result ≡ has_data slot }
 {
-    if slot.has_remote {
-        return slot.buffered != 0;
-    }
-    false
+    slot.has_remote && slot.buffered != 0
 }
 
 // Acknowledges what a read of `want` bytes is to take, and sets it aside.
+#[tactic(auto, unfolding(slot::specs::Slot::settled_of))]
 pub fn settle_take(slot: ChannelSlot, want: usize, policy: RxPolicy) -> Settled
     ensures { result ≡ settled_of slot policy want }
 {
-    if slot.has_remote {
-        if slot.settled == 0 {
-            return settle_some(slot, want.min(slot.buffered as usize), policy);
-        }
+    if slot.has_remote && slot.settled == 0 {
+        return settle_some(slot, want.min(slot.buffered as usize), policy);
     }
     Settled { slot, ack: None }
 }
@@ -187,7 +173,8 @@ fn took(slot: ChannelSlot, n: usize, cap: usize) -> ChannelSlot
     slot.with_numbers(slot.unacked, settled, head, (buffered - n) as u32)
 }
 
-// What a read into `room` bytes finds, in numbers; `rx_store` hands the bytes over. `cap` is only for the `requires`.
+// What a read into `room` bytes finds, in numbers; `rx_store` hands the bytes over. `cap` is only for the `requires`: a clause
+// can't name it otherwise.
 pub fn take_buffered(slot: ChannelSlot, room: usize, cap: usize) -> Taken
     requires { SlotOk slot cap }
     ensures { result ≡ taken_of slot room }
@@ -196,23 +183,21 @@ pub fn take_buffered(slot: ChannelSlot, room: usize, cap: usize) -> Taken
         let n = take_len(slot, room);
         return Ok(Some((took(slot, n, cap), n)));
     }
-    let state = slot.state;
-    if is_closed(state) {
+    if is_closed(slot.state) {
         return Err(slot.closed_error());
     }
     Ok(None)
 }
 
 // Whether a read of `want` bytes would acknowledge.
+#[tactic(auto, unfolding(slot::specs::Slot::take_acks))]
 pub fn take_acks(slot: ChannelSlot, want: usize, policy: RxPolicy) -> bool
     ensures { result ≡ take_acks slot policy want }
 {
-    if has_data(slot) {
-        if slot.settled == 0 {
-            let buffered = slot.buffered as usize;
-            let n = want.min(buffered);
-            return ack_len(slot, n, buffered - n, policy).is_some();
-        }
+    if has_data(slot) && slot.settled == 0 {
+        let buffered = slot.buffered as usize;
+        let n = want.min(buffered);
+        return ack_len(slot, n, buffered - n, policy).is_some();
     }
     false
 }
@@ -229,11 +214,5 @@ pub fn is_sound(slot: ChannelSlot, cap: usize) -> bool
     // Held bytes: where less is buffered than settled, the difference wraps to more than any cap.
     let buffered = slot.buffered as usize;
     let held = buffered.wrapping_sub(settled);
-    if held > cap {
-        return false;
-    }
-    if slot.head as usize > 2 * cap - buffered {
-        return false;
-    }
-    true
+    held <= cap && slot.head as usize <= 2 * cap - buffered
 }

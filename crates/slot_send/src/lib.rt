@@ -1,4 +1,5 @@
-// What an OKAY and a WRTE of ours do to a channel's numbers: credit, budget, leave for the next WRTE.
+// What an OKAY and a WRTE of ours do to a channel's numbers: credit, budget, leave for the next WRTE. The policy goes beside the slot, here
+// and in `slot_receive`: it follows from the connection's limits and is the same for all slots.
 #![tactic(auto)]
 
 ghost use Rattle.std.specs.Prelude.{◌≡◌, min, pos};
@@ -46,17 +47,15 @@ pub fn apply_ready(
 }
 
 // How many bytes may be sent now.
+#[tactic(auto, unfolding(slot::specs::Slot::budget_of, slot::specs::Slot::some_len))]
 pub fn budget(slot: ChannelSlot, policy: RxPolicy) -> Option<usize>
     ensures { result ≡ budget_of slot policy }
 {
     if policy.delayed {
         let n = saturate::positive(slot.send_budget);
-        return if n == 0 { None } else { Some(n) };
+        return (n != 0).then_some(n);
     }
-    if slot.wrte_acked {
-        return Some(usize::MAX);
-    }
-    None
+    slot.wrte_acked.then_some(usize::MAX)
 }
 
 // n bytes were sent.
@@ -98,5 +97,5 @@ pub fn try_reserve_send(
 fn credit_of(n: usize) -> i64
     ensures { result ≡ pos (min n 9223372036854775807) }
 {
-    n.min(i64::MAX as usize) as i64
+    i64::try_from(n).unwrap_or(i64::MAX)
 }

@@ -38,7 +38,8 @@ impl From<TryFromIntError> for NarrowError {
     }
 }
 
-// Mode, size and time of the contents.
+// Mode, size and time of the contents. A function, as widening is: From and TryFrom between two types of `sync` may stand in that crate
+// alone, which would then hold the conversion beside the reader.
 #[tactic(auto, unfolding(crate::specs::Convert::narrow_of, crate::specs::Convert::narrow_at, crate::specs::Convert::is_far))]
 pub fn narrow(stat: StatV2) -> Result<StatV1, NarrowError>
     ensures { result ≡ narrow_of stat }

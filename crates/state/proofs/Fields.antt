@@ -20,11 +20,6 @@ numbers-put d s h =
     (bytes_of 4 s.remote.0 ∷ bytes_of 8 (unsigned 63 s.send_budget) ∷ bytes_of 8 s.unacked ∷ bytes_of 8 s.acked_total ∷ [])
     (omega arith)
 
-pub counts-put : (d : List ℕ) (s : ChannelSlot) → slot_len ≤ length d
-    → put (put (put d 32 (bytes_of 4 s.settled)) 36 (bytes_of 4 s.head)) 40 (bytes_of 4 s.buffered) ≡ put d 32 (slot_counts s)
-unfolding slot_counts bytes_of
-counts-put d s h = put-seq d 32 (bytes_of 4 s.settled) (bytes_of 4 s.head ∷ bytes_of 4 s.buffered ∷ []) (omega arith)
-
 pub length-slot : (s : ChannelSlot) → length (slot_bytes s) ≡ slot_len
 unfolding slot_bytes slot_numbers slot_counts bytes_of
 length-slot s = refl
@@ -42,27 +37,6 @@ pub open-put : (d : List ℕ) (q : QueuedOpen) → queued_len ≤ length d
     → put (put (put (put d 0 (bytes_of 4 q.remote.0)) 4 (bytes_of 4 q.credit)) 8 (bytes_of 8 q.share)) 16 (bytes_of 8 q.length) ≡ put d 0 (queued_bytes q)
 unfolding queued_bytes bytes_of
 open-put d q h = put-seq d 0 (bytes_of 4 q.remote.0) (bytes_of 4 q.credit ∷ bytes_of 8 q.share ∷ bytes_of 8 q.length ∷ []) (omega arith)
-
-pub sizes-put : (d : List ℕ) (h : Header) → header_len ≤ length d
-    → put (put (put (put d 0 (bytes_of 8 h.negotiated.config.channels)) 8 (bytes_of 8 h.negotiated.config.max_rx_per_channel)) 16 (bytes_of 8 h.pending.slot)) 24 (bytes_of 8 h.queued) ≡ put d 0 (header_sizes h)
-unfolding header_sizes bytes_of
-sizes-put d h k =
-    put-seq d 0 (bytes_of 8 h.negotiated.config.channels)
-    (bytes_of 8 h.negotiated.config.max_rx_per_channel ∷ bytes_of 8 h.pending.slot ∷ bytes_of 8 h.queued ∷ [])
-    (omega arith)
-
-pub words-put : (d : List ℕ) (h : Header) → header_len ≤ length d
-    → put (put (put (put (put (put d 32 (bytes_of 4 h.negotiated.config.max_payload)) 36 (bytes_of 4 h.negotiated.config.initial_ack_bytes)) 40 (bytes_of 4 h.negotiated.max_payload)) 44 (bytes_of 4 h.negotiated.protocol_version)) 48 (bytes_of 4 h.next_local)) 52 (bytes_of 4 h.pending.local.0) ≡ put d 32 (header_words h)
-unfolding header_words bytes_of
-words-put d h k =
-    put-seq d 32 (bytes_of 4 h.negotiated.config.max_payload)
-    (bytes_of 4 h.negotiated.config.initial_ack_bytes ∷ bytes_of 4 h.negotiated.max_payload ∷ bytes_of 4 h.negotiated.protocol_version ∷ bytes_of 4 h.next_local ∷ bytes_of 4 h.pending.local.0 ∷ [])
-    (omega arith)
-
-pub header-tags-put : (d : List ℕ) (h : Header) → header_len ≤ length d
-    → put (put d 56 (bytes_of 1 (flag_byte h.negotiated.delayed_ack))) 57 (bytes_of 1 (pending_tag h.pending.what)) ≡ put d 56 (header_tags h)
-unfolding header_tags bytes_of
-header-tags-put d h k = put-seq d 56 (bytes_of 1 (flag_byte h.negotiated.delayed_ack)) (bytes_of 1 (pending_tag h.pending.what) ∷ []) (omega arith)
 
 pub length-header : (h : Header) → length (state_header h) ≡ header_len
 unfolding state_header header_sizes header_words header_tags bytes_of

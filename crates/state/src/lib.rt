@@ -1,4 +1,6 @@
-// The lent state, worked on in place: a header, 64 slots, 64 queued opens (docs/LAYOUT.md).
+// The lent state, worked on in place: a header, 64 slots, 64 queued opens (docs/LAYOUT.md). It is a slice, not an array of its length:
+// C lends any length, 13 answers for a shorter one, and these public functions take each state from STATE_LEN on. So with places below 64:
+// a type for them would be narrower.
 // The header is read and written by value; a slot or a queued open is read where it lies, and the one that changed is
 // stored.
 #![tactic(auto)]
@@ -32,15 +34,17 @@ pub const STATE_LEN: usize = QUEUE_AT + 64 * QUEUED_LEN;
 
 // What stands between two calls: nothing; an open of ours, until its OKAY comes; an offer, an open of the device's that was
 // taken off the queue and is not decided.
-#[derive(Clone, Copy, Debug, PartialEq, Eq)]
+#[derive(Clone, Copy, Debug, Default, PartialEq, Eq)]
 pub enum Pending {
+    #[default]
     Nothing,
     Opening,
     Offer,
 }
 
-// The place and the number are those of the last open of ours.
-#[derive(Clone, Copy)]
+// The place and the number are those of the last open of ours. They stand beside `what`, and not in its cases: the bytes of all three come
+// back as they were (the law `state-back`).
+#[derive(Clone, Copy, Default)]
 pub struct PendingOpen {
     pub what: Pending,
     pub slot: usize,
@@ -74,7 +78,7 @@ pub struct Header {
 }
 
 // An open of the device's that is queued until it is taken. Its destination lies at the start of its share of the open store.
-#[derive(Clone, Copy)]
+#[derive(Clone, Copy, Default)]
 pub struct QueuedOpen {
     pub remote: RemoteId,
     pub credit: u32,
@@ -94,6 +98,8 @@ fn flag_byte(f: bool) -> u8
     u8::from(f)
 }
 
+// The readers of tags are functions, not From: a tag out of range, which 13 refuses, reads as the last case, and TryFrom would need an arm
+// that never comes.
 fn state_of(b: u8) -> ChannelState
     ensures { result ≡ state_of_tag b }
 {
@@ -104,6 +110,7 @@ fn state_of(b: u8) -> ChannelState
     }
 }
 
+// A function, not From: neither the type nor u8 is this crate's. So `failed_tag`.
 fn state_tag(state: ChannelState) -> u8
     ensures { (result ≡ state_tag state) × (result ≤ 2) }
 {
@@ -166,13 +173,15 @@ fn pending_of(b: u8) -> Pending
     }
 }
 
-fn pending_tag(what: Pending) -> u8
-    ensures { result ≡ pending_tag what }
-{
-    match what {
-        Pending::Nothing => 0,
-        Pending::Opening => 1,
-        Pending::Offer => 2,
+impl From<Pending> for u8 {
+    ghost from_gives = { λ what tag. tag ≡ pending_tag what };
+
+    fn from(what: Pending) -> u8 {
+        match what {
+            Pending::Nothing => 0,
+            Pending::Opening => 1,
+            Pending::Offer => 2,
+        }
     }
 }
 
@@ -214,18 +223,14 @@ fn fill_counts(p: &mut [u8], s: ChannelSlot)
     requires { slot_len ≤ length p.old }
     ensures { p.new ≡ put p.old 32 (slot_counts s) }
 {
-    le::put(p, 32, s.settled);
-    le::put(p, 36, s.head);
-    le::put(p, 40, s.buffered);
+    le::put_all(p, 32, &[s.settled, s.head, s.buffered]);
 }
 
 fn tag_of(s: ChannelSlot) -> u8
     ensures { (result ≡ tag_of s) × (result ≤ 191) }
 {
-    let state = s.state;
-    let failed = s.failed;
     let flags = flag_byte(s.filled) + 2 * flag_byte(s.has_remote) + 4 * flag_byte(s.wrte_acked);
-    flags + 8 * state_tag(state) + 32 * failed_tag(failed)
+    flags + 8 * state_tag(s.state) + 32 * failed_tag(s.failed)
 }
 
 fn fill_slot(p: &mut [u8], s: ChannelSlot)
@@ -255,6 +260,9 @@ pub fn put_slot(state: &mut [u8], i: usize, s: ChannelSlot)
     let end = at + SLOT_LEN;
     fill_slot(&mut state[at..end], s);
 }
+
+// Queued opens are read and stored as slots are. A trait over the two records would have as many members (place, length, reader, writer)
+// as it spared lines.
 
 // The queued open that bytes stand for.
 fn queued_of(p: &[u8]) -> QueuedOpen
@@ -331,13 +339,14 @@ fn put_sizes(state: &mut [u8], h: Header)
     requires { header_len ≤ length state.old }
     ensures { state.new ≡ put state.old 0 (header_sizes h) }
 {
-    let negotiated = h.negotiated;
-    let config = negotiated.config;
-    let pending = h.pending;
-    le::put(state, 0, config.channels);
-    le::put(state, 8, config.max_rx_per_channel);
-    le::put(state, 16, pending.slot);
-    le::put(state, 24, h.queued);
+    let config = h.negotiated.config;
+    let sizes = [
+        config.channels,
+        config.max_rx_per_channel,
+        h.pending.slot,
+        h.queued,
+    ];
+    le::put_all(state, 0, &sizes);
 }
 
 fn put_words(state: &mut [u8], h: Header)
@@ -345,25 +354,26 @@ fn put_words(state: &mut [u8], h: Header)
     ensures { state.new ≡ put state.old 32 (header_words h) }
 {
     let negotiated = h.negotiated;
-    let config = negotiated.config;
-    let pending = h.pending;
-    le::put(state, 32, config.max_payload);
-    le::put(state, 36, config.initial_ack_bytes);
-    le::put(state, 40, negotiated.max_payload);
-    le::put(state, 44, negotiated.protocol_version);
-    le::put(state, 48, h.next_local);
-    le::put(state, 52, pending.local.0);
+    let words = [
+        negotiated.config.max_payload,
+        negotiated.config.initial_ack_bytes,
+        negotiated.max_payload,
+        negotiated.protocol_version,
+        h.next_local,
+        h.pending.local.0,
+    ];
+    le::put_all(state, 32, &words);
 }
 
 fn put_tags(state: &mut [u8], h: Header)
     requires { header_len ≤ length state.old }
     ensures { state.new ≡ put state.old 56 (header_tags h) }
 {
-    let negotiated = h.negotiated;
-    let pending = h.pending;
-    let what = pending.what;
-    le::put(state, 56, flag_byte(negotiated.delayed_ack));
-    le::put(state, 57, pending_tag(what));
+    let tags = [
+        flag_byte(h.negotiated.delayed_ack),
+        u8::from(h.pending.what),
+    ];
+    le::put_all(state, 56, &tags);
 }
 
 pub fn put_header(state: &mut [u8], h: Header)

@@ -11,6 +11,7 @@ use Rattle.config.specs.Negotiated.{policy_of}
 use Rattle.slot.specs.declared.ChannelSlot.{ChannelSlot}
 use Rattle.slot.specs.declared.ids.LocalId.{LocalId}
 use Rattle.slot.specs.declared.ids.RemoteId.{RemoteId}
+use Rattle.slot.proofs.Wrote.{left_by}
 use Rattle.slot.specs.Slot.{opening_slot, accepted_slot, opened_of, opened_by, ready_of, is_opening, is_failed, wrote_of, delivered_of, settled_of, take_len, taken_of, has_data, is_closed, spent_of, closed_slot, SlotOk}
 use Rattle.credit.specs.Credit.{credit_of}
 use Rattle.slot.proofs.Kept.{pick, ReadiedSound, ready-sound, wrote-sound, delivered-sound, settled-sound, took-sound, spent-sound, closed-sound}
@@ -121,7 +122,7 @@ TakenLive n i (Ok None) = Unit {0}
 TakenLive n i (Err e) = Unit {0}
 
 module _ (n : Negotiated) (i : ℕ) (s : ChannelSlot) (v : Live n i s) where
-  pub wrote-live : (k : ℕ) → Live n i (wrote_of s (policy_of n) k).slot
+  pub wrote-live : (k : ℕ) → Live n i (left_by s (wrote_of s (policy_of n) k))
   wrote-live k = live-stays n i s _ v (wrote-stays s (policy_of n) k) (wrote-sound s (policy_of n) k v.ok)
 
   pub delivered-live : (k : ℕ) → Live n i (delivered_of s (policy_of n) k).slot

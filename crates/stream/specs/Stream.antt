@@ -2,6 +2,7 @@
 use Rattle.std.specs.Prelude.{ℕ, zero, suc, ◌≤◌, ◌<◌, ◌≡◌, Bool, true, false, List, [], ◌∷◌, ◌++◌, length, drop}
 
 -- what bytes begin with: nothing whole yet; a message; a refusal's number. The last two with the bytes that they use
+-- A refusal is its number and not a reader's own error, for a C caller holds the number alone, and these laws are of what it sees too.
 pub data Answer (M : Type 0) : Type 0 where
   waiting : Answer M
   message : M → ℕ → Answer M

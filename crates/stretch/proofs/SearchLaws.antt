@@ -1,15 +1,15 @@
 -- The search over all stretches finds what one run from each start does. Assumes nothing.
 use mathlib.Core.Path.{◌≡◌, refl, sym, ap, subst, ◌∙◌}
 use mathlib.Core.Bool.{Bool, true, false, cond, ◌&&◌}
-use mathlib.Core.List.{List, [], ◌∷◌, ◌++◌, append-nil}
+use mathlib.Core.List.{List, [], ◌∷◌, ◌++◌}
 use Prim.Native.Nat.{ℕ, zero, suc, ◌+◌, ◌-◌, ◌≤◌, ◌<◌}
 use native.Mathlib.Omega.{arith}
 use lib.Dec.{eqb, ltb}
-use lib.ListN.{length, take, drop, length-drop, drop_of_length-le}
+use lib.ListN.{length, take, drop, length-drop}
 use lib.Seq.{take_all, get_or-drop}
 use borrow.Author.Tests.{eqb-true, eqb-false, ltb-true, ltb-false, eq-eqb, ne_eqb, lt-ltb, le-ltb}
 use Rattle.config.proofs.Laws.{and-true}
-use Rattle.le.specs.Le.{put, Bytes}
+use Rattle.le.specs.Le.{Bytes}
 use Rattle.le.proofs.Parts.{by-test}
 use Rattle.le.proofs.RowLaws.{never}
 use Rattle.slot.proofs.Laws.{cond-true, cond-false}
@@ -193,12 +193,6 @@ module _ (w v : World) (k : Like w v) (s : Sound w.state) (received : List ℕ) 
 
 -- ---- a run on the copy, begun anew
 
-pub start-again : (copy state : List ℕ) → length copy ≡ length state → put copy 0 state ≡ state
-unfolding put
-start-again copy state e =
-    let h : length copy ≤ 0 + length state = omega arith in
-    ap (λ (l : List ℕ). state ++ l) (drop_of_length-le copy h) ∙ append-nil state
-
 pub inside-rest : (received ps : List ℕ) (i : ℕ) → Inside received ps → Inside received (take (length ps - i) (drop i ps))
 inside-rest received ps i f =
     subst (Inside received) (sym (take_all (length ps - i) (drop i ps) (omega (arith, length-drop i ps))))
@@ -241,14 +235,13 @@ module _ (copy state rx store received places : List ℕ) (told : Ran) (e : copy
     like : Like later given
     like = record { state = refl; rx = a; store = b }
 
-    pub search-asks : (copy₂ : ℕ) → copy₂ ≡ length state → Searches later received (take told.count places) told.number copy₂
+    pub search-asks : Searches later received (take told.count places) told.number
     unfolding frames_in
-    search-asks copy₂ c =
+    search-asks =
         record {
           inside = subst (Inside received) (sym tells.places-are) (places-inside 32 given received 0 (omega arith));
           ends = ap (ends_in later received) tells.places-are ∙ ends-like later given like (bytes-sound state y) received z (frames_in given received) ∙ sym number_is;
           refused = counted-some told.number f;
-          copy_is = c;
         }
 
     pub found-is : (r : Option Stretch) → r ≡ shortest_in later received (take told.count places) told.number → r ≡ shortest_of given received

@@ -132,9 +132,8 @@ pub record Tells (w : World) (received : List ℕ) (r : Ran) (places : List ℕ)
 unfoldable pub is_shorter : Ran → ℕ → ℕ → Bool
 is_shorter r number count = eqb r.number number && ltb r.count count
 
--- what a search asks: frames that end in the number, which is none of 0; a copy as long as the state
-pub record Searches (w : World) (received ps : List ℕ) (number copy : ℕ) : Type 0 where
+-- what a search asks: frames that end in the number, which is none of 0
+pub record Searches (w : World) (received ps : List ℕ) (number : ℕ) : Type 0 where
   pub inside : Inside received ps
   pub ends : ends_in w received ps ≡ number
   pub refused : 0 < number
-  pub copy_is : copy ≡ length w.state

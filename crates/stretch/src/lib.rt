@@ -16,14 +16,15 @@ pub struct Stretch {
     pub count: usize,
 }
 
-// What one packet's dispatch answered, and the bytes that it used.
+// What one packet's dispatch answered, and the bytes that it used. Its number, and no answer: two refusals of one number, as 1 with
+// another word, are the same here.
 #[derive(Clone, Copy)]
 pub struct Turn {
     pub number: u32,
     pub used: usize,
 }
 
-// How many frames were dispatched, and what the last one answered.
+// How many frames were dispatched, and the number that the last one answered.
 #[derive(Clone, Copy)]
 pub struct Ran {
     pub count: usize,
@@ -44,11 +45,9 @@ fn dispatch_at(
 {
     let mut out = [0u8; 56];
     let reply = dispatch(state, rx, store, &received[at..], &mut out);
-    let answer = reply.answer;
-    let used = reply.used;
     Turn {
-        number: answer.number(),
-        used,
+        number: reply.answer.number(),
+        used: reply.used,
     }
 }
 
@@ -73,21 +72,21 @@ fn run(state: &mut [u8], rx: &mut [u8], store: &mut [u8], received: &[u8], place
     }
 }
 
-// The frames told apart: their places, up to the first that is not done.
+// The frames told apart: their places, up to the first that is not done. An array with the count beside it, since nothing is allocated;
+// `run` goes over places that are known, this one finds each by the last frame's length.
 fn tell(
     state: &mut [u8],
     rx: &mut [u8],
     store: &mut [u8],
     received: &[u8],
-    places: &mut [usize],
+    places: &mut [usize; 32],
 ) -> Ran
-    requires { length places.old ≡ 32 }
     ensures { Tells (world_of state.old rx.old store.old) received.now result
         places.new }
 {
     let mut at = 0;
-    for n in 0..32 {
-        places[n] = at;
+    for (n, place) in places.iter_mut().enumerate() {
+        *place = at;
         let met = dispatch_at(state, rx, store, received, at);
         if met.number != 0 {
             return Ran {
@@ -118,53 +117,57 @@ fn is_counted(number: u32) -> bool
 }
 
 // One run from each start: the first refusal from there, if it has the number. The fewest frames are kept, of equally many the
-// earliest.
+// earliest. A `for`: `map`, `filter` and `min_by_key` would need the same run in a closure that keeps both stores borrowed, no plainer.
 fn search(
-    copy: &mut [u8],
+    state: &[u8; STATE_LEN],
     rx: &mut [u8],
     store: &mut [u8],
-    state: &[u8],
     received: &[u8],
     places: &[usize],
     number: u32,
-) -> Option<Stretch>
-    requires { Searches (world_of state.now rx.old store.old) received.now places.now number (length copy.old) }
-    ensures { result ≡ shortest_in (world_of state.now rx.old store.old) received.now
+) -> Stretch
+    requires { Searches (world_of state.now rx.old store.old) received.now places.now number }
+    ensures { Some result ≡ shortest_in (world_of state.now rx.old store.old) received.now
         places.now number }
 {
-    let mut first = 0;
-    let mut count = places.len();
-    for i in 0..places.len() {
-        le::copy_at(copy, 0, state);
-        let ran = run(copy, rx, store, received, &places[i..]);
-        if is_shorter(ran, number, count) {
-            first = i;
-            count = ran.count;
+    let mut best = Stretch {
+        first: 0,
+        count: places.len(),
+    };
+    for first in 0..places.len() {
+        let mut copy = *state;
+        let ran = run(&mut copy, rx, store, received, &places[first..]);
+        if is_shorter(ran, number, best.count) {
+            best = Stretch {
+                first,
+                count: ran.count,
+            };
         }
     }
-    Some(Stretch { first, count })
+    best
 }
 
 // The shortest stretch, from a state's own bytes. The stores are worked in, and their bytes left as that leaves them.
-pub fn shortest(state: &[u8], rx: &mut [u8], store: &mut [u8], received: &[u8]) -> Option<Stretch>
-    requires { length state.now ≡ state_len }
+pub fn shortest(
+    state: &[u8; STATE_LEN],
+    rx: &mut [u8],
+    store: &mut [u8],
+    received: &[u8],
+) -> Option<Stretch>
     ensures { result ≡ shortest_of (world_of state.now rx.old store.old) received.now }
 {
-    let mut copy = [0u8; STATE_LEN];
+    let mut copy = *state;
     let mut places = [0usize; 32];
-    le::copy_at(&mut copy, 0, state);
     let told = tell(&mut copy, rx, store, received, &mut places);
     if is_counted(told.number) {
-        let k = told.count;
-        return search(
-            &mut copy,
+        return Some(search(
+            state,
             rx,
             store,
-            state,
             received,
-            &places[..k],
+            &places[..told.count],
             told.number,
-        );
+        ));
     }
     None
 }

@@ -1,19 +1,36 @@
 -- The sync messages from bytes (SYNC.TXT; docs/SCOPE.md, 10 and 13, where it is silent). Assumes nothing.
-use Rattle.std.specs.Prelude.{ℕ, ◌+◌, cond, List, ltb, length, Option, Some, None, Result, Ok, Err}
+use Rattle.std.specs.Prelude.{ℕ, ◌+◌, ◌≤◌, ◌≡◌, cond, List, ltb, length, Option, Some, None, Result, Ok, Err}
 use Rattle.le.specs.Le.{num_of, signed, part}
 use Rattle.exchange.specs.declared.SyncId.{SyncId}
 use Rattle.exchange.specs.declared.Layout.{Layout}
-use Rattle.exchange.specs.declared.Layout.TheVariants.{Text, Number, Stat, Entry, End, StatV2 as WideStat, EntryV2 as WideEntry, EndV2 as WideEnd}
+use Rattle.exchange.specs.declared.StatLayout.{StatLayout}
+use Rattle.exchange.specs.declared.StatLayout.TheVariants.{V1, V2}
+use Rattle.exchange.specs.declared.Layout.TheVariants.{Text, Number, Stat, Entry, End}
 use Rattle.exchange.specs.declared.Exchange.{Exchange}
 use Rattle.sync.specs.declared.StatV1.{StatV1}
 use Rattle.sync.specs.declared.StatV2.{StatV2}
+use Rattle.sync.specs.declared.Stat.{Stat as EitherStat}
+use Rattle.sync.specs.declared.Stat.TheVariants.{V1 as First, V2 as Second}
 use Rattle.sync.specs.declared.Fields.{Fields}
-use Rattle.sync.specs.declared.Fields.TheVariants.{Text as TextFields, Number as NumberFields, Stat as StatFields, Entry as EntryFields, End as EndFields, StatV2 as StatV2Fields, EntryV2 as EntryV2Fields, EndV2 as EndV2Fields}
+use Rattle.sync.specs.declared.Fields.TheVariants.{Text as TextFields, Number as NumberFields, Stat as StatFields, Entry as EntryFields, End as EndFields}
 use Rattle.sync.specs.declared.Whole.{Whole}
 use Rattle.sync.specs.declared.ReadError.{ReadError}
 use Rattle.sync.specs.declared.ReadError.TheVariants.{InvalidId, DataTooLarge}
 use Rattle.refusal.specs.Refusal.{read_number_of}
-use Rattle.exchange.specs.Exchange.{Row, is_over, head_of, found_of}
+use Rattle.exchange.specs.Exchange.{Row, is_over, stat_length, head_of, found_of}
+
+-- the layout of a stat
+abbrev pub stat_layout : EitherStat → StatLayout
+stat_layout (First s) = V1
+stat_layout (Second s) = V2
+
+-- the layout that has these fields
+abbrev pub layout_of : Fields → Layout
+layout_of TextFields = Text
+layout_of (NumberFields n) = Number
+layout_of (StatFields s) = Stat (stat_layout s)
+layout_of (EntryFields s) = Entry (stat_layout s)
+layout_of (EndFields s n) = End (stat_layout s)
 
 -- mode, size and time behind the id (SYNC.TXT, LIST, of a DENT; docs/SCOPE.md, 10, of a STAT reply)
 unfoldable pub stat_of : List ℕ → StatV1
@@ -36,27 +53,26 @@ stat_v2_of s =
       ctime = signed 63 (num_of (part s 64 8));
     }
 
+-- a stat of either layout
+unfoldable pub either_of : StatLayout → List ℕ → EitherStat
+either_of V1 s = First (stat_of s)
+either_of V2 s = Second (stat_v2_of s)
+
 -- the numbers behind the id, but for a text's length
 unfoldable pub fields_of : Layout → List ℕ → Fields
 fields_of Text s = TextFields
 fields_of Number s = NumberFields (num_of (part s 4 4))
-fields_of Stat s = StatFields (stat_of s)
-fields_of Entry s = EntryFields (stat_of s)
-fields_of End s = EndFields (stat_of s) (num_of (part s 16 4))
-fields_of WideStat s = StatV2Fields (stat_v2_of s)
-fields_of WideEntry s = EntryV2Fields (stat_v2_of s)
-fields_of WideEnd s = EndV2Fields (stat_v2_of s) (num_of (part s 72 4))
+fields_of (Stat v) s = StatFields (either_of v s)
+fields_of (Entry v) s = EntryFields (either_of v s)
+fields_of (End v) s = EndFields (either_of v s) (num_of (part s (4 + stat_length v) 4))
 
 -- the text's length: the number behind the id, of a DENT the fourth, of a DNT2 the twelfth
 unfoldable pub length_of : Layout → List ℕ → ℕ
 length_of Text s = num_of (part s 4 4)
 length_of Number s = 0
-length_of Stat s = 0
-length_of Entry s = num_of (part s 16 4)
-length_of End s = 0
-length_of WideStat s = 0
-length_of WideEntry s = num_of (part s 72 4)
-length_of WideEnd s = 0
+length_of (Stat v) s = 0
+length_of (Entry v) s = num_of (part s (4 + stat_length v) 4)
+length_of (End v) s = 0
 
 -- what received bytes begin with: a message, none yet, or a refusal
 abbrev pub Answer : Type 0
@@ -88,6 +104,17 @@ named_of s None = Err InvalidId
 -- under 4 bytes: waiting; then the id decides
 unfoldable pub read_message : Exchange → List ℕ → Answer
 read_message x s = cond (ltb (length s) 4) (Ok None) (named_of s (found_of x (num_of (part s 0 4))))
+
+-- a message's text is the end of the bytes that it uses, and these are among n
+pub record IsHere (n : ℕ) (w : Whole) : Type 0 where
+  pub ends : w.at + w.length ≡ w.used
+  pub within : w.used ≤ n
+
+-- of an answer that is a message
+abbrev pub ReadHere : ℕ → Answer → Type 0
+ReadHere n (Ok (Some w)) = IsHere n w
+ReadHere n (Ok None) = Unit {0}
+ReadHere n (Err e) = Unit {0}
 
 -- the number of a refusal
 unfoldable pub error_number : ReadError → ℕ

@@ -1,12 +1,14 @@
 // The messages of AOSP's SYNC.TXT over a channel's bytes, by libadb's names (sync/format.rs), and their reader. A text or data
 // stays where it was received.
+// `as usize` widens a u32: std has no From for it, as usize may be narrower elsewhere.
 #![tactic(auto)]
 
-ghost use Rattle.std.specs.Prelude.{◌≡◌, ◌≤◌, length};
-ghost use Rattle.exchange.specs.Exchange.{head_of};
-ghost use Rattle.sync.specs.Message.{stat_of, stat_v2_of, fields_of, length_of, known_of, read_message, error_number};
+ghost use Rattle.std.specs.Prelude.{◌≡◌, ◌+◌, ◌≤◌, length};
+ghost use Rattle.le.specs.Le.{part};
+ghost use Rattle.exchange.specs.Exchange.{stat_length, head_of};
+ghost use Rattle.sync.specs.Message.{stat_layout, layout_of, stat_of, stat_v2_of, either_of, fields_of, length_of, known_of, read_message, IsHere, ReadHere, error_number};
 
-use exchange::{Exchange, Layout, SyncId};
+use exchange::{Exchange, Layout, StatLayout, SyncId};
 use refusal::Numbered;
 
 // A file's type and its permissions, as one number.
@@ -37,19 +39,49 @@ pub struct StatV2 {
     pub ctime: i64,
 }
 
+// A stat, of either layout.
+#[derive(Clone, Copy)]
+pub enum Stat {
+    V1(StatV1),
+    V2(StatV2),
+}
+
+impl Stat {
+    // Its layout.
+    pub fn layout(self) -> StatLayout
+        ensures { result ≡ stat_layout self }
+    {
+        match self {
+            Stat::V1(_) => StatLayout::V1,
+            Stat::V2(_) => StatLayout::V2,
+        }
+    }
+}
+
 // The numbers of a message, but for the length of its text: one case for each layout.
-// The two stat layouts stay side by side: a trait over them would have a reader and a writer for each, as here, and as many cases.
 #[derive(Clone, Copy)]
 pub enum Fields {
     Text,
     Number(u32),
-    Stat(StatV1),
-    Entry(StatV1),
+    Stat(Stat),
+    Entry(Stat),
     // The last number is where an entry has the length of its name.
-    End(StatV1, u32),
-    StatV2(StatV2),
-    EntryV2(StatV2),
-    EndV2(StatV2, u32),
+    End(Stat, u32),
+}
+
+// The layout that has them.
+impl From<Fields> for Layout {
+    ghost from_gives = { λ fields layout. layout ≡ layout_of fields };
+
+    fn from(fields: Fields) -> Layout {
+        match fields {
+            Fields::Text => Layout::Text,
+            Fields::Number(_) => Layout::Number,
+            Fields::Stat(stat) => Layout::Stat(stat.layout()),
+            Fields::Entry(stat) => Layout::Entry(stat.layout()),
+            Fields::End(stat, _) => Layout::End(stat.layout()),
+        }
+    }
 }
 
 #[derive(Clone, Copy)]
@@ -65,6 +97,17 @@ pub struct Whole {
     pub at: usize,
     pub length: usize,
     pub used: usize,
+}
+
+impl Whole {
+    // Its text, of the bytes that it was read from.
+    #[tactic(auto, using(crate::proofs::ReadLaws::text_lent))]
+    pub fn text(self, received: &[u8]) -> &[u8]
+        requires { IsHere (length received.now) self }
+        ensures { result.now ≡ part received.now self.at self.length }
+    {
+        &received[self.at..self.used]
+    }
 }
 
 // Why received bytes are refused.
@@ -122,6 +165,18 @@ fn stat_v2_at(s: &[u8]) -> StatV2
     }
 }
 
+// A stat of either layout behind the id.
+#[tactic(auto, unfolding(crate::specs::Message::either_of))]
+fn stat_in(layout: StatLayout, s: &[u8]) -> Stat
+    requires { 4 + stat_length layout ≤ length s.now }
+    ensures { result ≡ either_of layout s.now }
+{
+    match layout {
+        StatLayout::V1 => Stat::V1(stat_at(s)),
+        StatLayout::V2 => Stat::V2(stat_v2_at(s)),
+    }
+}
+
 #[tactic(auto, unfolding(crate::specs::Message::fields_of, exchange::specs::Exchange::head_of))]
 fn fields_at(layout: Layout, s: &[u8]) -> Fields
     requires { head_of layout ≤ length s.now }
@@ -130,12 +185,9 @@ fn fields_at(layout: Layout, s: &[u8]) -> Fields
     match layout {
         Layout::Text => Fields::Text,
         Layout::Number => Fields::Number(le::get(s, 4)),
-        Layout::Stat => Fields::Stat(stat_at(s)),
-        Layout::Entry => Fields::Entry(stat_at(s)),
-        Layout::End => Fields::End(stat_at(s), le::get(s, 16)),
-        Layout::StatV2 => Fields::StatV2(stat_v2_at(s)),
-        Layout::EntryV2 => Fields::EntryV2(stat_v2_at(s)),
-        Layout::EndV2 => Fields::EndV2(stat_v2_at(s), le::get(s, 72)),
+        Layout::Stat(stat) => Fields::Stat(stat_in(stat, s)),
+        Layout::Entry(stat) => Fields::Entry(stat_in(stat, s)),
+        Layout::End(stat) => Fields::End(stat_in(stat, s), le::get(s, 4 + stat.length())),
     }
 }
 
@@ -147,9 +199,8 @@ fn text_length(layout: Layout, s: &[u8]) -> usize
 {
     match layout {
         Layout::Text => le::get::<u32>(s, 4) as usize,
-        Layout::Entry => le::get::<u32>(s, 16) as usize,
-        Layout::EntryV2 => le::get::<u32>(s, 72) as usize,
-        Layout::Number | Layout::Stat | Layout::End | Layout::StatV2 | Layout::EndV2 => 0,
+        Layout::Entry(stat) => le::get::<u32>(s, 4 + stat.length()) as usize,
+        Layout::Number | Layout::Stat(_) | Layout::End(_) => 0,
     }
 }
 
@@ -180,9 +231,10 @@ fn read_known(received: &[u8], id: SyncId, layout: Layout) -> Result<Option<Whol
 
 impl Message {
     // The message of an exchange that received bytes begin with, none where more are to come, or why they are refused.
-    #[tactic(auto, unfolding(crate::specs::Message::read_message, crate::specs::Message::named_of))]
+    #[tactic(auto, using(crate::proofs::ReadLaws::is_here), unfolding(crate::specs::Message::read_message, crate::specs::Message::named_of))]
     pub fn read(exchange: Exchange, received: &[u8]) -> Result<Option<Whole>, ReadError>
-        ensures { result ≡ read_message exchange received.now }
+        ensures answer { result ≡ read_message exchange received.now }
+        ensures here { ReadHere (length received.now) result }
     {
         if received.len() < 4 {
             return Ok(None);

@@ -2,11 +2,13 @@
 -- messages"). Assumes nothing.
 use Rattle.std.specs.Prelude.{ℕ, List, [], ◌∷◌}
 use Rattle.le.specs.Le.{unsigned}
+use Rattle.exchange.specs.declared.StatLayout.TheVariants.{V1, V2}
 use Rattle.exchange.specs.declared.Layout.{Layout}
-use Rattle.exchange.specs.declared.Layout.TheVariants.{Text, Number, Stat, Entry, End, StatV2 as WideStat, EntryV2 as WideEntry, EndV2 as WideEnd}
+use Rattle.exchange.specs.declared.Layout.TheVariants.{Text, Number, Stat, Entry, End}
 use Rattle.sync.specs.declared.StatV2.{StatV2}
+use Rattle.sync.specs.declared.Stat.TheVariants.{V1 as First, V2 as Second}
 use Rattle.sync.specs.declared.Fields.{Fields}
-use Rattle.sync.specs.declared.Fields.TheVariants.{Text as TextFields, Number as NumberFields, Stat as StatFields, Entry as EntryFields, End as EndFields, StatV2 as StatV2Fields, EntryV2 as EntryV2Fields, EndV2 as EndV2Fields}
+use Rattle.sync.specs.declared.Fields.TheVariants.{Text as TextFields, Number as NumberFields, Stat as StatFields, Entry as EntryFields, End as EndFields}
 use Rattle.sync.specs.Message.{Answer}
 use Rattle.sync_write.specs.Write.{stat_v2_in}
 use Rattle.sync_v2.specs.declared.Said.{Said}
@@ -21,10 +23,8 @@ last_in TextFields = 0
 last_in (NumberFields a) = 0
 last_in (StatFields s) = 0
 last_in (EntryFields s) = 0
-last_in (EndFields s a) = 0
-last_in (StatV2Fields s) = 0
-last_in (EntryV2Fields s) = 0
-last_in (EndV2Fields s a) = a
+last_in (EndFields (First s) a) = 0
+last_in (EndFields (Second s) a) = a
 
 -- a message's stat and that number
 abbrev pub values_v2_of : Fields → ValuesV2
@@ -57,9 +57,9 @@ said_v2_bytes = said_bytes values_v2_in
 unfoldable pub fields_v2_from : Layout → ValuesV2 → Fields
 fields_v2_from Text v = TextFields
 fields_v2_from Number v = TextFields
-fields_v2_from Stat v = TextFields
-fields_v2_from Entry v = TextFields
-fields_v2_from End v = TextFields
-fields_v2_from WideStat v = StatV2Fields v.stat
-fields_v2_from WideEntry v = EntryV2Fields v.stat
-fields_v2_from WideEnd v = EndV2Fields v.stat v.last
+fields_v2_from (Stat V1) v = TextFields
+fields_v2_from (Entry V1) v = TextFields
+fields_v2_from (End V1) v = TextFields
+fields_v2_from (Stat V2) v = StatFields (Second v.stat)
+fields_v2_from (Entry V2) v = EntryFields (Second v.stat)
+fields_v2_from (End V2) v = EndFields (Second v.stat) v.last

@@ -9,7 +9,8 @@ use Rattle.exchange.specs.Exchange.{Row, word_of}
 use Rattle.sync.specs.declared.Fields.{Fields}
 use Rattle.sync.specs.declared.Fields.TheVariants.{Text}
 use Rattle.sync.specs.Message.{Answer}
-use Rattle.sync_write.specs.declared.WriteError.TheVariants.{InvalidId}
+use Rattle.refusal.specs.declared.WriteError.TheVariants.{Refused}
+use Rattle.sync.specs.declared.ReadError.TheVariants.{InvalidId}
 use Rattle.sync_write.specs.Write.{Composed, write_message}
 use Rattle.sync_v2.specs.declared.Said.{Said}
 
@@ -37,4 +38,4 @@ module _ {V : Type 0} where
   -- a message under an id that was found, or 14
   unfoldable pub write_found : (Layout → V → Fields) → Exchange → V → List ℕ → List ℕ → Option Row → Composed
   write_found to_fields x v text out (Some (id, k)) = write_message x (record { id = id; fields = to_fields k v }) text out
-  write_found to_fields x v text out None = record { result = Err InvalidId; out = out }
+  write_found to_fields x v text out None = record { result = Err (Refused InvalidId); out = out }

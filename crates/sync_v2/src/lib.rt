@@ -1,22 +1,21 @@
 // What is said to C of a message, and the message that C's numbers make, over the numbers that C sees; and those of the second
 // stat layout.
+// `as u64` widens a usize: std has no From for it.
 #![tactic(auto)]
 
-ghost use Rattle.std.specs.Prelude.{◌≡◌, ℕ, List, ◌+◌, ◌*◌, ◌≤◌, ◌++◌, length};
-ghost use Rattle.le.specs.Le.{num_of, bytes_of, put};
-ghost use Rattle.le.specs.Rows.{flat, rows};
+ghost use Rattle.std.specs.Prelude.{◌≡◌, ℕ, List};
 ghost use Rattle.exchange.specs.Exchange.{found_of};
 ghost use Rattle.exchange.specs.declared.Layout.{Layout};
 ghost use Rattle.sync.specs.declared.Fields.{Fields};
 ghost use Rattle.sync_write.specs.Write.{Writes};
-ghost use Rattle.sync_v2.specs.Said.{alone, said_of, numbers_of, said_bytes, write_found};
+ghost use Rattle.sync_v2.specs.Said.{alone, said_of, numbers_of, write_found};
 ghost use Rattle.sync_v2.specs.AnswerV2.{values_v2_of, values_v2_in, fields_v2_from, stat_said};
 
-use exchange::{Exchange, Layout};
-use sync::{Fields, Message, ReadError, StatV2, Whole};
+use exchange::{Exchange, Layout, StatLayout};
+use sync::{Fields, Message, ReadError, Stat, StatV2, Whole};
 use sync_write::{WriteError, write};
 
-// The numbers that C sees of a message: N, of 64 bits each.
+// What C sees of a message, beside its place: with that N numbers, of 64 bits each.
 pub trait Numbers<const N: usize>: Copy {
     // Those of a message's fields, 0 for what the fields have not.
     ghost of_fields: { Fields → Self };
@@ -32,8 +31,9 @@ pub trait Numbers<const N: usize>: Copy {
     fn to_fields(self, layout: Layout) -> Fields
         ensures { result ≡ to_fields layout self };
 
-    fn in_order(self) -> [u64; N]
-        ensures { result ≡ in_order self };
+    // All that is said, in the order of an answer.
+    fn numbers_of(said: Said<Self>) -> [u64; N]
+        ensures { result ≡ numbers_of in_order said };
 }
 
 // What is said of received bytes: the bytes used, where the message's text is, its id's word, and its numbers.
@@ -76,27 +76,6 @@ pub fn said_of<V: Numbers<N>, const N: usize>(read: Result<Option<Whole>, ReadEr
     }
 }
 
-// Two rows of numbers, one behind the other, eight bytes for each, at the start of the answer.
-fn put_rows(answer: &mut [u8], x: &[usize], y: &[u64])
-    requires { (length x.now + length y.now) * 8 ≤ length answer.old }
-    ensures put { answer.new ≡ put answer.old 0 (flat (bytes_of 8) (x.now ++ y.now)) }
-    ensures says { rows 8 num_of (length x.now + length y.now) answer.new ≡ x.now ++ y.now }
-{
-    le::put_all(answer, 0, x);
-    le::put_all(answer, x.len() * 8, y);
-}
-
-// The answer's bytes, eight for each number.
-#[tactic(auto, unfolding(crate::specs::Said::said_bytes))]
-pub fn put_said<V: Numbers<N>, const N: usize>(answer: &mut [u8], said: Said<V>)
-    requires { (4 + N) * 8 ≤ length answer.old }
-    ensures put { answer.new ≡ put answer.old 0 (said_bytes V.in_order said) }
-    ensures says { rows 8 num_of (4 + N) answer.new ≡ numbers_of V.in_order said }
-{
-    let place = [said.used, said.at, said.length, said.word as usize];
-    put_rows(answer, &place, &said.values.in_order());
-}
-
 // A message under a word, written at the start of out.
 #[tactic(auto, unfolding(crate::specs::Said::write_found))]
 pub fn write_found<V: Numbers<N>, const N: usize>(
@@ -113,7 +92,7 @@ pub fn write_found<V: Numbers<N>, const N: usize>(
             let fields = values.to_fields(layout);
             write(Message { id, fields }, exchange, text, out)
         }
-        None => Err(WriteError::InvalidId),
+        None => Err(WriteError::Refused(ReadError::InvalidId)),
     }
 }
 
@@ -124,7 +103,7 @@ pub struct ValuesV2 {
     pub last: u32,
 }
 
-impl Numbers<12> for ValuesV2 {
+impl Numbers<16> for ValuesV2 {
     ghost of_fields = { values_v2_of };
 
     ghost to_fields = { fields_v2_from };
@@ -134,9 +113,9 @@ impl Numbers<12> for ValuesV2 {
     #[tactic(auto, unfolding(crate::specs::AnswerV2::last_in, sync_write::specs::Write::stat_v2_in))]
     fn of_fields(fields: Fields) -> ValuesV2 {
         match fields {
-            Fields::StatV2(stat) => ValuesV2 { stat, last: 0 },
-            Fields::EntryV2(stat) => ValuesV2 { stat, last: 0 },
-            Fields::EndV2(stat, last) => ValuesV2 { stat, last },
+            Fields::Stat(Stat::V2(stat)) => ValuesV2 { stat, last: 0 },
+            Fields::Entry(Stat::V2(stat)) => ValuesV2 { stat, last: 0 },
+            Fields::End(Stat::V2(stat), last) => ValuesV2 { stat, last },
             _ => ValuesV2::default(),
         }
     }
@@ -144,18 +123,25 @@ impl Numbers<12> for ValuesV2 {
     // A stat of the second layout makes no fields of the others'.
     #[tactic(auto, unfolding(crate::specs::AnswerV2::fields_v2_from))]
     fn to_fields(self, layout: Layout) -> Fields {
+        let stat = Stat::V2(self.stat);
         match layout {
-            Layout::StatV2 => Fields::StatV2(self.stat),
-            Layout::EntryV2 => Fields::EntryV2(self.stat),
-            Layout::EndV2 => Fields::EndV2(self.stat, self.last),
+            Layout::Stat(StatLayout::V2) => Fields::Stat(stat),
+            Layout::Entry(StatLayout::V2) => Fields::Entry(stat),
+            Layout::End(StatLayout::V2) => Fields::End(stat, self.last),
             _ => Fields::Text,
         }
     }
 
     // The stat in the order of its bytes, a time as the 64 bits that stand for it.
-    fn in_order(self) -> [u64; 12] {
-        let stat = self.stat;
+    fn numbers_of(said: Said<ValuesV2>) -> [u64; 16]
+        ensures { result ≡ numbers_of values_v2_in said }
+    {
+        let stat = said.values.stat;
         [
+            said.used as u64,
+            said.at as u64,
+            said.length as u64,
+            u64::from(said.word),
             u64::from(stat.error),
             stat.dev,
             stat.ino,
@@ -167,7 +153,7 @@ impl Numbers<12> for ValuesV2 {
             stat.atime.cast_unsigned(),
             stat.mtime.cast_unsigned(),
             stat.ctime.cast_unsigned(),
-            u64::from(self.last),
+            u64::from(said.values.last),
         ]
     }
 }

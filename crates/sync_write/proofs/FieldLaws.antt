@@ -9,15 +9,18 @@ use lib.ListN.{length}
 use Rattle.le.specs.Le.{num_of, bytes_of, signed, unsigned, part, Bytes}
 use Rattle.le.proofs.Laws.{write_read, read-write-part, signed-unsigned, unsigned_signed, unsigned_small, num_of-part}
 use Rattle.le.proofs.Parts.{part_join}
+use Rattle.exchange.specs.declared.StatLayout.{StatLayout}
+use Rattle.exchange.specs.declared.StatLayout.TheVariants.{V1, V2}
 use Rattle.exchange.specs.declared.Layout.{Layout}
-use Rattle.exchange.specs.declared.Layout.TheVariants.{Text, Number, Stat, Entry, End, StatV2 as WideStat, EntryV2 as WideEntry, EndV2 as WideEnd}
+use Rattle.exchange.specs.declared.Layout.TheVariants.{Text, Number, Stat, Entry, End}
 use Rattle.sync.specs.declared.StatV2.{StatV2}
+use Rattle.sync.specs.declared.Stat.TheVariants.{V1 as First, V2 as Second}
 use Rattle.sync.specs.declared.Fields.{Fields}
-use Rattle.sync.specs.declared.Fields.TheVariants.{Text as TextFields, Number as NumberFields, Stat as StatFields, Entry as EntryFields, End as EndFields, StatV2 as StatV2Fields, EntryV2 as EntryV2Fields, EndV2 as EndV2Fields}
+use Rattle.sync.specs.declared.Fields.TheVariants.{Text as TextFields, Number as NumberFields, Stat as StatFields, Entry as EntryFields, End as EndFields}
 use Rattle.sync.specs.declared.Message.{Message}
-use Rattle.exchange.specs.Exchange.{word_of, head_of, longest_of}
-use Rattle.sync.specs.Message.{stat_of, stat_v2_of, fields_of, length_of}
-use Rattle.sync_write.specs.Write.{layout_of, stat_bytes, about_bytes, times_bytes, stat_v2_bytes, field_bytes, head_bytes, numbers_of, stat_v2_in, StatFits, Fits}
+use Rattle.exchange.specs.Exchange.{word_of, stat_length, head_of, longest_of}
+use Rattle.sync.specs.Message.{stat_layout, stat_of, stat_v2_of, either_of, fields_of, length_of}
+use Rattle.sync_write.specs.Write.{layout_of, stat_bytes, about_bytes, times_bytes, stat_v2_bytes, either_bytes, field_bytes, head_bytes, numbers_of, stat_v2_in, StatFits, Fits}
 use Rattle.exchange.proofs.ExchangeLaws.{word_small, heads}
 
 -- ---- written, then read
@@ -49,18 +52,18 @@ wide_back w s rest h =
     )
 
 fields_back : (w : ℕ) (f : Fields) (n : ℕ) (rest : List ℕ) → Fits f → fields_of (layout_of f) (bytes_of 4 w ++ field_bytes f n ++ rest) ≡ f
-unfolding fields_of field_bytes stat_of stat_bytes stat_v2_bytes about_bytes times_bytes numbers_of stat_v2_in bytes_of part
+unfolding fields_of field_bytes either_of either_bytes stat_of stat_bytes stat_v2_bytes about_bytes times_bytes numbers_of stat_v2_in bytes_of part
 fields_back w TextFields n rest h = refl
 fields_back w (NumberFields a) n rest h = rw (write_read 4 a (h.words 0))
-fields_back w (StatFields s) n rest h =
+fields_back w (StatFields (First s)) n rest h =
     rw (write_read 4 s.mode.0 (h.words 0), write_read 4 s.size (h.words 1), write_read 4 s.mtime (h.words 2))
-fields_back w (EntryFields s) n rest h =
+fields_back w (EntryFields (First s)) n rest h =
     rw (write_read 4 s.mode.0 (h.words 0), write_read 4 s.size (h.words 1), write_read 4 s.mtime (h.words 2))
-fields_back w (EndFields s a) n rest h =
+fields_back w (EndFields (First s) a) n rest h =
     rw (write_read 4 s.mode.0 (h.words 0), write_read 4 s.size (h.words 1), write_read 4 s.mtime (h.words 2), write_read 4 a (h.words 3))
-fields_back w (StatV2Fields s) n rest h = ap StatV2Fields (wide_back w s rest h.stat-fits)
-fields_back w (EntryV2Fields s) n rest h = ap EntryV2Fields (wide_back w s (bytes_of 4 n ++ rest) h.stat-fits)
-fields_back w (EndV2Fields s a) n rest h =
+fields_back w (StatFields (Second s)) n rest h = ap (λ (z : StatV2). StatFields (Second z)) (wide_back w s rest h.stat-fits)
+fields_back w (EntryFields (Second s)) n rest h = ap (λ (z : StatV2). EntryFields (Second z)) (wide_back w s (bytes_of 4 n ++ rest) h.stat-fits)
+fields_back w (EndFields (Second s) a) n rest h =
     rw (wide_back w s (bytes_of 4 a ++ rest) h.stat-fits, write_read 4 a (h.words 0))
 
 pub read-fields : (m : Message) (n : ℕ) (rest : List ℕ) → Fits m.fields → fields_of (layout_of m.fields) (head_bytes m n ++ rest) ≡ m.fields
@@ -68,15 +71,13 @@ unfolding head_bytes
 read-fields m n rest h = fields_back (word_of m.id) m.fields n rest h
 
 length_back : (w : ℕ) (f : Fields) (n : ℕ) (rest : List ℕ) → n ≤ longest_of (layout_of f) → length_of (layout_of f) (bytes_of 4 w ++ field_bytes f n ++ rest) ≡ n
-unfolding length_of longest_of field_bytes stat_bytes stat_v2_bytes about_bytes times_bytes bytes_of part
+unfolding length_of longest_of field_bytes either_bytes stat_bytes stat_v2_bytes about_bytes times_bytes bytes_of part
 length_back w TextFields n rest h = write_read 4 n (omega arith)
 length_back w (NumberFields a) n rest h = omega arith
 length_back w (StatFields s) n rest h = omega arith
-length_back w (EntryFields s) n rest h = write_read 4 n (omega arith)
+length_back w (EntryFields (First s)) n rest h = write_read 4 n (omega arith)
+length_back w (EntryFields (Second s)) n rest h = write_read 4 n (omega arith)
 length_back w (EndFields s a) n rest h = omega arith
-length_back w (StatV2Fields s) n rest h = omega arith
-length_back w (EntryV2Fields s) n rest h = write_read 4 n (omega arith)
-length_back w (EndV2Fields s a) n rest h = omega arith
 
 pub read_length : (m : Message) (n : ℕ) (rest : List ℕ) → n ≤ longest_of (layout_of m.fields) → length_of (layout_of m.fields) (head_bytes m n ++ rest) ≡ n
 unfolding head_bytes
@@ -84,16 +85,18 @@ read_length m n rest h = length_back (word_of m.id) m.fields n rest h
 
 -- ---- read, then written
 
+same_stat_layout : (v : StatLayout) (s : List ℕ) → stat_layout (either_of v s) ≡ v
+unfolding either_of
+same_stat_layout V1 s = refl
+same_stat_layout V2 s = refl
+
 pub same_layout : (k : Layout) (s : List ℕ) → layout_of (fields_of k s) ≡ k
 unfolding fields_of
 same_layout Text s = refl
 same_layout Number s = refl
-same_layout Stat s = refl
-same_layout Entry s = refl
-same_layout End s = refl
-same_layout WideStat s = refl
-same_layout WideEntry s = refl
-same_layout WideEnd s = refl
+same_layout (Stat v) s = ap Stat (same_stat_layout v s)
+same_layout (Entry v) s = ap Entry (same_stat_layout v s)
+same_layout (End v) s = ap End (same_stat_layout v s)
 
 stat-written : (s : List ℕ) → Bytes s → 16 ≤ length s → stat_bytes (stat_of s) ≡ part s 4 12
 unfolding stat_bytes stat_of
@@ -140,16 +143,25 @@ wide-written : (s : List ℕ) → Bytes s → 72 ≤ length s → stat_v2_bytes 
 unfolding stat_v2_bytes
 wide-written s h n = rw (about-written s h n, times-written s h n) (part_join s 4 36 32)
 
+either-written : (v : StatLayout) (s : List ℕ) → Bytes s → 4 + stat_length v ≤ length s → either_bytes (either_of v s) ≡ part s 4 (stat_length v)
+unfolding either_bytes either_of
+either-written V1 s h n = stat-written s h n
+either-written V2 s h n = wide-written s h n
+
+-- a stat and a word behind it
+behind-written : (v : StatLayout) (s : List ℕ) → Bytes s → 8 + stat_length v ≤ length s
+    → part s 0 4 ++ (either_bytes (either_of v s) ++ bytes_of 4 (num_of (part s (4 + stat_length v) 4))) ≡ part s 0 (8 + stat_length v)
+behind-written v s h n =
+    let e : 4 + (stat_length v + 4) ≡ 8 + stat_length v = omega arith in
+    rw (either-written v s h (omega arith), read-write-part s (4 + stat_length v) 4 h (omega arith), part_join s 4 (stat_length v) 4, part_join s 0 4 (stat_length v + 4), e)
+
 fields-written : (k : Layout) (s : List ℕ) → Bytes s → head_of k ≤ length s → part s 0 4 ++ field_bytes (fields_of k s) (length_of k s) ≡ part s 0 (head_of k)
 unfolding field_bytes fields_of length_of head_of
 fields-written Text s h n = rw (read-write-part s 4 4 h n) (part_join s 0 4 4)
 fields-written Number s h n = rw (read-write-part s 4 4 h n) (part_join s 0 4 4)
-fields-written Stat s h n = rw (stat-written s h n) (part_join s 0 4 12)
-fields-written Entry s h n = rw (stat-written s h (omega arith), read-write-part s 16 4 h n, part_join s 4 12 4) (part_join s 0 4 16)
-fields-written End s h n = rw (stat-written s h (omega arith), read-write-part s 16 4 h n, part_join s 4 12 4) (part_join s 0 4 16)
-fields-written WideStat s h n = rw (wide-written s h n) (part_join s 0 4 68)
-fields-written WideEntry s h n = rw (wide-written s h (omega arith), read-write-part s 72 4 h n, part_join s 4 68 4) (part_join s 0 4 72)
-fields-written WideEnd s h n = rw (wide-written s h (omega arith), read-write-part s 72 4 h n, part_join s 4 68 4) (part_join s 0 4 72)
+fields-written (Stat v) s h n = rw (either-written v s h n) (part_join s 0 4 (stat_length v))
+fields-written (Entry v) s h n = behind-written v s h n
+fields-written (End v) s h n = behind-written v s h n
 
 pub head-written : (k : Layout) (m : Message) (s : List ℕ) → Bytes s → head_of k ≤ length s → num_of (part s 0 4) ≡ word_of m.id → m.fields ≡ fields_of k s
     → head_bytes m (length_of k s) ≡ part s 0 (head_of k)

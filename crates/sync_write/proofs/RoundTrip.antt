@@ -15,14 +15,14 @@ use Rattle.le.specs.Le.{num_of, part, put, Bytes}
 use Rattle.le.proofs.Laws.{num_of-part}
 use Rattle.le.proofs.Parts.{by-test, length_part, part-put-same}
 use Rattle.exchange.specs.declared.Layout.{Layout}
-use Rattle.exchange.specs.declared.Layout.TheVariants.{Text, Number, Stat, Entry, End, StatV2, EntryV2, EndV2}
+use Rattle.exchange.specs.declared.Layout.TheVariants.{Text, Number, Stat, Entry, End}
 use Rattle.exchange.specs.declared.SyncId.{SyncId}
 use Rattle.std.specs.Prelude.{Option, Some, None, Ok, Err}
 use Rattle.exchange.specs.declared.Exchange.{Exchange}
 use Rattle.sync.specs.declared.Message.{Message}
 use Rattle.sync.specs.declared.Whole.{Whole}
 use Rattle.sync.specs.declared.ReadError.TheVariants.{InvalidId, DataTooLarge}
-use Rattle.exchange.specs.Exchange.{Row, word_of, found_of, head_of, longest_of, layout_number, is_over}
+use Rattle.exchange.specs.Exchange.{Row, word_of, found_of, stat_length, head_of, longest_of, layout_number, is_over}
 use Rattle.sync.specs.Message.{fields_of, length_of, known_of, named_of, read_message}
 use Rattle.sync_write.specs.Write.{layout_of, is_other, head_bytes, message_bytes, Fits, Composed, write_known, write_named, write_message}
 use Rattle.sync.proofs.ReadLaws.{KnownSays, says}
@@ -180,12 +180,9 @@ length-fits : (k : Layout) (s : List ℕ) → Bytes s → length_of k s ≤ long
 unfolding length_of longest_of
 length-fits Text s h = omega (arith, num_of-part 4 s 4 h)
 length-fits Number s h = omega arith
-length-fits Stat s h = omega arith
-length-fits Entry s h = omega (arith, num_of-part 4 s 16 h)
-length-fits End s h = omega arith
-length-fits StatV2 s h = omega arith
-length-fits EntryV2 s h = omega (arith, num_of-part 4 s 72 h)
-length-fits EndV2 s h = omega arith
+length-fits (Stat v) s h = omega arith
+length-fits (Entry v) s h = omega (arith, num_of-part 4 s (4 + stat_length v) h)
+length-fits (End v) s h = omega arith
 
 not-other : (k : Layout) (s : List ℕ) → is_other k (fields_of k s) ≡ false
 unfolding is_other

@@ -13,22 +13,20 @@ use Rattle.le.proofs.Parts.{put-put, put-seq}
 use Rattle.exchange.specs.declared.Layout.{Layout}
 use Rattle.sync.specs.declared.StatV1.{StatV1}
 use Rattle.sync.specs.declared.StatV2.{StatV2}
+use Rattle.sync.specs.declared.Stat.{Stat as EitherStat}
+use Rattle.sync.specs.declared.Stat.TheVariants.{V1, V2}
 use Rattle.sync.specs.declared.Fields.{Fields}
-use Rattle.sync.specs.declared.Fields.TheVariants.{Text, Number, Stat, Entry, End, StatV2 as WideStat, EntryV2 as WideEntry, EndV2 as WideEnd}
+use Rattle.sync.specs.declared.Fields.TheVariants.{Text, Number, Stat, Entry, End}
 use Rattle.sync.specs.declared.Message.{Message}
 use Rattle.exchange.proofs.ExchangeLaws.{heads, same-layout-number, same_by_number}
-use Rattle.exchange.specs.Exchange.{word_of, head_of, longest_of, layout_number}
-use Rattle.sync_write.specs.Write.{layout_of, is_other, stat_bytes, about_bytes, times_bytes, stat_v2_bytes, field_bytes, head_bytes, message_bytes, Room}
+use Rattle.exchange.specs.Exchange.{word_of, stat_length, head_of, longest_of, layout_number}
+use Rattle.sync.specs.Message.{stat_layout}
+use Rattle.sync_write.specs.Write.{layout_of, is_other, stat_bytes, about_bytes, times_bytes, stat_v2_bytes, either_bytes, field_bytes, head_bytes, message_bytes, Room}
 
 -- three words are a stat
 pub flat_three : (s : StatV1) → flat (bytes_of 4) (s.mode.0 ∷ s.size ∷ s.mtime ∷ []) ≡ stat_bytes s
 unfolding flat stat_bytes
 flat_three s = simp (append_assoc, append-nil)
-
--- a word behind a stat
-pub put_behind : (d : List ℕ) (s : StatV1) (n : ℕ) → 20 ≤ length d → put (put d 4 (stat_bytes s)) 16 (bytes_of 4 n) ≡ put d 4 (stat_bytes s ++ bytes_of 4 n)
-unfolding stat_bytes bytes_of
-put_behind d s n h = put-put d 4 (stat_bytes s) 16 (bytes_of 4 n) refl h
 
 -- all eleven
 pub put_eleven : (d : List ℕ) (s : StatV2) → 72 ≤ length d
@@ -39,25 +37,26 @@ put_eleven d s h =
     (bytes_of 8 s.dev ∷ bytes_of 8 s.ino ∷ bytes_of 4 s.mode.0 ∷ bytes_of 4 s.nlink ∷ bytes_of 4 s.uid ∷ bytes_of 4 s.gid ∷ bytes_of 8 s.size ∷ bytes_of 8 (unsigned 63 s.atime) ∷ bytes_of 8 (unsigned 63 s.mtime) ∷ bytes_of 8 (unsigned 63 s.ctime) ∷ [])
     (omega arith)
 
--- a word behind it
-pub put_behind_wide : (d : List ℕ) (s : StatV2) (n : ℕ) → 76 ≤ length d → put (put d 4 (stat_v2_bytes s)) 72 (bytes_of 4 n) ≡ put d 4 (stat_v2_bytes s ++ bytes_of 4 n)
-unfolding stat_v2_bytes about_bytes times_bytes bytes_of
-put_behind_wide d s n h = put-put d 4 (stat_v2_bytes s) 72 (bytes_of 4 n) refl h
+length_either : (s : EitherStat) → length (either_bytes s) ≡ stat_length (stat_layout s)
+unfolding either_bytes stat_bytes stat_v2_bytes about_bytes times_bytes bytes_of
+length_either (V1 s) = refl
+length_either (V2 s) = refl
 
--- what writing the fields cites
-pub ruleset put_rules = (put_behind, put_behind_wide)
+-- a word behind a stat
+pub put_behind : (d : List ℕ) (s : EitherStat) (n : ℕ) → 8 + stat_length (stat_layout s) ≤ length d
+    → put (put d 4 (either_bytes s)) (4 + stat_length (stat_layout s)) (bytes_of 4 n) ≡ put d 4 (either_bytes s ++ bytes_of 4 n)
+put_behind d s n h =
+    let w = length-bytes_of 4 n in
+    put-put d 4 (either_bytes s) (4 + stat_length (stat_layout s)) (bytes_of 4 n) (omega (arith, length_either s)) (omega arith)
 
 -- the fields fill the head behind the id
 pub length_fields : (f : Fields) (n : ℕ) → 4 + length (field_bytes f n) ≡ head_of (layout_of f)
-unfolding field_bytes stat_bytes stat_v2_bytes about_bytes times_bytes bytes_of head_of
+unfolding field_bytes bytes_of head_of
 length_fields Text n = refl
 length_fields (Number a) n = refl
-length_fields (Stat s) n = refl
-length_fields (Entry s) n = refl
-length_fields (End s a) n = refl
-length_fields (WideStat s) n = refl
-length_fields (WideEntry s) n = refl
-length_fields (WideEnd s a) n = refl
+length_fields (Stat s) n = omega (arith, length_either s)
+length_fields (Entry s) n = rw (length-append (either_bytes s) (bytes_of 4 n)) (omega (arith, length_either s, length-bytes_of 4 n))
+length_fields (End s a) n = rw (length-append (either_bytes s) (bytes_of 4 a)) (omega (arith, length_either s, length-bytes_of 4 a))
 
 pub length-head : (m : Message) (n : ℕ) → length (head_bytes m n) ≡ head_of (layout_of m.fields)
 unfolding head_bytes

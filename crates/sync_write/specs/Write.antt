@@ -1,30 +1,26 @@
 -- The sync messages to bytes (SYNC.TXT; docs/SCOPE.md, 10 and 13, where it is silent). Assumes nothing.
-use Rattle.std.specs.Prelude.{ℕ, ◌+◌, ◌≤◌, ◌<◌, ◌^◌, ◌≡◌, Bool, cond, not, List, [], ◌∷◌, ◌++◌, ltb, eqb, pos, length, get_or, Option, Some, None, Result, Ok, Err}
+use Rattle.std.specs.Prelude.{ℕ, ◌+◌, ◌≤◌, ◌<◌, ◌^◌, Bool, cond, not, List, [], ◌∷◌, ◌++◌, ltb, eqb, pos, length, get_or, Option, Some, None, Result, Ok, Err}
 use Rattle.std.specs.Int.Signed.{mag}
 use Rattle.le.specs.Le.{bytes_of, unsigned, put}
 use Rattle.exchange.specs.declared.Layout.{Layout}
-use Rattle.exchange.specs.declared.Layout.TheVariants.{Text, Number, Stat, Entry, End, StatV2 as WideStat, EntryV2 as WideEntry, EndV2 as WideEnd}
 use Rattle.exchange.specs.declared.Exchange.{Exchange}
 use Rattle.sync.specs.declared.StatV1.{StatV1}
 use Rattle.sync.specs.declared.StatV2.{StatV2}
+use Rattle.sync.specs.declared.Stat.{Stat}
+use Rattle.sync.specs.declared.Stat.TheVariants.{V1, V2}
 use Rattle.sync.specs.declared.Fields.{Fields}
-use Rattle.sync.specs.declared.Fields.TheVariants.{Text as TextFields, Number as NumberFields, Stat as StatFields, Entry as EntryFields, End as EndFields, StatV2 as StatV2Fields, EntryV2 as EntryV2Fields, EndV2 as EndV2Fields}
+use Rattle.sync.specs.declared.Fields.TheVariants.{Text as TextFields, Number as NumberFields, Stat as StatFields, Entry as EntryFields, End as EndFields}
 use Rattle.sync.specs.declared.Message.{Message}
-use Rattle.sync_write.specs.declared.WriteError.{WriteError}
-use Rattle.sync_write.specs.declared.WriteError.TheVariants.{InvalidId, DataTooLarge, OutShort}
+use Rattle.sync.specs.declared.ReadError.{ReadError}
+use Rattle.sync.specs.declared.ReadError.TheVariants.{InvalidId, DataTooLarge}
+use Rattle.sync.specs.Message.{error_number as read_refusal}
+pub use Rattle.sync.specs.Message.{layout_of}
 use Rattle.refusal.specs.Refusal.{number_of}
+use Rattle.refusal.specs.declared.WriteError.{WriteError}
+use Rattle.refusal.specs.declared.WriteError.TheVariants.{Refused, OutShort}
+use Rattle.refusal.specs.Written.{Composed as ComposedOf, write_refusal}
+pub use Rattle.refusal.specs.Written.{Writes}
 use Rattle.exchange.specs.Exchange.{Row, word_of, is_over, head_of, longest_of, layout_number, found_of}
-
--- the layout that has these fields
-abbrev pub layout_of : Fields → Layout
-layout_of TextFields = Text
-layout_of (NumberFields n) = Number
-layout_of (StatFields s) = Stat
-layout_of (EntryFields s) = Entry
-layout_of (EndFields s n) = End
-layout_of (StatV2Fields s) = WideStat
-layout_of (EntryV2Fields s) = WideEntry
-layout_of (EndV2Fields s n) = WideEnd
 
 -- whether these are another layout's fields
 unfoldable pub is_other : Layout → Fields → Bool
@@ -47,27 +43,29 @@ times_bytes s =
 unfoldable pub stat_v2_bytes : StatV2 → List ℕ
 stat_v2_bytes s = about_bytes s ++ times_bytes s
 
+-- a stat of either layout
+unfoldable pub either_bytes : Stat → List ℕ
+either_bytes (V1 s) = stat_bytes s
+either_bytes (V2 s) = stat_v2_bytes s
+
 -- what stands between the id and a text of n bytes
 unfoldable pub field_bytes : Fields → ℕ → List ℕ
 field_bytes TextFields n = bytes_of 4 n
 field_bytes (NumberFields a) n = bytes_of 4 a
-field_bytes (StatFields s) n = stat_bytes s
-field_bytes (EntryFields s) n = stat_bytes s ++ bytes_of 4 n
-field_bytes (EndFields s a) n = stat_bytes s ++ bytes_of 4 a
-field_bytes (StatV2Fields s) n = stat_v2_bytes s
-field_bytes (EntryV2Fields s) n = stat_v2_bytes s ++ bytes_of 4 n
-field_bytes (EndV2Fields s a) n = stat_v2_bytes s ++ bytes_of 4 a
+field_bytes (StatFields s) n = either_bytes s
+field_bytes (EntryFields s) n = either_bytes s ++ bytes_of 4 n
+field_bytes (EndFields s a) n = either_bytes s ++ bytes_of 4 a
 
 -- the numbers of fields, but those of a stat of the second layout
 unfoldable pub numbers_of : Fields → List ℕ
 numbers_of TextFields = []
 numbers_of (NumberFields a) = a ∷ []
-numbers_of (StatFields s) = s.mode.0 ∷ s.size ∷ s.mtime ∷ []
-numbers_of (EntryFields s) = s.mode.0 ∷ s.size ∷ s.mtime ∷ []
-numbers_of (EndFields s a) = s.mode.0 ∷ s.size ∷ s.mtime ∷ a ∷ []
-numbers_of (StatV2Fields s) = []
-numbers_of (EntryV2Fields s) = []
-numbers_of (EndV2Fields s a) = a ∷ []
+numbers_of (StatFields (V1 s)) = s.mode.0 ∷ s.size ∷ s.mtime ∷ []
+numbers_of (EntryFields (V1 s)) = s.mode.0 ∷ s.size ∷ s.mtime ∷ []
+numbers_of (EndFields (V1 s) a) = s.mode.0 ∷ s.size ∷ s.mtime ∷ a ∷ []
+numbers_of (StatFields (V2 s)) = []
+numbers_of (EntryFields (V2 s)) = []
+numbers_of (EndFields (V2 s) a) = a ∷ []
 
 -- each is of 32 bits
 abbrev pub Words : Fields → Type 0
@@ -90,16 +88,18 @@ no_stat_v2 =
       ctime = pos 0;
     }
 
+-- a stat where it is of the second layout
+abbrev pub wide_in : Stat → StatV2
+wide_in (V1 s) = no_stat_v2
+wide_in (V2 s) = s
+
 -- the stat of the second layout that fields have, nothing where they have none
 unfoldable pub stat_v2_in : Fields → StatV2
 stat_v2_in TextFields = no_stat_v2
 stat_v2_in (NumberFields a) = no_stat_v2
-stat_v2_in (StatFields s) = no_stat_v2
-stat_v2_in (EntryFields s) = no_stat_v2
-stat_v2_in (EndFields s a) = no_stat_v2
-stat_v2_in (StatV2Fields s) = s
-stat_v2_in (EntryV2Fields s) = s
-stat_v2_in (EndV2Fields s a) = s
+stat_v2_in (StatFields s) = wide_in s
+stat_v2_in (EntryFields s) = wide_in s
+stat_v2_in (EndFields s a) = wide_in s
 
 -- its numbers are of 32 and of 64 bits, and its times of 64 with a sign
 pub record StatFits (s : StatV2) : Type 0 where
@@ -135,18 +135,17 @@ pub record Room (out : List ℕ) (m : Message) (text : List ℕ) : Type 0 where
 
 -- what writing answers: the bytes written, or a refusal
 abbrev pub Written : Type 0
-Written = Result ℕ WriteError
+Written = Result ℕ (WriteError ReadError)
 
 -- what writing gives: its answer, and the outgoing bytes after it
-pub record Composed : Type 0 where
-  pub result : Written
-  pub out : List ℕ
+abbrev pub Composed : Type 0
+Composed = ComposedOf (WriteError ReadError)
 
 -- fields of another layout are refused by 14, data over the maximum by 15, a text past its length's field and a short buffer by 9
 unfoldable pub write_known : Layout → Message → List ℕ → List ℕ → Composed
 write_known k m text out =
-    cond (is_other k m.fields) (record { result = Err InvalidId; out = out })
-    (cond (is_over m.id (length text)) (record { result = Err DataTooLarge; out = out })
+    cond (is_other k m.fields) (record { result = Err (Refused InvalidId); out = out })
+    (cond (is_over m.id (length text)) (record { result = Err (Refused DataTooLarge); out = out })
     (cond (ltb (longest_of k) (length text)) (record { result = Err OutShort; out = out })
     (cond (ltb (length out) (head_of k + length text)) (record { result = Err OutShort; out = out })
     (record { result = Ok (head_of k + length text); out = put out 0 (message_bytes m text) }))))
@@ -154,22 +153,15 @@ write_known k m text out =
 -- 14 for an id that is not the exchange's, or what its layout gives
 unfoldable pub write_named : Message → List ℕ → List ℕ → Option Row → Composed
 write_named m text out (Some (id, k)) = write_known k m text out
-write_named m text out None = record { result = Err InvalidId; out = out }
+write_named m text out None = record { result = Err (Refused InvalidId); out = out }
 
 -- writing a message of an exchange with this text to out
 unfoldable pub write_message : Exchange → Message → List ℕ → List ℕ → Composed
 write_message x m text out = write_named m text out (found_of x (word_of m.id))
 
--- what writing promises: the definition's answer, and every byte of out
-pub record Writes (o : Composed) (r : Written) (out : List ℕ) : Type 0 where
-  pub result-is : r ≡ o.result
-  pub out-is : out ≡ o.out
-
 -- the number of a refusal
-unfoldable pub error_number : WriteError → ℕ
-error_number InvalidId = 14
-error_number DataTooLarge = 15
-error_number OutShort = 9
+abbrev pub error_number : WriteError ReadError → ℕ
+error_number = write_refusal read_refusal
 
 -- the number of its answer: a refusal's own, 0 for a message
 abbrev pub written_number : Written → ℕ

@@ -1,57 +1,22 @@
 // The sync messages to bytes, what `sync` reads them from.
+// `as u32` narrows a length that fits: `try_from` would need an arm that never comes.
 #![tactic(auto)]
 
-ghost use Rattle.std.specs.Prelude.{◌≡◌, ◌≤◌, length};
+ghost use Rattle.std.specs.Prelude.{◌≡◌, ◌+◌, ◌≤◌, length};
 ghost use Rattle.le.specs.Le.{put};
-ghost use Rattle.exchange.specs.Exchange.{head_of};
-ghost use Rattle.sync_write.specs.Write.{layout_of, stat_bytes, stat_v2_bytes, field_bytes, message_bytes};
-ghost use Rattle.sync_write.specs.Write.{Room, write_known, write_message, Writes, error_number};
+ghost use Rattle.exchange.specs.Exchange.{stat_length, head_of};
+ghost use Rattle.sync.specs.Message.{stat_layout, layout_of};
+ghost use Rattle.sync_write.specs.Write.{stat_bytes, stat_v2_bytes, either_bytes, field_bytes, message_bytes};
+ghost use Rattle.sync_write.specs.Write.{Room, write_known, write_message, Writes};
 
 use exchange::{Exchange, Layout};
-use refusal::Numbered;
-use sync::{Fields, Message, StatV1, StatV2};
+use sync::{Fields, Message, ReadError, Stat, StatV1, StatV2};
 
-// Why a message is not written.
-#[derive(Clone, Copy, PartialEq, Eq, Debug)]
-pub enum WriteError {
-    // Refusal 14: the id is not the exchange's, or the fields are another layout's.
-    InvalidId,
-    // Refusal 15: a DATA of over 65,536 bytes.
-    DataTooLarge,
-    // Refusal 9: the buffer is too short, or the text too long for its length's field.
-    OutShort,
-}
-
-impl Numbered for WriteError {
-    ghost number = { error_number };
-
-    #[tactic(auto, unfolding(crate::specs::Write::error_number))]
-    fn number(self) -> u32 {
-        match self {
-            WriteError::InvalidId => 14,
-            WriteError::DataTooLarge => 15,
-            WriteError::OutShort => 9,
-        }
-    }
-}
-
-fn layout_of(fields: Fields) -> Layout
-    ensures { result ≡ layout_of fields }
-{
-    match fields {
-        Fields::Text => Layout::Text,
-        Fields::Number(_) => Layout::Number,
-        Fields::Stat(_) => Layout::Stat,
-        Fields::Entry(_) => Layout::Entry,
-        Fields::End(_, _) => Layout::End,
-        Fields::StatV2(_) => Layout::StatV2,
-        Fields::EntryV2(_) => Layout::EntryV2,
-        Fields::EndV2(_, _) => Layout::EndV2,
-    }
-}
+// Why a message is not written. Fields of another layout than the id's are refused as the id is.
+pub type WriteError = refusal::WriteError<ReadError>;
 
 #[tactic(auto, using(crate::proofs::WriteLaws::flat_three))]
-fn put_stat(out: &mut [u8], stat: StatV1)
+fn put_stat_v1(out: &mut [u8], stat: StatV1)
     requires { 16 ≤ length out.old }
     ensures { out.new ≡ put out.old 4 (stat_bytes stat) }
 {
@@ -76,9 +41,19 @@ fn put_stat_v2(out: &mut [u8], stat: StatV2)
     le::put(out, 64, stat.ctime);
 }
 
-// What stands between the id and the text, whose length is given. Both stat layouts have their three cases: what differs is the writer
-// and the place behind it, and with a trait for these two the match would be as long.
-#[tactic(auto, using(crate::proofs::WriteLaws::put_rules), unfolding(crate::specs::Write::field_bytes, exchange::specs::Exchange::head_of))]
+#[tactic(auto, unfolding(crate::specs::Write::either_bytes))]
+fn put_stat(out: &mut [u8], stat: Stat)
+    requires { 4 + stat_length (stat_layout stat) ≤ length out.old }
+    ensures { out.new ≡ put out.old 4 (either_bytes stat) }
+{
+    match stat {
+        Stat::V1(stat) => put_stat_v1(out, stat),
+        Stat::V2(stat) => put_stat_v2(out, stat),
+    }
+}
+
+// What stands between the id and the text, whose length is given.
+#[tactic(auto, using(crate::proofs::WriteLaws::put_behind), unfolding(crate::specs::Write::field_bytes, exchange::specs::Exchange::head_of))]
 fn put_fields(out: &mut [u8], fields: Fields, len: u32)
     requires { head_of (layout_of fields) ≤ length out.old }
     ensures { out.new ≡ put out.old 4 (field_bytes fields len) }
@@ -89,20 +64,11 @@ fn put_fields(out: &mut [u8], fields: Fields, len: u32)
         Fields::Stat(stat) => put_stat(out, stat),
         Fields::Entry(stat) => {
             put_stat(out, stat);
-            le::put(out, 16, len);
+            le::put(out, 4 + stat.layout().length(), len);
         }
         Fields::End(stat, last) => {
             put_stat(out, stat);
-            le::put(out, 16, last);
-        }
-        Fields::StatV2(stat) => put_stat_v2(out, stat),
-        Fields::EntryV2(stat) => {
-            put_stat_v2(out, stat);
-            le::put(out, 72, len);
-        }
-        Fields::EndV2(stat, last) => {
-            put_stat_v2(out, stat);
-            le::put(out, 72, last);
+            le::put(out, 4 + stat.layout().length(), last);
         }
     }
 }
@@ -113,7 +79,7 @@ fn put_message(out: &mut [u8], message: Message, text: &[u8])
     requires { Room out.old message text.now }
     ensures { out.new ≡ put out.old 0 (message_bytes message text.now) }
 {
-    let at = layout_of(message.fields).head_length();
+    let at = Layout::from(message.fields).head_length();
     le::put(out, 0, message.id.word());
     put_fields(out, message.fields, text.len() as u32);
     le::copy_at(out, at, text);
@@ -129,11 +95,11 @@ fn write_known(
 ) -> Result<usize, WriteError>
     ensures { Writes (write_known layout message text.now out.old) result out.new }
 {
-    if layout != layout_of(message.fields) {
-        return Err(WriteError::InvalidId);
+    if layout != Layout::from(message.fields) {
+        return Err(WriteError::Refused(ReadError::InvalidId));
     }
     if message.id.is_over(text.len()) {
-        return Err(WriteError::DataTooLarge);
+        return Err(WriteError::Refused(ReadError::DataTooLarge));
     }
     if text.len() > layout.longest() {
         return Err(WriteError::OutShort);
@@ -158,6 +124,6 @@ pub fn write(
 {
     match exchange.find(message.id.word()) {
         Some((_, layout)) => write_known(layout, message, text, out),
-        None => Err(WriteError::InvalidId),
+        None => Err(WriteError::Refused(ReadError::InvalidId)),
     }
 }

@@ -25,6 +25,10 @@ wanted_by (Live n) s = s.filled && s.has_remote && s.remote.0 == n.0 && not (is_
 unfoldable pub place_of : Want → ℕ → List ChannelSlot → ℕ
 place_of w n ss = first (wanted_by w) (take n ss)
 
+-- a place below n, if it is one
+unfoldable pub below : ℕ → ℕ → Option ℕ
+below n i = cond (nat_lt i n) (Some i) None
+
 -- how many elements pass
 unfoldable pub count_of : {A : Type 0} → (A → Bool) → List A → ℕ
 count_of p [] = 0

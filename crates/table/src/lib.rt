@@ -1,10 +1,10 @@
 // The channel table: which slot is free, which one a number names.
 #![tactic(auto)]
 
-ghost use Rattle.std.specs.Prelude.{◌≡◌, ◌≤◌, length};
-ghost use Rattle.state.specs.State.{state_len, state_of};
+ghost use Rattle.std.specs.Prelude.{◌≡◌, ◌≤◌, ◌<◌, length};
+ghost use Rattle.state.specs.State.{state_len, state_of, slot_at};
 ghost use Rattle.table.specs.declared.Want.TheVariants.{Local, Remote, Live};
-ghost use Rattle.table.specs.Table.{wanted_by, place_of, in_use, next_local_id, numbered, allocated};
+ghost use Rattle.table.specs.Table.{wanted_by, place_of, below, in_use, next_local_id, numbered, allocated};
 
 use refusal::Numbered;
 use slot::ids::{LocalId, RemoteId};
@@ -18,7 +18,7 @@ pub struct ChannelId {
     pub local: LocalId,
 }
 
-// What a slot is looked for by.
+// What a slot is looked for by. An enum, not a closure: the definitions and laws name the four tests.
 #[derive(Clone, Copy)]
 pub enum Want {
     Empty,
@@ -41,39 +41,28 @@ impl Numbered for NoFreeChannels {
     }
 }
 
+#[tactic(auto, unfolding(crate::specs::Table::wanted_by))]
 pub fn has_local(s: ChannelSlot, n: LocalId) -> bool
     ensures { result ≡ wanted_by (Local n) s }
 {
-    let local = s.local;
-    if s.filled {
-        return local.0 == n.0;
-    }
-    false
+    s.filled && s.local == n
 }
 
+#[tactic(auto, unfolding(crate::specs::Table::wanted_by))]
 fn has_remote(s: ChannelSlot, n: RemoteId) -> bool
     ensures { result ≡ wanted_by (Remote n) s }
 {
-    let remote = s.remote;
-    if s.filled {
-        if s.has_remote {
-            return remote.0 == n.0;
-        }
-        return false;
-    }
-    false
+    s.filled && s.has_remote && s.remote == n
 }
 
+#[tactic(auto, unfolding(crate::specs::Table::wanted_by))]
 fn is_live(s: ChannelSlot, n: RemoteId) -> bool
     ensures { result ≡ wanted_by (Live n) s }
 {
-    let state = s.state;
-    if has_remote(s, n) {
-        return !is_closed(state);
-    }
-    false
+    has_remote(s, n) && !is_closed(s.state)
 }
 
+#[tactic(auto, unfolding(crate::specs::Table::wanted_by))]
 fn is_wanted(s: ChannelSlot, want: Want) -> bool
     ensures { result ≡ wanted_by want s }
 {
@@ -85,18 +74,17 @@ fn is_wanted(s: ChannelSlot, want: Want) -> bool
     }
 }
 
-// The lowest wanted place below n, or n.
-pub fn place_below(state: &[u8], n: usize, want: Want) -> usize
+// The lowest wanted place below n.
+pub fn place_below(state: &[u8], n: usize, want: Want) -> Option<usize>
     requires { (n ≤ 64) × (state_len ≤ length state.now) }
-    ensures { result ≡ place_of want n (state_of state.now).slots }
+    ensures { result ≡ below n (place_of want n (state_of state.now).slots) }
 {
-    for i in 0..n {
-        let found = slot_at(state, i);
-        if is_wanted(found, want) {
-            return i;
-        }
-    }
-    n
+    (0..n).find(
+        |&i|
+            requires { (i < 64) × (state_len ≤ length state.now) }
+            ensures { result ≡ wanted_by want (slot_at state.exit.now i) }
+        { is_wanted(slot_at(state, i), want) },
+    )
 }
 
 // The number after n: a wrapping add of 1, with 0 replaced by 1.
@@ -114,9 +102,10 @@ pub fn next_local(n: u32) -> u32
 pub fn numbered(h: Header) -> Header
     ensures { result ≡ numbered h }
 {
-    let mut moved = h;
-    moved.next_local = next_local(h.next_local);
-    moved
+    Header {
+        next_local: next_local(h.next_local),
+        ..h
+    }
 }
 
 // The lowest empty slot, and the number that its channel gets. The header is left to the caller, who stores it once.
@@ -124,17 +113,17 @@ pub fn allocate(state: &[u8], h: Header) -> Result<ChannelId, NoFreeChannels>
     requires { (h.negotiated.config.channels ≤ 64) × (state_len ≤ length state.now) }
     ensures { result ≡ allocated h (state_of state.now).slots }
 {
-    let negotiated = h.negotiated;
-    let config = negotiated.config;
-    let slot = place_below(state, config.channels, Want::Empty);
-    if slot < config.channels {
-        let local = LocalId(h.next_local);
-        return Ok(ChannelId { slot, local });
+    let channels = h.negotiated.config.channels;
+    match place_below(state, channels, Want::Empty) {
+        Some(slot) => Ok(ChannelId {
+            slot,
+            local: LocalId(h.next_local),
+        }),
+        None => Err(NoFreeChannels),
     }
-    Err(NoFreeChannels)
 }
 
-// Slots that hold a channel.
+// Slots that hold a channel. A `for`: `filter` would take two clauses on its closure for these few lines, and say no more.
 pub fn in_use(state: &[u8], n: usize) -> usize
     requires { (n ≤ 64) × (state_len ≤ length state.now) }
     ensures { result ≡ in_use n (state_of state.now).slots }

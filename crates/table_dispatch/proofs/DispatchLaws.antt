@@ -18,8 +18,9 @@ use Rattle.slot.specs.declared.ids.LocalId.{LocalId}
 use Rattle.slot.specs.declared.ids.RemoteId.{RemoteId}
 use Rattle.slot.specs.declared.ChannelSlot.{ChannelSlot}
 use Rattle.credit.specs.declared.CreditFault.{CreditFault}
-use Rattle.slot.specs.declared.ChannelFault.TheVariants.{RxOverflow, BadCredit, UnexpectedCommand}
-use Rattle.slot.specs.declared.Wrote.{Wrote}
+use Rattle.slot.specs.declared.ChannelFault.TheVariants.{BadCredit}
+use Rattle.slot.specs.declared.Settled.{Settled}
+use Rattle.slot.proofs.Wrote.{Wrote}
 use Rattle.slot.specs.Slot.{empty_slot, is_opening, is_failed, closed_slot, held_of, wrote_of, SlotOk}
 use Rattle.slot.proofs.Laws.{cond-true, cond-false}
 use Rattle.slot.proofs.Kept.{pick}
@@ -30,11 +31,11 @@ use Rattle.state.specs.State.{state_of, slot_at, put_slot}
 use Rattle.le.proofs.RowLaws.{never}
 use Rattle.state.proofs.StateLaws.{slot-in, state-full}
 use Rattle.table_dispatch.specs.declared.DispatchOutcome.{DispatchOutcome}
-use Rattle.table_dispatch.specs.declared.DispatchOutcome.TheVariants.{AckWrite, DataBuffered, CreditGranted, SlotClosed, CancelQueuedOpen, StrayReady, Unmatched}
+use Rattle.table_dispatch.specs.declared.DispatchOutcome.TheVariants.{CreditGranted, SlotClosed, CancelQueuedOpen, StrayReady, Unmatched}
 use Rattle.table.specs.declared.Want.TheVariants.{Local, Remote, Live}
-use Rattle.table.specs.Table.{first, wanted_by, place_of, slot_in}
-use Rattle.table_dispatch.specs.Dispatch.{left, stored, faulted, named_place, remote_place, closed_at, close_of, readied_of, granted, ready_at, stray_of, grant_of, Dispatched, with, wrote_by, wrote_at, write_of, route_of, dispatch_of, Dispatches, buffered_at}
-use Rattle.std.specs.Prelude.{Option, Some, None, Result, Ok, Err}
+use Rattle.table.specs.Table.{first, wanted_by, place_of, below, slot_in}
+use Rattle.table_dispatch.specs.Dispatch.{left, stored, faulted, named_place, remote_place, closed_at, closed_in, close_of, readied_of, granted, ready_at, stray_of, grant_of, Dispatched, with, wrote_by, wrote_at, write_of, route_of, dispatch_of, Dispatches, buffered_at}
+use Rattle.std.specs.Prelude.{Option, Some, None, Ok, Err, is_some, IfSome}
 use Rattle.slot.specs.declared.ChannelFault.{ChannelFault}
 
 pub slot-here : (b : List ℕ) (i : ℕ) → i < 64 → slot_in (state_of b).slots i ≡ slot_at b i
@@ -53,22 +54,43 @@ steps-stored d o i t b after e h = steps-by d (stored o i t) o b after e (record
 
 -- ---- CLSE
 
+-- a place that may be none
+pub closed-below : (n i : ℕ) (ss : List ChannelSlot) (place : Option ℕ) (other : DispatchOutcome) → place ≡ below n i → closed_at i n ss other ≡ closed_in place ss other
+unfolding closed_at below
+closed-below n i ss place other e = by-test (ltb i n) (λ t. rw (e, t)) (λ t. rw (e, t))
+
+pub closed-here : (b : List ℕ) (i : ℕ) (place : Option ℕ) (other : DispatchOutcome) (s t : ChannelSlot) → place ≡ Some i → IfSome place (λ k. k < 64)
+    → s ≡ slot_at b i → t ≡ closed_slot s → closed_in place (state_of b).slots other ≡ stored (SlotClosed i) i t
+closed-here b i place other s t e h f g =
+    ap (λ (x : Option ℕ). closed_in x (state_of b).slots other) e
+    ∙ ap (λ (x : ChannelSlot). stored (SlotClosed i) i (closed_slot x)) (slot-here b i (subst (λ (x : Option ℕ). IfSome x (λ k. k < 64)) e h) ∙ sym f)
+    ∙ ap (stored (SlotClosed i) i) (sym g)
+
 module _ (n : ℕ) (ss : List ChannelSlot) (remote : RemoteId) where
-  pub remote-none : remote.0 ≡ 0 → n ≡ remote_place n ss remote
-  unfolding remote_place
-  remote-none e = sym (cond-true (eqb remote.0 0) n _ (eq-eqb remote.0 0 e))
+  pub named-none : remote.0 ≡ 0 → None ≡ below n (remote_place n ss remote)
+  unfolding remote_place below
+  named-none e = rw (eq-eqb remote.0 0 e, le-ltb n n (omega arith))
 
   -- a live channel's place, or that of a closed one
+  module _ (r : Option ℕ) (e : remote.0 ≡ 0 → ⊥) (h : r ≡ below n (place_of (Live remote) n ss)) where
+    pub named-live : is_some r ≡ true → r ≡ below n (remote_place n ss remote)
+    unfolding remote_place named_place below
+    named-live t =
+        by-test (ltb (place_of (Live remote) n ss) n)
+        (λ u. rw (ne_eqb remote.0 0 e, u, h))
+        (λ u. let z : r ≡ None = rw u at h in never (sym (ap is_some z) ∙ t))
+
+    pub named-closed : (q : Option ℕ) → is_some r ≡ false → q ≡ below n (place_of (Remote remote) n ss) → q ≡ below n (remote_place n ss remote)
+    unfolding remote_place named_place below
+    named-closed q t g =
+        by-test (ltb (place_of (Live remote) n ss) n)
+        (λ u. let z : r ≡ Some (place_of (Live remote) n ss) = rw u at h in never (sym t ∙ ap is_some z))
+        (λ u. rw (ne_eqb remote.0 0 e, u, g))
+
   pub remote-live : (i : ℕ) → (remote.0 ≡ 0 → ⊥) → i ≡ place_of (Live remote) n ss → i < n → i ≡ remote_place n ss remote
   unfolding remote_place named_place
   remote-live i e h k =
       h ∙ sym (cond-true (ltb (place_of (Live remote) n ss) n) _ _ (lt-ltb _ n (subst (λ (x : ℕ). x < n) h k)))
-      ∙ sym (cond-false (eqb remote.0 0) n _ (ne_eqb remote.0 0 e))
-
-  pub remote-closed : (j i : ℕ) → (remote.0 ≡ 0 → ⊥) → j ≡ place_of (Live remote) n ss → n ≤ j → i ≡ place_of (Remote remote) n ss → i ≡ remote_place n ss remote
-  unfolding remote_place named_place
-  remote-closed j i e h k g =
-      g ∙ sym (cond-false (ltb (place_of (Live remote) n ss) n) _ _ (le-ltb _ n (subst (λ (x : ℕ). n ≤ x) h k)))
       ∙ sym (cond-false (eqb remote.0 0) n _ (ne_eqb remote.0 0 e))
 
   -- whatever holds of a live channel's place and of the lowest of that number holds of the one that is named
@@ -87,27 +109,15 @@ module _ (n : ℕ) (ss : List ChannelSlot) (remote : RemoteId) where
       (λ t. ap (λ (x : ℕ). ltb x n) (cond-false (ltb (first (wanted_by (Live remote)) (take n ss)) n) _ _ t))
 
   module _ (local : LocalId) where
-    pub close-remote : (i : ℕ) → local.0 ≡ 0 → i ≡ remote_place n ss remote → close_of n ss remote local ≡ closed_at i n ss (CancelQueuedOpen remote)
+    pub close-remote : (r : Option ℕ) → local.0 ≡ 0 → r ≡ below n (remote_place n ss remote) → close_of n ss remote local ≡ closed_in r ss (CancelQueuedOpen remote)
     unfolding close_of
-    close-remote i e h =
-        cond-true (eqb local.0 0) _ _ (eq-eqb local.0 0 e) ∙ ap (λ (x : ℕ). closed_at x n ss (CancelQueuedOpen remote)) (sym h)
+    close-remote r e h =
+        cond-true (eqb local.0 0) _ _ (eq-eqb local.0 0 e) ∙ closed-below n (remote_place n ss remote) ss r (CancelQueuedOpen remote) h
 
-    pub close-local : (i : ℕ) → (local.0 ≡ 0 → ⊥) → i ≡ place_of (Local local) n ss → close_of n ss remote local ≡ closed_at i n ss Unmatched
+    pub close-local : (r : Option ℕ) → (local.0 ≡ 0 → ⊥) → r ≡ below n (place_of (Local local) n ss) → close_of n ss remote local ≡ closed_in r ss Unmatched
     unfolding close_of
-    close-local i e h =
-        cond-false (eqb local.0 0) _ _ (ne_eqb local.0 0 e) ∙ ap (λ (x : ℕ). closed_at x n ss Unmatched) (sym h)
-
-module _ (b : List ℕ) (i n : ℕ) (other : DispatchOutcome) where
-  pub closed-here : (s t : ChannelSlot) → i < n → n ≤ 64 → s ≡ slot_at b i → t ≡ closed_slot s → closed_at i n (state_of b).slots other ≡ stored (SlotClosed i) i t
-  unfolding closed_at
-  closed-here s t h k e f =
-      cond-true (ltb i n) _ _ (lt-ltb i n h)
-      ∙ ap (λ (x : ChannelSlot). stored (SlotClosed i) i (closed_slot x)) (slot-here b i (omega arith) ∙ sym e)
-      ∙ ap (stored (SlotClosed i) i) (sym f)
-
-  pub closed_none : n ≤ i → closed_at i n (state_of b).slots other ≡ left other
-  unfolding closed_at
-  closed_none h = cond-false (ltb i n) _ _ (le-ltb i n h)
+    close-local r e h =
+        cond-false (eqb local.0 0) _ _ (ne_eqb local.0 0 e) ∙ closed-below n (place_of (Local local) n ss) ss r Unmatched h
 
 -- ---- OKAY
 
@@ -169,35 +179,32 @@ pub dispatches-by : (d e : Dispatched) (o : DispatchOutcome) (b after rx : List 
 dispatches-by d e o b after rx h f = record { steps = steps-by d.step e.step o b after (ap (λ (x : Dispatched). x.step) h) f.steps; rx-is = f.rx-is ∙ sym (ap (λ (x : Dispatched). x.rx) h) }
 
 -- whether the payload is buffered
-abbrev takes : Result (Option ℕ) ChannelFault → Bool
-takes (Ok due) = true
+abbrev takes : Wrote → Bool
+takes (Ok w) = true
 takes (Err why) = false
 
 -- a payload that is buffered fits under the cap
 module _ (s : ChannelSlot) (p : RxPolicy) (k : ℕ) where
-  abbrev decision : Wrote → Bool
-  decision w = takes w.decision
-
-  pub fits : takes (wrote_of s p k).decision ≡ true → held_of s + k ≤ p.rx_cap
+  pub fits : takes (wrote_of s p k) ≡ true → held_of s + k ≤ p.rx_cap
   unfolding wrote_of
   fits e =
       by-test (is_opening s.state)
-      (λ o. never (sym (ap decision (cond-true (is_opening s.state) _ _ o)) ∙ e))
+      (λ o. never (sym (ap takes (cond-true (is_opening s.state) _ _ o)) ∙ e))
       (λ o. by-test (ltb p.rx_cap (held_of s + k))
-      (λ t. never (sym (ap decision (cond-false (is_opening s.state) _ _ o ∙ cond-true (ltb p.rx_cap (held_of s + k)) _ _ t)) ∙ e))
+      (λ t. never (sym (ap takes (cond-false (is_opening s.state) _ _ o ∙ cond-true (ltb p.rx_cap (held_of s + k)) _ _ t)) ∙ e))
       (λ t. ltb-false p.rx_cap (held_of s + k) t))
 
   -- so its share has room for it
-  room : SlotOk s p.rx_cap → takes (wrote_of s p k).decision ≡ true → Room (2 * p.rx_cap) s.head s.buffered k
+  room : SlotOk s p.rx_cap → takes (wrote_of s p k) ≡ true → Room (2 * p.rx_cap) s.head s.buffered k
   unfolding held_of
   room ok e = let h = fits e in record { run_fits = ok.run_fits; more-fits = omega arith }
 
-module _ (b : List ℕ) (i : ℕ) (s : ChannelSlot) (p : RxPolicy) (k : ℕ) (w : Wrote) (is : s ≡ slot_at b i) (wrote : w ≡ wrote_of s p k) (ok : SlotOk (slot_at b i) p.rx_cap) where
+module _ (b : List ℕ) (i : ℕ) (s : ChannelSlot) (p : RxPolicy) (k : ℕ) (r : Wrote) (is : s ≡ slot_at b i) (wrote : r ≡ wrote_of s p k) (ok : SlotOk (slot_at b i) p.rx_cap) where
   sound-here : SlotOk s p.rx_cap
   sound-here = subst (λ (x : ChannelSlot). SlotOk x p.rx_cap) (sym is) ok
 
-  pub room-kept : (due : Option ℕ) → w.decision ≡ Ok due → Room (2 * p.rx_cap) s.head s.buffered k
-  room-kept due e = room s p k sound-here (ap takes (sym (ap (λ (x : Wrote). x.decision) wrote) ∙ e))
+  pub room-kept : (w : Settled) → r ≡ Ok w → Room (2 * p.rx_cap) s.head s.buffered k
+  room-kept w e = room s p k sound-here (ap takes (sym wrote ∙ e))
 
 module _ (p : RxPolicy) (i : ℕ) (s₀ s : ChannelSlot) (is : s ≡ s₀) (remote : RemoteId) (payload rx : List ℕ) where
   wrote-same : wrote_at p i s₀ remote payload rx ≡ wrote_at p i s remote payload rx
@@ -207,27 +214,20 @@ module _ (p : RxPolicy) (i : ℕ) (s₀ s : ChannelSlot) (is : s ≡ s₀) (remo
   unfolding wrote_at
   wrote-failed e = wrote-same ∙ cond-true (is_failed s.failed) _ _ e
 
-  module _ (w : Wrote) (e : is_failed s.failed ≡ false) (wrote : w ≡ wrote_of s p (length payload)) where
-    wrote-by : (d : Result (Option ℕ) ChannelFault) → w.decision ≡ d → wrote_at p i s₀ remote payload rx ≡ wrote_by p i s remote payload rx w.slot d
+  module _ (r : Wrote) (e : is_failed s.failed ≡ false) (wrote : r ≡ wrote_of s p (length payload)) where
+    wrote-by : (d : Wrote) → r ≡ d → wrote_at p i s₀ remote payload rx ≡ wrote_by p i s remote payload rx d
     unfolding wrote_at
-    wrote-by d h =
-        wrote-same ∙ cond-false (is_failed s.failed) _ _ e
-        ∙ ap (λ (x : Wrote). wrote_by p i s remote payload rx x.slot x.decision) (sym wrote)
-        ∙ ap (wrote_by p i s remote payload rx w.slot) h
+    wrote-by d h = wrote-same ∙ cond-false (is_failed s.failed) _ _ e ∙ ap (wrote_by p i s remote payload rx) (sym wrote ∙ h)
 
-    pub wrote-bad : (f : ChannelFault) (o : DispatchOutcome) → w.decision ≡ Err f → o ≡ faulted i s remote f → wrote_at p i s₀ remote payload rx ≡ with (left o) rx
+    pub wrote-bad : (f : ChannelFault) (o : DispatchOutcome) → r ≡ Err f → o ≡ faulted i s remote f → wrote_at p i s₀ remote payload rx ≡ with (left o) rx
     unfolding wrote_by
     wrote-bad f o h e = wrote-by (Err f) h ∙ ap (λ (x : DispatchOutcome). with (left x) rx) (sym e)
 
-    kept : (due : Option ℕ) → wrote_by p i s remote payload rx w.slot (Ok due) ≡ with (stored (buffered_at i s due) i w.slot) (buffered_in rx p.rx_cap i s.head s.buffered payload)
-    unfolding wrote_by
-    kept (Some len) = refl
-    kept None = refl
-
-    pub wrote-kept : (due : Option ℕ) (o : DispatchOutcome) (after : List ℕ) → w.decision ≡ Ok due → o ≡ buffered_at i s due → after ≡ buffered_in rx p.rx_cap i s.head s.buffered payload
+    pub wrote-kept : (w : Settled) (o : DispatchOutcome) (after : List ℕ) → r ≡ Ok w → o ≡ buffered_at i s w.ack → after ≡ buffered_in rx p.rx_cap i s.head s.buffered payload
         → wrote_at p i s₀ remote payload rx ≡ with (stored o i w.slot) after
-    wrote-kept due o after h e f =
-        wrote-by (Ok due) h ∙ kept due ∙ ap (with (stored (buffered_at i s due) i w.slot)) (sym f)
+    unfolding wrote_by
+    wrote-kept w o after h e f =
+        wrote-by (Ok w) h ∙ ap (with (stored (buffered_at i s w.ack) i w.slot)) (sym f)
         ∙ ap (λ (x : DispatchOutcome). with (stored x i w.slot) after) (sym e)
 
 -- the slot that a walk stops at is what was looked for

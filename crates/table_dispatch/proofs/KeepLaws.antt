@@ -17,7 +17,7 @@ use Rattle.protocol.specs.declared.packet.Packet.{Packet}
 use Rattle.slot.specs.declared.ids.LocalId.{LocalId}
 use Rattle.slot.specs.declared.ids.RemoteId.{RemoteId}
 use Rattle.slot.specs.declared.ChannelSlot.{ChannelSlot}
-use Rattle.slot.specs.declared.Wrote.{Wrote}
+use Rattle.slot.proofs.Wrote.{Wrote, left_by}
 use Rattle.slot.specs.Slot.{empty_slot, is_opening, is_failed, closed_slot, held_of, acks_now, wrote_of}
 use Rattle.slot.proofs.Kept.{pick}
 use Rattle.state.specs.declared.Header.{Header}
@@ -38,7 +38,7 @@ use Rattle.rx_store.proofs.ShareLaws.{share_in, length-buffered}
 use Rattle.state_whole.proofs.WholeLaws.{Live, Whole, whole-live}
 use Rattle.state_whole.proofs.LiveLaws.{ReadiedLive, ready-live, wrote-live, closed-live}
 use Rattle.credit.specs.declared.CreditFault.{CreditFault}
-use Rattle.std.specs.Prelude.{Option, Some, None, Result, Ok, Err}
+use Rattle.std.specs.Prelude.{Result, Ok, Err}
 
 -- the place that a walk stops at has what was looked for
 pub place_found : (w : Want) (m : ℕ) (ss : List ChannelSlot) → m ≤ length ss → place_of w m ss < m → wanted_by w (slot_in ss (place_of w m ss)) ≡ true
@@ -189,7 +189,7 @@ module _ (n : Negotiated) (h : Header) (c : Connection) (rx : List ℕ) (g : Who
         length-buffered rx (policy_of n).rx_cap i s.head s.buffered payload z (record { run_fits = a; more-fits = omega arith })
 
     abbrev WroteKeeps : Wrote → Type 0
-    WroteKeeps w = Live n i w.slot → TableKeeps n h c rx (wrote_by (policy_of n) i (slot_in c.slots i) remote payload rx w.slot w.decision)
+    WroteKeeps w = Live n i (left_by (slot_in c.slots i) w) → TableKeeps n h c rx (wrote_by (policy_of n) i (slot_in c.slots i) remote payload rx w)
 
     wrote-keeps : WroteKeeps (wrote_of (slot_in c.slots i) (policy_of n) (length payload))
     unfolding wrote_of wrote_by

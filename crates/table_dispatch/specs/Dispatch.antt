@@ -8,8 +8,9 @@ use Rattle.rx_store.specs.RxStore.{ShareFits, buffered_in}
 use Rattle.slot.specs.declared.ids.LocalId.{LocalId}
 use Rattle.slot.specs.declared.ids.RemoteId.{RemoteId}
 use Rattle.slot.specs.declared.ChannelFault.{ChannelFault as Fault}
-use Rattle.slot.specs.declared.ChannelFault.TheVariants.{RxOverflow, BadCredit, UnexpectedCommand}
+use Rattle.slot.specs.declared.ChannelFault.TheVariants.{BadCredit}
 use Rattle.slot.specs.declared.ChannelSlot.{ChannelSlot}
+use Rattle.slot.specs.declared.Settled.{Settled}
 use Rattle.slot.specs.Numbers.{fault_number}
 use Rattle.slot.specs.Slot.{is_opening, is_failed, closed_slot, opened_of, ready_of, wrote_of, SlotOk}
 use Rattle.state.specs.Change.{slot_to, Step, Steps}
@@ -45,6 +46,11 @@ remote_place n ss remote = cond (eqb remote.0 0) n (named_place remote n ss)
 -- the slot at place i closed, or another answer where i is not below n
 unfoldable pub closed_at : ℕ → ℕ → List ChannelSlot → DispatchOutcome → Step DispatchOutcome
 closed_at i n ss other = cond (ltb i n) (stored (SlotClosed i) i (closed_slot (slot_in ss i))) (left other)
+
+-- the same, of a place that may be none
+abbrev pub closed_in : Option ℕ → List ChannelSlot → DispatchOutcome → Step DispatchOutcome
+closed_in (Some i) ss other = stored (SlotClosed i) i (closed_slot (slot_in ss i))
+closed_in None ss other = left other
 
 -- by the device's number where ours is left out, and then a queued open is withdrawn where it names no slot; else by ours
 unfoldable pub close_of : ℕ → List ChannelSlot → RemoteId → LocalId → Step DispatchOutcome
@@ -95,17 +101,16 @@ buffered_at i s (Some len) = AckWrite i (record { local = s.local; remote = s.re
 buffered_at i s None = DataBuffered i
 
 -- what the slot decided: acknowledged at once, held, over the cap (11), or too early (6)
-unfoldable pub wrote_by : RxPolicy → ℕ → ChannelSlot → RemoteId → List ℕ → List ℕ → ChannelSlot → Result (Option ℕ) Fault → Dispatched
-wrote_by p i s remote payload rx t (Ok (Some len)) =
-    with (stored (AckWrite i (record { local = s.local; remote = s.remote }) len) i t) (buffered_in rx p.rx_cap i s.head s.buffered payload)
-wrote_by p i s remote payload rx t (Ok None) = with (stored (DataBuffered i) i t) (buffered_in rx p.rx_cap i s.head s.buffered payload)
-wrote_by p i s remote payload rx t (Err f) = with (left (faulted i s remote f)) rx
+unfoldable pub wrote_by : RxPolicy → ℕ → ChannelSlot → RemoteId → List ℕ → List ℕ → Result Settled Fault → Dispatched
+wrote_by p i s remote payload rx (Ok w) =
+    with (stored (buffered_at i s w.ack) i w.slot) (buffered_in rx p.rx_cap i s.head s.buffered payload)
+wrote_by p i s remote payload rx (Err f) = with (left (faulted i s remote f)) rx
 
 -- for slot i, unless it failed
 unfoldable pub wrote_at : RxPolicy → ℕ → ChannelSlot → RemoteId → List ℕ → List ℕ → Dispatched
 wrote_at p i s remote payload rx =
     cond (is_failed s.failed) (with (left Unmatched) rx)
-    (wrote_by p i s remote payload rx (wrote_of s p (length payload)).slot (wrote_of s p (length payload)).decision)
+    (wrote_by p i s remote payload rx (wrote_of s p (length payload)))
 
 -- for the lowest slot with our number, or for none
 unfoldable pub write_of : RxPolicy → ℕ → List ChannelSlot → RemoteId → LocalId → List ℕ → List ℕ → Dispatched

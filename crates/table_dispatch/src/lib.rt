@@ -1,10 +1,12 @@
 // One packet from the device: which slot it is for, and what it does there. The slot that changed is stored where it lies.
+// `as usize` widens a u32: std has no From for it, as usize may be narrower elsewhere.
 #![tactic(auto)]
 
-ghost use Rattle.std.specs.Prelude.{◌≡◌, ◌+◌, ◌*◌, ◌≤◌, ◌<◌, length};
+ghost use Rattle.std.specs.Prelude.{◌≡◌, ◌+◌, ◌*◌, ◌≤◌, ◌<◌, length, IfSome};
 ghost use Rattle.state.specs.Change.{Steps};
-ghost use Rattle.state.specs.State.{state_of, slot_at};
-ghost use Rattle.table_dispatch.specs.Dispatch.{outcome_number, faulted, remote_place, closed_at, close_of, readied_of, ready_at, stray_of};
+ghost use Rattle.state.specs.State.{state_len, state_of, slot_at};
+ghost use Rattle.table.specs.Table.{below};
+ghost use Rattle.table_dispatch.specs.Dispatch.{outcome_number, faulted, remote_place, closed_in, close_of, readied_of, ready_at, stray_of};
 ghost use Rattle.table_dispatch.specs.Dispatch.{grant_of, buffered_at, wrote_at, write_of, dispatch_of, Dispatches, Walks, Share, Sound};
 
 use config::negotiated::RxPolicy;
@@ -17,7 +19,8 @@ use slot::{ChannelFault, ChannelSlot, is_opening};
 use state::{put_slot, slot_at};
 use table::{Want, place_below};
 
-// What a packet was, and what it did.
+// What a packet was, and what it did: one of nine, matched at once by the step that writes the answer's frame. A closure for each would
+// hand that step nine things to call.
 #[derive(Clone, Copy)]
 pub enum DispatchOutcome {
     // A WRTE was buffered and is to be acknowledged at once, with this length.
@@ -58,50 +61,50 @@ impl DispatchOutcome {
 fn fault(i: usize, s: ChannelSlot, remote: RemoteId, fault: ChannelFault) -> DispatchOutcome
     ensures { result ≡ faulted i s remote fault }
 {
-    let local = s.local;
-    let state = s.state;
-    DispatchOutcome::ChannelFault(i, ChannelIds { local, remote }, is_opening(state), fault)
+    DispatchOutcome::ChannelFault(i, s.ids_with(remote), is_opening(s.state), fault)
 }
 
-// The lowest slot with the device's number that is not closed, or, where all are, the lowest; or n.
-fn remote_place(state: &[u8], n: usize, remote: RemoteId) -> usize
+// The lowest slot with the device's number that is not closed, or, where all are, the lowest.
+fn remote_place(state: &[u8], n: usize, remote: RemoteId) -> Option<usize>
     requires { Walks state.now n }
-    ensures { result ≡ remote_place n (state_of state.now).slots remote }
+    ensures { result ≡ below n (remote_place n (state_of state.now).slots remote) }
 {
     if remote.0 == 0 {
-        return n;
+        return None;
     }
     let live = place_below(state, n, Want::Live(remote));
-    if live < n {
+    if live.is_some() {
         return live;
     }
     place_below(state, n, Want::Remote(remote))
 }
 
-// Closes the slot at place i, if that is one of n.
-fn close_at(state: &mut [u8], i: usize, n: usize, other: DispatchOutcome) -> DispatchOutcome
-    requires { Walks state.old n }
-    ensures { Steps (closed_at i n (state_of state.old).slots other) state.old result state.new }
+// Closes the slot at a place, if there is one.
+fn close_at(state: &mut [u8], place: Option<usize>, other: DispatchOutcome) -> DispatchOutcome
+    requires { (state_len ≤ length state.old) × IfSome place (λ i. i < 64) }
+    ensures { Steps (closed_in place (state_of state.old).slots other) state.old result state.new }
 {
-    if i < n {
-        let s = slot_at(state, i);
-        put_slot(state, i, s.apply_close());
-        return DispatchOutcome::SlotClosed(i);
+    match place {
+        None => other,
+        Some(i) => {
+            let s = slot_at(state, i);
+            put_slot(state, i, s.apply_close());
+            DispatchOutcome::SlotClosed(i)
+        }
     }
-    other
 }
 
 // A CLSE.
-fn close(state: &mut [u8], n: usize, remote: RemoteId, local: LocalId) -> DispatchOutcome
+fn close(state: &mut [u8], n: usize, ids: ChannelIds) -> DispatchOutcome
     requires { Walks state.old n }
-    ensures { Steps (close_of n (state_of state.old).slots remote local) state.old result state.new }
+    ensures { Steps (close_of n (state_of state.old).slots ids.remote ids.local) state.old result state.new }
 {
-    if local.0 == 0 {
-        let i = remote_place(state, n, remote);
-        return close_at(state, i, n, DispatchOutcome::CancelQueuedOpen(remote));
+    if ids.local.0 == 0 {
+        let place = remote_place(state, n, ids.remote);
+        return close_at(state, place, DispatchOutcome::CancelQueuedOpen(ids.remote));
     }
-    let i = place_below(state, n, Want::Local(local));
-    close_at(state, i, n, DispatchOutcome::Unmatched)
+    let place = place_below(state, n, Want::Local(ids.local));
+    close_at(state, place, DispatchOutcome::Unmatched)
 }
 
 // What an OKAY does to a slot.
@@ -113,8 +116,7 @@ fn readied(
 ) -> Result<ChannelSlot, CreditFault>
     ensures { result ≡ readied_of s remote payload.now policy }
 {
-    let state = s.state;
-    if is_opening(state) {
+    if is_opening(s.state) {
         return slot_send::accept_open_ready(s, remote, payload, policy);
     }
     slot_send::apply_ready(s, payload, policy)
@@ -146,36 +148,33 @@ fn ready_at(
 }
 
 // An OKAY for no slot.
-fn stray(remote: RemoteId, local: LocalId) -> DispatchOutcome
-    ensures { result ≡ stray_of remote local }
+#[tactic(auto, unfolding(crate::specs::Dispatch::stray_of))]
+fn stray(ids: ChannelIds) -> DispatchOutcome
+    ensures { result ≡ stray_of ids.remote ids.local }
 {
-    if remote.0 == 0 {
+    if ids.remote.0 == 0 || ids.local.0 == 0 {
         return DispatchOutcome::Unmatched;
     }
-    if local.0 == 0 {
-        return DispatchOutcome::Unmatched;
-    }
-    DispatchOutcome::StrayReady(ChannelIds { local, remote })
+    DispatchOutcome::StrayReady(ids)
 }
 
 // An OKAY.
 fn ready(
     state: &mut [u8],
     n: usize,
-    remote: RemoteId,
-    local: LocalId,
+    ids: ChannelIds,
     payload: &[u8],
     policy: RxPolicy,
 ) -> DispatchOutcome
     requires { Walks state.old n }
-    ensures { Steps (grant_of policy n (state_of state.old).slots remote local payload.now) state.old
+    ensures { Steps
+        (grant_of policy n (state_of state.old).slots ids.remote ids.local payload.now) state.old
         result state.new }
 {
-    let i = place_below(state, n, Want::Local(local));
-    if i < n {
-        return ready_at(state, i, remote, payload, policy);
+    match place_below(state, n, Want::Local(ids.local)) {
+        Some(i) => ready_at(state, i, ids.remote, payload, policy),
+        None => stray(ids),
     }
-    stray(remote, local)
 }
 
 // A WRTE was buffered: with the length to acknowledge at once, if it is.
@@ -184,14 +183,7 @@ fn buffered(i: usize, s: ChannelSlot, due: Option<usize>) -> DispatchOutcome
 {
     match due {
         None => DispatchOutcome::DataBuffered(i),
-        Some(len) => DispatchOutcome::AckWrite(
-            i,
-            ChannelIds {
-                local: s.local,
-                remote: s.remote,
-            },
-            len,
-        ),
+        Some(len) => DispatchOutcome::AckWrite(i, s.ids_with(s.remote), len),
     }
 }
 
@@ -212,10 +204,9 @@ fn write_at(
     if s.is_failed() {
         return DispatchOutcome::Unmatched;
     }
-    let wrote = slot_receive::apply_write(s, payload.len(), policy);
-    match wrote.decision {
+    match slot_receive::apply_write(s, payload.len(), policy) {
         Err(why) => fault(i, s, remote, why),
-        Ok(due) => {
+        Ok(wrote) => {
             rx_store::buffer(
                 rx,
                 i,
@@ -225,7 +216,7 @@ fn write_at(
                 payload,
             );
             put_slot(state, i, wrote.slot);
-            buffered(i, s, due)
+            buffered(i, s, wrote.ack)
         }
     }
 }
@@ -235,24 +226,23 @@ fn write(
     state: &mut [u8],
     rx: &mut [u8],
     n: usize,
-    remote: RemoteId,
-    local: LocalId,
+    ids: ChannelIds,
     payload: &[u8],
     policy: RxPolicy,
 ) -> DispatchOutcome
     requires { Sound state.old rx.old n policy.rx_cap }
     ensures { Dispatches
-        (write_of policy n (state_of state.old).slots remote local payload.now rx.old) state.old
-        result state.new rx.new }
+        (write_of policy n (state_of state.old).slots ids.remote ids.local payload.now rx.old)
+        state.old result state.new rx.new }
 {
-    let i = place_below(state, n, Want::Local(local));
-    if i < n {
-        return write_at(state, rx, i, remote, payload, policy);
+    match place_below(state, n, Want::Local(ids.local)) {
+        Some(i) => write_at(state, rx, i, ids.remote, payload, policy),
+        None => DispatchOutcome::Unmatched,
     }
-    DispatchOutcome::Unmatched
 }
 
-// One decoded packet: what it was, and what it did to the table.
+// One decoded packet: what it was, and what it did to the table. The payload goes beside its packet: it stays where it was received, and a
+// Packet that held it would be a borrow.
 pub fn dispatch(
     state: &mut [u8],
     rx: &mut [u8],
@@ -265,17 +255,18 @@ pub fn dispatch(
     ensures { Dispatches (dispatch_of policy n (state_of state.old).slots packet payload.now rx.old)
         state.old result state.new rx.new }
 {
-    let command = packet.command;
-    let remote = RemoteId(packet.arg0);
-    let local = LocalId(packet.arg1);
-    match command {
+    let ids = ChannelIds {
+        local: LocalId(packet.arg1),
+        remote: RemoteId(packet.arg0),
+    };
+    match packet.command {
         Command::Connect => DispatchOutcome::Unmatched,
         Command::Auth => DispatchOutcome::Unmatched,
         Command::StartTls => DispatchOutcome::Unmatched,
-        Command::Open => DispatchOutcome::IncomingOpen(remote, packet.arg1),
-        Command::Close => close(state, n, remote, local),
-        Command::Write => write(state, rx, n, remote, local, payload, policy),
-        Command::Ready => ready(state, n, remote, local, payload, policy),
+        Command::Open => DispatchOutcome::IncomingOpen(ids.remote, packet.arg1),
+        Command::Close => close(state, n, ids),
+        Command::Write => write(state, rx, n, ids, payload, policy),
+        Command::Ready => ready(state, n, ids, payload, policy),
         Command::Sync => DispatchOutcome::Unmatched,
     }
 }

@@ -22,7 +22,8 @@ use Rattle.protocol.proofs.PacketLaws.{frame-length}
 use Rattle.checksum.proofs.ChecksumLaws.{check-small}
 use Rattle.protocol.proofs.RoundTrip.{frame-payload, not-refused, own-check, FrameComesBack}
 use Rattle.slot.specs.declared.ids.ChannelIds.{ChannelIds}
-use Rattle.wire.specs.Wire.{credit_bytes, okay_bytes, close_bytes}
+use Rattle.wire.specs.Wire.{credit_bytes, okay_bytes, okay_with, close_bytes}
+use Rattle.std.specs.Prelude.{Option, Some, None}
 
 -- ---- lengths
 
@@ -50,19 +51,19 @@ close-length ids k = frame-length Close ids.local.0 ids.remote.0 [] (check_for k
 -- ---- what the functions cite
 
 -- an OKAY with the length, where acknowledgements are delayed
-pub delayed-okay : (d out credit : List ℕ) (at r n : ℕ) (ids : ChannelIds) (delayed : Bool) (k : Checksum) → delayed ≡ true
+pub delayed-okay : (d out credit : List ℕ) (at r n : ℕ) (ids : ChannelIds) (len : Option ℕ) (k : Checksum) → len ≡ Some n
     → credit ≡ put (0 ∷ 0 ∷ 0 ∷ 0 ∷ []) 0 (bytes_of 4 n) → Puts d at (frame_for Ready ids.local.0 ids.remote.0 credit k) r out
-    → Puts d at (okay_bytes ids delayed n k) r out
+    → Puts d at (okay_with ids len k) r out
 unfolding okay_bytes credit_bytes put bytes_of
-delayed-okay d out credit at r n ids delayed k t e p =
+delayed-okay d out credit at r n ids len k t e p =
     let f : credit ≡ bytes_of 4 n = e in
     rw t (rw f at p)
 
 -- an OKAY with no payload, where they are not
-pub classic-okay : (d out : List ℕ) (at r n : ℕ) (ids : ChannelIds) (delayed : Bool) (k : Checksum) → delayed ≡ false
-    → Puts d at (frame_for Ready ids.local.0 ids.remote.0 [] k) r out → Puts d at (okay_bytes ids delayed n k) r out
+pub classic-okay : (d out : List ℕ) (at r : ℕ) (ids : ChannelIds) (len : Option ℕ) (k : Checksum) → len ≡ None
+    → Puts d at (frame_for Ready ids.local.0 ids.remote.0 [] k) r out → Puts d at (okay_with ids len k) r out
 unfolding okay_bytes credit_bytes
-classic-okay d out at r n ids delayed k t p = rw t p
+classic-okay d out at r ids len k t p = rw t p
 
 -- ---- what is written is decoded to the frame that was meant
 

@@ -1,9 +1,10 @@
-// Outgoing frames, written into a buffer that the caller lends, at a place of it.
+// Outgoing frames, written into a buffer that the caller lends, at a place of it: a frame is put behind another, so that a slice from the
+// place on would leave the place to be added back by every caller.
 #![tactic(auto)]
 
 ghost use Rattle.std.specs.Prelude.{[], ◌+◌, ◌≤◌, length};
 ghost use Rattle.protocol.specs.Packet.{frame_for, FrameRoom, Puts};
-ghost use Rattle.wire.specs.Wire.{okay_bytes, close_bytes, open_bytes, write_bytes};
+ghost use Rattle.wire.specs.Wire.{okay_with, close_bytes, open_bytes, write_bytes};
 ghost use Rattle.protocol.specs.Message.{message_size};
 
 use checksum::Checksum;
@@ -16,9 +17,14 @@ fn put_empty(out: &mut [u8], at: usize, frame: Packet, checksum: Checksum) -> us
     requires { at + message_size ≤ length out.old }
     ensures { Puts out.old at (frame_for frame.command frame.arg0 frame.arg1 [] checksum) result out.new }
 {
-    let command = frame.command;
     Packet::put_at(
-        out, at, command, frame.arg0, frame.arg1, &[0u8; 0], checksum,
+        out,
+        at,
+        frame.command,
+        frame.arg0,
+        frame.arg1,
+        &[0u8; 0],
+        checksum,
     )
 }
 
@@ -27,30 +33,31 @@ pub fn send_okay(
     out: &mut [u8],
     at: usize,
     ids: ChannelIds,
-    delayed: bool,
-    len: u32,
+    len: Option<u32>,
     checksum: Checksum,
 ) -> usize
     requires { at + 28 ≤ length out.old }
-    ensures { Puts out.old at (okay_bytes ids delayed len checksum) result out.new }
+    ensures { Puts out.old at (okay_with ids len checksum) result out.new }
 {
-    let local = ids.local;
-    let remote = ids.remote;
-    if delayed {
-        let mut credit = [0u8; 4];
-        le::put(&mut credit, 0, len);
-        return Packet::put_at(
-            out,
-            at,
-            Command::Ready,
-            local.0,
-            remote.0,
-            &credit,
-            checksum,
-        );
+    match len {
+        Some(len) => {
+            let mut credit = [0u8; 4];
+            le::put(&mut credit, 0, len);
+            Packet::put_at(
+                out,
+                at,
+                Command::Ready,
+                ids.local.0,
+                ids.remote.0,
+                &credit,
+                checksum,
+            )
+        }
+        None => {
+            let frame = Packet::empty(Command::Ready, ids.local.0, ids.remote.0);
+            put_empty(out, at, frame, checksum)
+        }
     }
-    let frame = Packet::empty(Command::Ready, local.0, remote.0);
-    put_empty(out, at, frame, checksum)
 }
 
 // A CLSE for a channel.
@@ -58,9 +65,7 @@ pub fn send_close(out: &mut [u8], at: usize, ids: ChannelIds, checksum: Checksum
     requires { at + message_size ≤ length out.old }
     ensures { Puts out.old at (close_bytes ids checksum) result out.new }
 {
-    let local = ids.local;
-    let remote = ids.remote;
-    let frame = Packet::empty(Command::Close, local.0, remote.0);
+    let frame = Packet::empty(Command::Close, ids.local.0, ids.remote.0);
     put_empty(out, at, frame, checksum)
 }
 
@@ -98,7 +103,13 @@ pub fn send_write(
     requires { FrameRoom out.old at bytes.now }
     ensures { Puts out.old at (write_bytes ids bytes.now checksum) result out.new }
 {
-    let local = ids.local;
-    let remote = ids.remote;
-    Packet::put_at(out, at, Command::Write, local.0, remote.0, bytes, checksum)
+    Packet::put_at(
+        out,
+        at,
+        Command::Write,
+        ids.local.0,
+        ids.remote.0,
+        bytes,
+        checksum,
+    )
 }

@@ -1,5 +1,6 @@
 use Rattle.adb.proofs.ExportLaws.{does-short, does_call, long-answer, close-is}
 use Rattle.adb.specs.Export.{world_of}
+use Rattle.adb.specs.Promise.{channel_of}
 use Rattle.history.specs.Run.{close_call}
 use mathlib.Core.List.{[]}
 use mathlib.Core.Path.{sym, ◌∙◌}
@@ -8,7 +9,7 @@ use Rattle.adb.proofs.adb_close.Goals as goal
 pub returns-then-is_short : goal.returns-then-is_short
 returns-then-is_short c =
     does-short (world_of c.args.state.now c.args.rx.now c.args.opens.now)
-    (close_call c.args.out.now (record { slot = c.args.slot; local = record { 0 = c.args.local } })) c.args.out.now []
+    (close_call c.args.out.now (channel_of c.args.slot c.args.local)) c.args.out.now []
     c.args.answer.now (sym c.is_short.ensures ∙ c.if-is_short.true)
 
 pub answered-requires : goal.answered-requires
@@ -17,8 +18,8 @@ answered-requires c = (long-answer _ _ (sym c.is_short.ensures ∙ c.if-is_short
 pub returns : goal.returns
 returns c =
     does_call (world_of c.args.state.now c.args.rx.now c.args.opens.now)
-    (close_call c.args.out.now (record { slot = c.args.slot; local = record { 0 = c.args.local } })) c.args.out.now []
+    (close_call c.args.out.now (channel_of c.args.slot c.args.local)) c.args.out.now []
     c.args.answer.now _ c.close-reply.result _ _ _ _ _ _ _ (sym c.is_short.ensures ∙ c.if-is_short.false)
     (close-is c.args.state.now c.args.rx.now c.args.opens.now c.args.out.now
-    (record { slot = c.args.slot; local = record { 0 = c.args.local } })) c.close-reply.ensures c.answered.ensures.0
+    (channel_of c.args.slot c.args.local)) (rw c.channel_of-ch.ensures at c.close-reply.ensures) c.answered.ensures.0
     c.answered.ensures.1 c.answered.ensures.2

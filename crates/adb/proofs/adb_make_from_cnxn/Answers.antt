@@ -8,5 +8,5 @@ pub returns : goal.returns
 returns c =
     makes-is _ c.args.version c.args.device_max_payload c.args.host_delayed_ack c.is_yes-host.result
     (has_feature c.args.identity.now delayed_ack_name) _
-    c.args.state.now _ c.make_from-answer.result _ c.is_yes-host.ensures refl c.make_from-answer.ensures
-    c.number.ensures
+    c.args.state.now _ c.make_from.result _ c.is_yes-host.ensures refl (rw c.limits_of-config.ensures at c.make_from.ensures)
+    c.number_of.ensures

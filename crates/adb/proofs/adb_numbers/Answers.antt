@@ -1,6 +1,7 @@
 use Rattle.adb.proofs.ExportLaws.{does-short, does_call, long-answer, numbers-is}
 use Rattle.adb.specs.Export.{world_of}
 use Rattle.adb.specs.Promise.{channel_of}
+use Rattle.adb.specs.Promise.{channel_of}
 use Rattle.history.specs.Run.{look_call, numbers_look}
 use mathlib.Core.List.{[]}
 use mathlib.Core.Path.{sym, ◌∙◌}
@@ -18,5 +19,5 @@ pub returns : goal.returns
 returns c =
     does_call (world_of c.args.state.now c.args.rx.now c.args.opens.now) (look_call (numbers_look (channel_of c.args.slot c.args.local))) [] [] c.args.answer.now _
     c.numbers-reply.result _ _ _ _ _ _ _ (sym c.is_short.ensures ∙ c.if-is_short.false)
-    (numbers-is c.args.state.now c.args.rx.now c.args.opens.now (channel_of c.args.slot c.args.local)) c.numbers-reply.ensures
+    (numbers-is c.args.state.now c.args.rx.now c.args.opens.now (channel_of c.args.slot c.args.local)) (rw c.channel_of-ch.ensures at c.numbers-reply.ensures)
     c.answered.ensures.0 c.answered.ensures.1 c.answered.ensures.2

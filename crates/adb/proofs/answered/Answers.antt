@@ -1,6 +1,12 @@
+use mathlib.Core.Path.{◌≡◌, ◌∙◌}
+use lib.ListN.{length}
+use borrow.Author.Rules.{rules}
 use Rattle.adb.specs.Export.{answer_bytes}
+use Rattle.adb.proofs.ExportLaws.{said-six}
 use Rattle.adb.proofs.answered.Goals as goal
 
 pub returns : goal.returns
 unfolding answer_bytes
-returns c = let said = rw c.numbers_of.ensures at c.put_answer.ensures in (c.number.ensures, said.0, said.1)
+returns c =
+    let n : length c.numbers_of.result ≡ 6 = search rules in
+    (c.number.ensures, rw c.numbers_of.ensures at c.put.ensures.put, said-six _ _ n c.put.ensures.says ∙ c.numbers_of.ensures)

@@ -1,3 +1,4 @@
+use Rattle.call.proofs.AdmitLaws.{admits-state}
 use Rattle.call.proofs.LeaveLaws.{admitted-goes, goes-admits, refused-leaves, goes-leaves}
 use Rattle.call.specs.Promise.{agreed_in}
 use Rattle.connection.specs.Calls.{accept_outcome}
@@ -5,10 +6,10 @@ use Rattle.call_accept.proofs.accept.Goals as goal
 
 pub accept_step-requires : goal.accept_step-requires
 accept_step-requires c =
-    let k = admitted-goes c.args.state.now c.args.rx.now c.args.store.now _ _ c.admit-admitted.result
-    c.admit-admitted.ensures c.in-Ok.is in (
-      goes-admits c.args.state.now c.args.rx.now c.args.store.now _ _ k
-          (λ j. (c.slice_known-1.given j).fits),
+    let k = admitted-goes c.args.state.now c.args.rx.now c.args.store.now _ _ c.admit_out.result
+    c.admit_out.ensures c.in-Ok.is in (
+      admits-state (goes-admits c.args.state.now c.args.rx.now c.args.store.now _ _ k
+          (λ j. (c.slice_known-1.given j).fits)),
       k.header,
     )
 
@@ -16,11 +17,11 @@ pub returns-in-Err : goal.returns-in-Err
 unfolding accept_outcome
 returns-in-Err c =
     refused-leaves c.args.state.now c.args.rx.now c.args.store.now _ (agreed_in c.args.state.now) _ _ _ _
-    c.admit-admitted.result _ c.admit-admitted.ensures c.in-Err.is c.refused.ensures
+    c.admit_out.result _ c.admit_out.ensures c.in-Err.is c.refused.ensures
 
 pub returns-in-Ok : goal.returns-in-Ok
 unfolding accept_outcome
 returns-in-Ok c =
     goes-leaves c.args.state.now c.args.rx.now c.args.store.now _ (agreed_in c.args.state.now) _ _ _ _ _ _ _ _ _ _
-    (admitted-goes c.args.state.now c.args.rx.now c.args.store.now _ _ c.admit-admitted.result
-    c.admit-admitted.ensures c.in-Ok.is) c.accept_step.ensures
+    (admitted-goes c.args.state.now c.args.rx.now c.args.store.now _ _ c.admit_out.result
+    c.admit_out.ensures c.in-Ok.is) (c.accept_step.ensures _ _)

@@ -11,4 +11,4 @@ pub returns : goal.returns
 unfolding numbers_in
 returns c =
     let f : SFits w64 c.args.s.send_budget = search rules in
-    rw (c.is_closed.ensures, c.cast_unsigned-budget.ensures, to_z-of_z f, is-unsigned w64 c.args.s.send_budget refl)
+    rw (c.is_closed.ensures, c.cast_unsigned.ensures, to_z-of_z f, is-unsigned w64 c.args.s.send_budget refl)

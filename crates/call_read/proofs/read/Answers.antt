@@ -5,18 +5,18 @@ use Rattle.call_read.proofs.read.Goals as goal
 
 pub read_step-requires : goal.read_step-requires
 read_step-requires c =
-    begins-is c.args.state.now c.args.rx.now c.args.store.now _ _ _ c.admit-admitted.result
-    c.admit-admitted.ensures c.in-Ok.is (λ j. (c.slice_known-1.given j).fits) c.drop_pending.ensures
+    begins-is c.args.state.now c.args.rx.now c.args.store.now _ _ _ c.admit_out.result
+    c.admit_out.ensures c.in-Ok.is (λ j. (c.slice_known-1.given j).fits) c.drop_pending.ensures
 
 pub returns-in-Err : goal.returns-in-Err
 unfolding read_outcome
 returns-in-Err c =
     refused-leaves c.args.state.now c.args.rx.now c.args.store.now _ (agreed_in c.args.state.now) _ _ _ _
-    c.admit-admitted.result _ c.admit-admitted.ensures c.in-Err.is c.refused.ensures
+    c.admit_out.result _ c.admit_out.ensures c.in-Err.is c.refused.ensures
 
 pub returns-in-Ok : goal.returns-in-Ok
 unfolding read_outcome
 returns-in-Ok c =
     goes-leaves c.args.state.now c.args.rx.now c.args.store.now _ (agreed_in c.args.state.now) _ _ _ _ _ _ _ _ _ _
-    (admitted-goes c.args.state.now c.args.rx.now c.args.store.now _ _ c.admit-admitted.result
-    c.admit-admitted.ensures c.in-Ok.is) c.read_step.ensures
+    (admitted-goes c.args.state.now c.args.rx.now c.args.store.now _ _ c.admit_out.result
+    c.admit_out.ensures c.in-Ok.is) c.read_step.ensures

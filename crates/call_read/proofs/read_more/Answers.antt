@@ -1,10 +1,9 @@
 use Rattle.call_read.proofs.ReadSteps.{found-is, look-stops, look-found}
 use Rattle.call_read.proofs.LookLaws.{look-place}
-use mathlib.Core.Path.{refl}
 use Rattle.call_read.proofs.read_more.Goals as goal
 
-pub store_slot-requires : goal.store_slot-requires
-store_slot-requires c = (
+pub ends_with-requires : goal.ends_with-requires
+ends_with-requires c = (
   look-place c.args.state.now c.args.rx.now c.args.store.now c.args.out.now c.args.h c.args.ch
       c.args.s _ c.args.at c.requires.0 c.requires.1,
   c.requires.0.state-fits,
@@ -16,17 +15,17 @@ read_packet-requires c = (
   c.requires.1,
   found-is c.args.state.now c.args.rx.now c.args.store.now c.args.out.now
       c.args.h c.args.ch c.args.s _ c.args.at c.requires.0 c.requires.1 c.args.received.now
-      c.recv_pkt-found.result c.recv_pkt-found.ensures _ c.in-Ok.is,
+      c.recv_pkt.result c.recv_pkt.ensures _ c.in-Ok.is,
 )
 
 pub returns-in-Err : goal.returns-in-Err
 returns-in-Err c =
     look-stops c.args.state.now c.args.rx.now c.args.store.now c.args.out.now c.args.h c.args.ch
-    c.args.s _ c.args.at c.requires.0 c.requires.1 c.args.received.now c.recv_pkt-found.result
-    c.recv_pkt-found.ensures _ _ c.args.buf.now _ _ c.in-Err.is c.store_slot.ensures refl
+    c.args.s _ c.args.at c.requires.0 c.requires.1 c.args.received.now c.recv_pkt.result
+    c.recv_pkt.ensures _ _ c.args.buf.now _ _ c.in-Err.is c.ends_with.ensures.0 c.ends_with.ensures.1
 
 pub returns-in-Ok : goal.returns-in-Ok
 returns-in-Ok c =
     look-found c.args.state.now c.args.rx.now c.args.store.now c.args.out.now c.args.h c.args.ch
-    c.args.s _ c.args.at c.requires.0 c.requires.1 c.args.received.now c.recv_pkt-found.result
-    c.recv_pkt-found.ensures _ c.args.buf.now _ _ _ _ _ _ c.in-Ok.is c.read_packet.ensures
+    c.args.s _ c.args.at c.requires.0 c.requires.1 c.args.received.now c.recv_pkt.result
+    c.recv_pkt.ensures _ c.args.buf.now _ _ _ _ _ _ c.in-Ok.is c.read_packet.ensures

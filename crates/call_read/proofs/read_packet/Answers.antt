@@ -9,8 +9,8 @@ use Rattle.call_read.proofs.LookLaws.{look-place, look-packet, look-fits, look-d
 use native.Mathlib.Omega.{arith}
 use Rattle.call_read.proofs.read_packet.Goals as goal
 
-pub payload-payload-requires : goal.payload-payload-requires
-payload-payload-requires c =
+pub payload_in-payload-requires : goal.payload_in-payload-requires
+payload_in-payload-requires c =
     (look-packet c.args.state.now c.args.rx.now c.args.store.now c.args.out.now c.args.h c.args.ch
     c.args.s _ c.args.at c.requires.0 c.requires.1 c.args.received.now c.args.packet c.requires.2).whole
 
@@ -29,9 +29,9 @@ read_direct-requires c =
           c.args.rx.now c.args.store.now c.args.out.now c.args.h c.args.ch c.args.s _ c.args.at
           c.requires.0 c.requires.1,
       direct-fits c.args.s _ c.args.packet c.args.received.now
-          c.payload-payload.result.now _ (look-packet c.args.state.now c.args.rx.now c.args.store.now
+          c.payload_in-payload.result.now _ (look-packet c.args.state.now c.args.rx.now c.args.store.now
           c.args.out.now c.args.h c.args.ch c.args.s _ c.args.at c.requires.0 c.requires.1
-          c.args.received.now c.args.packet c.requires.2) c.payload-payload.ensures
+          c.args.received.now c.args.packet c.requires.2) c.payload_in-payload.ensures
           (sym c.is_direct.ensures ∙ c.if-is_direct.true),
       omega arith,
     )
@@ -40,12 +40,12 @@ pub returns-then-is_direct : goal.returns-then-is_direct
 returns-then-is_direct c =
     look-direct c.args.state.now c.args.rx.now c.args.store.now c.args.out.now c.args.h c.args.ch
     c.args.s _ c.args.at c.requires.0 c.requires.1 c.args.received.now c.args.packet c.requires.2
-    c.payload-payload.result.now c.payload-payload.ensures c.args.buf.now refl _ _ c.args.rx.now
+    c.payload_in-payload.result.now c.payload_in-payload.ensures c.args.buf.now refl _ _ c.args.rx.now
     c.args.store.now _ _ (sym c.is_direct.ensures ∙ c.if-is_direct.true)
     (rw c.frame_len-used.ensures at (c.read_direct.ensures c.args.rx.now c.args.store.now))
 
-pub store_slot-requires : goal.store_slot-requires
-store_slot-requires c = (
+pub ends_with-requires : goal.ends_with-requires
+ends_with-requires c = (
   look-place c.args.state.now c.args.rx.now c.args.store.now c.args.out.now c.args.h c.args.ch
       c.args.s _ c.args.at c.requires.0 c.requires.1,
   c.requires.0.state-fits,
@@ -55,10 +55,10 @@ pub returns-then-closed_by : goal.returns-then-closed_by
 returns-then-closed_by c =
     look-closed c.args.state.now c.args.rx.now c.args.store.now c.args.out.now c.args.h c.args.ch
     c.args.s _ c.args.at c.requires.0 c.requires.1 c.args.received.now c.args.packet c.requires.2
-    c.payload-payload.result.now c.payload-payload.ensures c.args.buf.now refl _ _ c.args.rx.now
+    c.payload_in-payload.result.now c.payload_in-payload.ensures c.args.buf.now refl _ _ c.args.rx.now
     c.args.store.now c.args.out.now c.args.buf.now (sym c.is_direct.ensures ∙ c.if-is_direct.false)
-    (ap (λ (x : ChannelIds). closed_by x c.args.packet) (sym c.ids_in.ensures) ∙ sym c.closed_by.ensures ∙ c.if-closed_by.true) c.apply_close.result c.apply_close.ensures c.store_slot.ensures
-    (ap (λ (x : ℕ). record { answer = Refused ChannelClosed; used = x; written = c.args.at }) c.frame_len-used.ensures)
+    (ap (λ (x : ChannelIds). closed_by x c.args.packet) (sym c.ids_in.ensures) ∙ sym c.closed_by.ensures ∙ c.if-closed_by.true) c.apply_close.result c.apply_close.ensures c.ends_with.ensures.0
+    (c.ends_with.ensures.1 ∙ ap (λ (x : ℕ). record { answer = Refused ChannelClosed; used = x; written = c.args.at }) c.frame_len-used.ensures)
 
 pub read_other-requires : goal.read_other-requires
 read_other-requires c = (
@@ -66,14 +66,14 @@ read_other-requires c = (
   c.requires.1,
   look-fits c.args.state.now c.args.rx.now c.args.store.now c.args.out.now
       c.args.h c.args.ch c.args.s _ c.args.at c.requires.0 c.requires.1 c.args.received.now
-      c.args.packet c.requires.2 c.payload-payload.result.now (λ j. (c.type_inv.received j).fits)
-      c.payload-payload.ensures,
+      c.args.packet c.requires.2 c.payload_in-payload.result.now (λ j. (c.type_inv.received j).fits)
+      c.payload_in-payload.ensures,
 )
 
 pub returns : goal.returns
 returns c =
     look-other c.args.state.now c.args.rx.now c.args.store.now c.args.out.now c.args.h c.args.ch
     c.args.s _ c.args.at c.requires.0 c.requires.1 c.args.received.now c.args.packet c.requires.2
-    c.payload-payload.result.now c.payload-payload.ensures c.args.buf.now refl _ _ _ _ _ _
+    c.payload_in-payload.result.now c.payload_in-payload.ensures c.args.buf.now refl _ _ _ _ _ _
     (sym c.is_direct.ensures ∙ c.if-is_direct.false)
     (ap (λ (x : ChannelIds). closed_by x c.args.packet) (sym c.ids_in.ensures) ∙ sym c.closed_by.ensures ∙ c.if-closed_by.false) (rw c.frame_len-used.ensures at c.read_other.ensures)

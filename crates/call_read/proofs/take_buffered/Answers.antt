@@ -26,8 +26,8 @@ hand_over-requires c =
     c.rx_policy-policy.result c.settle_take-settled.result c.requires.1 c.rx_policy-policy.ensures
     c.settle_take-settled.ensures c.requires.0 _ _ _ c.take_buffered-taken.ensures is
 
-pub store_slot-requires-in-Err : goal.store_slot-requires-in-Err
-store_slot-requires-in-Err c = (c.requires.0.place-fits, c.requires.0.state-fits)
+pub ends_with-requires-in-Err : goal.ends_with-requires-in-Err
+ends_with-requires-in-Err c = (c.requires.0.place-fits, c.requires.0.state-fits)
 
 pub returns-in-Ok-None : goal.returns-in-Ok-None
 returns-in-Ok-None c =
@@ -42,8 +42,8 @@ returns-in-Err c =
     λ store. tries-closed c.args.h c.args.ch c.args.used c.args.fault c.args.at c.args.state.now
     c.args.rx.now store c.args.out.now c.args.buf.now c.args.slot c.rx_policy-policy.result
     c.settle_take-settled.result c.requires.1 c.rx_policy-policy.ensures c.settle_take-settled.ensures c.requires.0 _
-    _ c.put_ack-end.ensures _ _ c.unless_fault.result c.from.result _ c.take_buffered-taken.ensures
-    c.in-Err.is c.from.ensures c.unless_fault.ensures c.store_slot-in-Err.ensures
+    _ c.put_ack-end.ensures _ _ c.unless_fault-answer.result c.from.result _ _ c.take_buffered-taken.ensures
+    c.in-Err.is c.from.ensures c.unless_fault-answer.ensures c.ends_with-in-Err.ensures.0 c.ends_with-in-Err.ensures.1
 
 pub returns-in-Ok-Some : goal.returns-in-Ok-Some
 returns-in-Ok-Some c =
@@ -51,5 +51,5 @@ returns-in-Ok-Some c =
     λ store. tries-data c.args.h c.args.ch c.args.used c.args.fault c.args.at c.args.state.now
     c.args.rx.now store c.args.out.now c.args.buf.now c.args.slot c.rx_policy-policy.result
     c.settle_take-settled.result c.requires.1 c.rx_policy-policy.ensures c.settle_take-settled.ensures c.requires.0 _
-    _ c.put_ack-end.ensures _ _ _ _ _ c.take_buffered-taken.ensures is
-    c.hand_over.ensures c.store_slot.ensures
+    _ c.put_ack-end.ensures _ _ _ _ _ _ c.take_buffered-taken.ensures is
+    c.hand_over.ensures c.ends_with.ensures.0 c.ends_with.ensures.1

@@ -2,13 +2,13 @@ use mathlib.Core.Path.{◌≡◌}
 use borrow.Author.Rules.{rules}
 use Rattle.std.specs.Prelude.{Err}
 use Rattle.call_stretch.proofs.LookLaws.{stretch-refused, stretch-looks}
-use Rattle.call.proofs.LeaveLaws.{admitted-goes}
+use Rattle.call.proofs.WideLaws.{wide-goes}
 use Rattle.call.proofs.AdmitLaws.{whole_long}
 use Rattle.call_stretch.proofs.stretch.Goals as goal
 
 pub look-requires : goal.look-requires
 look-requires c =
-    let g = admitted-goes c.args.state.now c.args.rx.now c.args.store.now 56 _ c.admit.result c.admit.ensures c.in_ok-admit.was in
+    let g = wide-goes c.args.state.now c.args.rx.now c.args.store.now _ c.admit.result c.admit.ensures c.in_ok-admit.was in
     whole_long c.args.state.now g.is-whole
 
 pub returns-in_err-admit : goal.returns-in_err-admit

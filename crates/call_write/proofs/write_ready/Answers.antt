@@ -1,17 +1,16 @@
 use Rattle.call_write.proofs.WriteLaws.{ready-again, ready-bad}
-use mathlib.Core.Path.{refl}
 use Rattle.call_write.proofs.write_ready.Goals as goal
 
 pub returns-in-Ok : goal.returns-in-Ok
 returns-in-Ok c =
     λ rx store. ready-again c.args.state.now c.args.out.now c.args.bytes.now c.args.ch c.args.h
     c.requires c.args.used c.args.s c.args.payload.now c.rx_policy.result
-    c.apply_ready-readied.result c.rx_policy.ensures c.apply_ready-readied.ensures rx store _ _ _ _
+    c.apply_ready.result c.rx_policy.ensures c.apply_ready.ensures rx store _ _ _ _
     c.in-Ok.is (c.send_again.ensures rx store)
 
 pub returns-in-Err : goal.returns-in-Err
 returns-in-Err c =
     λ rx store. ready-bad c.args.state.now c.args.out.now c.args.bytes.now c.args.ch c.args.h
     c.requires c.args.used c.args.s c.args.payload.now c.rx_policy.result
-    c.apply_ready-readied.result c.rx_policy.ensures c.apply_ready-readied.ensures rx store _ _ _
-    c.in-Err.is c.put_header.ensures refl
+    c.apply_ready.result c.rx_policy.ensures c.apply_ready.ensures rx store _ _ _
+    c.in-Err.is c.ends.ensures.0 c.ends.ensures.1

@@ -1,33 +1,15 @@
-use Rattle.std.proofs.Common.{rules, arith, Some, None}
-use Rattle.console.proofs.GatherLaws.{here-lent, over-waits, over-refused, lent-rest, gathering-starts, gathering-goes, gathering-ends}
+use Rattle.std.proofs.Common.{arith, Some, None}
+use Rattle.console.proofs.GatherLaws.{here-lent, over-waits, over-refused, lent-rest, gathering-starts, gathering-room, gathering-goes, gathering-ends}
 use Rattle.console.proofs.gather.Goals as goal
 
 pub loop-frame-init : goal.loop-frame-init
 loop-frame-init c = gathering-starts c.args.wanted c.args.received.now c.args.out.now c.requires
 
-pub overflow_add-from : goal.overflow_add-from
-overflow_add-from c =
+pub keep-length-requires : goal.keep-length-requires
+keep-length-requires c =
     let g = c.loop-frame.invariant in
     let h = here-lent c.args.received.now c.loop-frame.used g.within c.in-Ok-Some.frame (cc) in
-    search rules
-
-pub overflow_add-to : goal.overflow_add-to
-overflow_add-to c =
-    let g = c.loop-frame.invariant in
-    let h = here-lent c.args.received.now c.loop-frame.used g.within c.in-Ok-Some.frame (cc) in
-    search rules
-
-pub slice_bounds-keep-end : goal.slice_bounds-keep-end
-slice_bounds-keep-end c =
-    let g = c.loop-frame.invariant in
-    let h = here-lent c.args.received.now c.loop-frame.used g.within c.in-Ok-Some.frame (cc) in
-    search rules
-
-pub overflow_add-used : goal.overflow_add-used
-overflow_add-used c =
-    let g = c.loop-frame.invariant in
-    let h = here-lent c.args.received.now c.loop-frame.used g.within c.in-Ok-Some.frame (cc) in
-    search rules
+    gathering-room c.args.wanted c.args.received.now c.args.out.now c.loop-frame.out c.loop-frame.used c.loop-frame.length c.in-Ok-Some.frame _ g h c.payload.ensures
 
 pub loop-frame-smaller : goal.loop-frame-smaller
 loop-frame-smaller c =
@@ -39,8 +21,8 @@ pub loop-frame-preserved : goal.loop-frame-preserved
 loop-frame-preserved c =
     let g = c.loop-frame.invariant in
     let h = here-lent c.args.received.now c.loop-frame.used g.within c.in-Ok-Some.frame (cc) in
-    gathering-goes c.args.wanted c.args.received.now c.args.out.now c.loop-frame.out c.loop-frame.used c.loop-frame.length c.in-Ok-Some.frame _ _ g h
-    c.keep-length.ensures
+    gathering-goes c.args.wanted c.args.received.now c.args.out.now c.loop-frame.out c.loop-frame.used c.loop-frame.length c.in-Ok-Some.frame _ _ _ g h
+    c.payload.ensures c.keep-length.ensures
 
 pub returns-in-Ok-None : goal.returns-in-Ok-None
 returns-in-Ok-None c =

@@ -1,15 +1,8 @@
 use Rattle.std.proofs.Common.{sym}
-use Rattle.features.proofs.FeaturesLaws.{behind-none, behind-one, behind-two}
+use Rattle.features.proofs.FeaturesLaws.{behind-one}
 use Rattle.features.proofs.after_colons.Goals as goal
-
-pub returns-in_err-first : goal.returns-in_err-first
-returns-in_err-first c = rw c.from_residual.ensures (behind-none c.args.banner.now (sym c.in_err-first.ensures))
 
 pub returns-in_err-second : goal.returns-in_err-second
 returns-in_err-second c =
     rw c.from_residual-in_err-second.ensures
     (behind-one c.args.banner.now c.in_ok-first.field-0 (sym c.in_ok-first.ensures) (sym c.in_err-second.ensures))
-
-pub returns : goal.returns
-returns c =
-    behind-two c.args.banner.now c.in_ok-first.field-0 (sym c.in_ok-first.ensures) c.in_ok-second.field-0 (sym c.in_ok-second.ensures)

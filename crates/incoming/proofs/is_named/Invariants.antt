@@ -1,5 +1,5 @@
 use mathlib.Core.Path.{◌≡◌}
-use Prim.Native.Nat.{◌-◌, ◌≤◌}
+use Prim.Native.Nat.{◌≤◌}
 use lib.ListN.{take, drop}
 use Rattle.state.specs.State.{state_of}
 use Rattle.incoming.specs.Incoming.{named}

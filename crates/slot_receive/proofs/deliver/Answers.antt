@@ -4,7 +4,7 @@ use Rattle.std.proofs.Common.{sym, ap, ◌∙◌, ap₂, arith, le-leb}
 use borrow.Author.Tests.{lt-leb}
 use Rattle.slot.specs.Slot.{with_total, delivered_of, acked}
 use Rattle.slot_receive.proofs.deliver.Goals as goal
-use Rattle.std.specs.Prelude.{Option, Some, None, Result, Ok, Err}
+use Rattle.std.specs.Prelude.{Some}
 
 pub returns-then-slot : goal.returns-then-slot
 unfolding delivered_of

@@ -1,5 +1,5 @@
 use Rattle.slot.proofs.Laws.{is-ack}
-use Rattle.std.proofs.Common.{sym, ap, ◌∙◌, eq-eqb, ne_eqb}
+use Rattle.std.proofs.Common.{sym, ap, ◌∙◌, eq-eqb}
 use Rattle.slot.specs.Slot.{take_acks, is_ack}
 use Rattle.slot_receive.proofs.take_acks.Goals as goal
 
@@ -8,11 +8,3 @@ unfolding take_acks
 returns-then-slot-eq0 c =
     rw (sym c.has_data.ensures ∙ c.if-has_data.true, eq-eqb c.args.slot.settled 0 c.if-slot-eq0.true)
     (c.is_some.ensures ∙ is-ack _ ∙ ap is_ack (rw c.min-n.ensures at c.ack_len.ensures))
-
-pub returns-else-slot-eq0 : goal.returns-else-slot-eq0
-unfolding take_acks
-returns-else-slot-eq0 c = rw (sym c.has_data.ensures ∙ c.if-has_data.true, ne_eqb c.args.slot.settled 0 c.if-slot-eq0.false)
-
-pub returns-else-has_data : goal.returns-else-has_data
-unfolding take_acks
-returns-else-has_data c = rw (sym c.has_data.ensures ∙ c.if-has_data.false)

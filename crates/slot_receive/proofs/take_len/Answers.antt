@@ -1,4 +1,4 @@
-use Rattle.std.proofs.Common.{◌∙◌, eq-eqb, ne_eqb}
+use Rattle.std.proofs.Common.{eq-eqb, ne_eqb}
 use Rattle.slot.specs.Slot.{take_len}
 use Rattle.slot_receive.proofs.take_len.Goals as goal
 

@@ -1,5 +1,5 @@
 use mir.Val.{SFits}
-use mathlib.Core.Path.{◌≡◌, refl, sym, ap, ◌∙◌}
+use mathlib.Core.Path.{◌≡◌, sym, ap, ◌∙◌}
 use mir.Syntax.{w32, w64}
 use mir.Facts.{to_z-of_z}
 use borrow.Author.Rules.{rules}

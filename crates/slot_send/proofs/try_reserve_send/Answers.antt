@@ -1,4 +1,4 @@
-use mathlib.Core.Path.{sym, ap, ◌∙◌}
+use mathlib.Core.Path.{ap, ◌∙◌}
 use Rattle.slot.specs.Slot.{reserved_of, reserved_by}
 use Rattle.slot_send.proofs.try_reserve_send.Goals as goal
 

@@ -1,5 +1,8 @@
-use Rattle.state.proofs.Fields.{header-tags-put}
+use Rattle.le.specs.Le.{bytes_of}
+use Rattle.le.specs.Rows.{flat}
+use Rattle.state.specs.State.{header_tags}
 use Rattle.state.proofs.put_tags.Goals as goal
 
 pub returns : goal.returns
-returns c = cc (header-tags-put c.args.state.now c.args.h c.requires)
+unfolding flat header_tags bytes_of
+returns c = rw (c.flag_byte.ensures.0, c.from.ensures) at c.put_all.ensures

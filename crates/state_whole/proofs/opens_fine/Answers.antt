@@ -7,6 +7,6 @@ pub returns-then-queue_fine : goal.returns-then-queue_fine
 unfolding opens_fine
 returns-then-queue_fine c = and-goes _ _ _ (sym c.queue_fine.ensures ∙ c.if-queue_fine.true) c.offer_fine.ensures
 
-pub returns : goal.returns
+pub returns-else-queue_fine : goal.returns-else-queue_fine
 unfolding opens_fine
-returns c = and-stops _ _ (sym c.queue_fine.ensures ∙ c.if-queue_fine.false)
+returns-else-queue_fine c = c.if-queue_fine.false ∙ and-stops _ _ (sym c.queue_fine.ensures ∙ c.if-queue_fine.false)

@@ -6,4 +6,4 @@ use Rattle.state.specs.State.{header_len, slot_len}
 use Rattle.state_whole.proofs.rows_fine.Given as goal
 
 abbrev pub invariant-loop-i : goal.invariant-loop-i
-invariant-loop-i l = (l.i ≤ l.end) × (rows_fine l.channels l.cap l.from (l.end - l.from) (drop (header_len + l.from * slot_len) l.state) ≡ rows_fine l.channels l.cap l.i (l.end - l.i) (drop (header_len + l.i * slot_len) l.state))
+invariant-loop-i l = (l.i ≤ l.end) × (rows_fine l.within.0 l.within.1 l.from (l.end - l.from) (drop (header_len + l.from * slot_len) l.state) ≡ rows_fine l.within.0 l.within.1 l.i (l.end - l.i) (drop (header_len + l.i * slot_len) l.state))

@@ -1,6 +1,5 @@
-use mathlib.Core.Path.{◌≡◌, refl, sym, subst, ◌∙◌}
+use mathlib.Core.Path.{◌≡◌, refl, subst}
 use Prim.Native.Nat.{ℕ}
-use lib.ListN.{length-set}
 use native.Mathlib.Omega.{arith}
 use borrow.Author.Rules.{rules}
 use Rattle.stretch.specs.Stretch.{world_of, Tells}
@@ -8,13 +7,10 @@ use Rattle.stretch.proofs.TellLaws.{telling-starts, telling-goes, telling-stops,
 use Rattle.stretch.proofs.tell.Goals as goal
 
 pub loop-n-init : goal.loop-n-init
-loop-n-init c = (refl, refl, refl, c.requires, telling-starts _ _ _)
+loop-n-init c = (refl, refl, refl, search rules, telling-starts _ _ _)
 
 pub dispatch_at-met-requires : goal.dispatch_at-met-requires
 dispatch_at-met-requires c = c.loop-n.invariant.4.inside
-
-pub shape_of-places-then-met-ne0 : goal.shape_of-places-then-met-ne0
-shape_of-places-then-met-ne0 c = length-set c.loop-n.places c.loop-n.n c.loop-n.at ∙ c.loop-n.invariant.3 ∙ sym c.requires
 
 pub returns-then-met-ne0 : goal.returns-then-met-ne0
 returns-then-met-ne0 c =

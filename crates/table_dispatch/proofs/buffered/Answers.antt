@@ -4,4 +4,4 @@ pub returns-in-None : goal.returns-in-None
 returns-in-None c = rw c.in-None.is
 
 pub returns-in-Some : goal.returns-in-Some
-returns-in-Some c = rw c.in-Some.is
+returns-in-Some c = rw (c.in-Some.is, c.ids_with.ensures)

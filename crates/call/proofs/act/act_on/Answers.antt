@@ -36,7 +36,7 @@ returns-in-Some c =
     acts-queued c.args.h c.args.state.now c.args.rx.now c.args.store.now c.args.payload.now
     c.args.out.now c.args.at c.args.packet c.rx_policy.result c.dispatch-outcome.result
     c.dispatch-outcome.new.state c.dispatch-outcome.new.rx c.rx_policy.ensures c.dispatch-outcome.ensures _ _ _ _
-    _ _ _ c.in-IncomingOpen.is c.in-Some.is c.push_back-pushed.ensures c.done-in-Some.ensures c.requires.room
+    _ _ _ c.in-IncomingOpen.is c.in-Some.is c.push_back.ensures c.done-in-Some.ensures c.requires.room
 
 pub shape_of-state-in-None : goal.shape_of-state-in-None
 shape_of-state-in-None c = omega (arith, c.state-1.given, c.state-in-IncomingOpen-1.given)
@@ -49,7 +49,7 @@ returns-in-None c =
     acts-full c.args.h c.args.state.now c.args.rx.now c.args.store.now c.args.payload.now
     c.args.out.now c.args.at c.args.packet c.rx_policy.result c.dispatch-outcome.result
     c.dispatch-outcome.new.state c.dispatch-outcome.new.rx c.rx_policy.ensures c.dispatch-outcome.ensures _ _ _ _
-    _ _ _ _ c.in-IncomingOpen.is c.in-None.is c.push_back-pushed.ensures c.done-in-None.ensures
+    _ _ _ _ c.in-IncomingOpen.is c.in-None.is c.push_back.ensures c.done-in-None.ensures
     c.put_close-end-in-None.ensures c.requires.room
 
 pub returns-in-CancelQueuedOpen : goal.returns-in-CancelQueuedOpen

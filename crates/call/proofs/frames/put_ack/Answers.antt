@@ -8,9 +8,9 @@ unfolding is_ack
 put_okay-requires c = c.requires (ap is_ack c.in-Some.is)
 
 pub returns-in-None : goal.returns-in-None
-returns-in-None c = ack-none c.args.n c.args.s _ _ c.args.ack c.in-None.is
+returns-in-None c = ack-none c.args.n c.args.settled.slot _ _ c.args.settled.ack c.in-None.is
 
 pub returns-in-Some : goal.returns-in-Some
 returns-in-Some c =
-    ack-some c.args.n c.args.s _ _ _ _ c.args.ack _ _ c.in-Some.is c.ids_in.ensures
+    ack-some c.args.n c.args.settled.slot _ _ _ _ c.args.settled.ack _ _ c.in-Some.is c.ids_in.ensures
     c.put_okay.ensures

@@ -1,9 +1,0 @@
-use Rattle.std.proofs.Common.{◌≡◌, ◌+◌, ◌*◌, ◌≤◌, length}
-use Rattle.checksum.specs.Checksum.{total}
-use Rattle.checksum.proofs.sum_last.Given as goal
-
-abbrev pub invariant-loop-block : goal.invariant-loop-block
-invariant-loop-block l = (l.sum + total l.rest ≡ total l.bytes) × (l.sum + 255 * length l.rest ≤ 255 * length l.bytes)
-
-abbrev pub decreases-loop-block : goal.decreases-loop-block
-decreases-loop-block l = length l.rest
