@@ -21,7 +21,8 @@ use Rattle.call.specs.declared.Reply.{Reply}
 use Rattle.call.specs.Promise.{lent_of, agreed_in, Leaves, AdmitsState}
 use Rattle.call_reject.specs.Promise.{OfferRoom, offered_in}
 use Rattle.slot.proofs.Kept.{pick}
-use Rattle.std.specs.Prelude.{Option, Some, None}
+use Rattle.std.specs.Option.{unwrap_or}
+use Rattle.std.specs.Prelude.{is_some, Option, Some, None}
 use Rattle.call.proofs.AdmitLaws.{admits-facts}
 use Rattle.call.proofs.FrameLaws.{close-short, one-frame, puts_one}
 use Rattle.call.proofs.LeaveLaws.{did-begun, did-frames, did-stops, stops-leaves}
@@ -43,28 +44,20 @@ reject-leaves state out at h remote answer r end out' state' k p s q rx store =
 
 -- ---- what was found
 
-abbrev is_found : Option QueuedOpen → Bool
-is_found (Some q) = true
-is_found None = false
-
-abbrev entry_in : Option QueuedOpen → QueuedOpen
-entry_in (Some q) = q
-entry_in None = none_queued
-
 module _ (state : List ℕ) (h : Header) (found : Option QueuedOpen) (e : found ≡ offered_in state h) where
-  found-is : is_found found ≡ is_offer h.pending.what
+  found-is : is_some found ≡ is_offer h.pending.what
   unfolding offered_in
-  found-is = ap is_found e ∙ pick (λ (x : Option QueuedOpen). is_found x ≡ is_offer h.pending.what) (is_offer h.pending.what) (λ t. sym t) (λ t. sym t)
+  found-is = ap is_some e ∙ pick (λ (x : Option QueuedOpen). is_some x ≡ is_offer h.pending.what) (is_offer h.pending.what) (λ t. sym t) (λ t. sym t)
 
   pub found-offer : (q : QueuedOpen) → found ≡ Some q → is_offer h.pending.what ≡ true
-  found-offer q f = sym found-is ∙ ap is_found f
+  found-offer q f = sym found-is ∙ ap is_some f
 
   pub found-entry : (q : QueuedOpen) → found ≡ Some q → q ≡ queued_at state h.queued
   unfolding offered_in
-  found-entry q f = ap entry_in (sym f ∙ e ∙ cond-true (is_offer h.pending.what) _ _ (found-offer q f))
+  found-entry q f = ap (λ x. unwrap_or x none_queued) (sym f ∙ e ∙ cond-true (is_offer h.pending.what) _ _ (found-offer q f))
 
   pub found-none : found ≡ None → is_offer h.pending.what ≡ false
-  found-none f = sym found-is ∙ ap is_found f
+  found-none f = sym found-is ∙ ap is_some f
 
 module _ (state rx store out : List ℕ) (h : Header) (i : h ≡ (state_of state).header) (size : ℕ) (g : AdmitsState state size) where
   abbrev lent : Lent

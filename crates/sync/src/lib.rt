@@ -6,7 +6,8 @@
 ghost use Rattle.std.specs.Prelude.{◌≡◌, ◌+◌, ◌≤◌, length};
 ghost use Rattle.le.specs.Le.{part};
 ghost use Rattle.exchange.specs.Exchange.{stat_length, head_of};
-ghost use Rattle.sync.specs.Message.{stat_layout, layout_of, stat_of, stat_v2_of, either_of, fields_of, length_of, known_of, read_message, IsHere, ReadHere, error_number};
+ghost use Rattle.sync.specs.Message.{stat_layout, layout_of, stat_of, stat_v2_of, either_of, fields_of, length_of, known_of};
+ghost use Rattle.sync.specs.Message.{read_message, IsHere, ReadHere, error_number};
 
 use exchange::{Exchange, Layout, StatLayout, SyncId};
 use refusal::Numbered;

@@ -31,7 +31,7 @@ use Rattle.state.specs.State.{state_of, slot_at, put_slot}
 use Rattle.le.proofs.RowLaws.{never}
 use Rattle.state.proofs.StateLaws.{slot-in, state-full}
 use Rattle.table_dispatch.specs.declared.DispatchOutcome.{DispatchOutcome}
-use Rattle.table_dispatch.specs.declared.DispatchOutcome.TheVariants.{CreditGranted, SlotClosed, CancelQueuedOpen, StrayReady, Unmatched}
+use Rattle.table_dispatch.specs.declared.DispatchOutcome.TheVariants.{CreditGranted, SlotClosed, CancelQueuedOpen, Unmatched}
 use Rattle.table.specs.declared.Want.TheVariants.{Local, Remote, Live}
 use Rattle.table.specs.Table.{first, wanted_by, place_of, below, slot_in}
 use Rattle.table_dispatch.specs.Dispatch.{left, stored, faulted, named_place, remote_place, closed_at, closed_in, close_of, readied_of, granted, ready_at, stray_of, grant_of, Dispatched, with, wrote_by, wrote_at, write_of, route_of, dispatch_of, Dispatches, buffered_at}
@@ -140,20 +140,6 @@ module _ (p : RxPolicy) (i : ℕ) (s₀ s : ChannelSlot) (is : s ≡ s₀) (remo
   ready-bad f o e h g = ready-same ∙ cond-false (is_failed s.failed) _ _ e ∙ ap (granted i s remote) h ∙ ap left (sym g)
 
 module _ (remote : RemoteId) (local : LocalId) where
-  pub stray-remote : remote.0 ≡ 0 → Unmatched ≡ stray_of remote local
-  unfolding stray_of
-  stray-remote e = sym (cond-true (eqb remote.0 0) _ _ (eq-eqb remote.0 0 e))
-
-  pub stray-local : (remote.0 ≡ 0 → ⊥) → local.0 ≡ 0 → Unmatched ≡ stray_of remote local
-  unfolding stray_of
-  stray-local e f =
-      sym (cond-false (eqb remote.0 0) _ _ (ne_eqb remote.0 0 e) ∙ cond-true (eqb local.0 0) _ _ (eq-eqb local.0 0 f))
-
-  pub stray-both : (remote.0 ≡ 0 → ⊥) → (local.0 ≡ 0 → ⊥) → StrayReady (record { local = local; remote = remote }) ≡ stray_of remote local
-  unfolding stray_of
-  stray-both e f =
-      sym (cond-false (eqb remote.0 0) _ _ (ne_eqb remote.0 0 e) ∙ cond-false (eqb local.0 0) _ _ (ne_eqb local.0 0 f))
-
   module _ (p : RxPolicy) (n : ℕ) (b : List ℕ) (payload : List ℕ) (i : ℕ) (e : i ≡ place_of (Local local) n (state_of b).slots) where
     pub grant-here : i < n → n ≤ 64 → grant_of p n (state_of b).slots remote local payload ≡ ready_at p i (slot_at b i) remote payload
     unfolding grant_of
