@@ -1,18 +1,18 @@
 -- Laws of the reader: what a number says of a kind, what a frame's bytes say, and that what is used is here. Assumes nothing.
-use Rattle.std.proofs.Common.{◌≡◌, refl, sym, ap, ◌∙◌, true, false, List, ◌++◌, ℕ, ◌+◌, ◌-◌, ◌≤◌, length, arith, Some, None, Result, Ok, Err}
+use Rattle.std.proofs.Common.{◌≡◌, refl, sym, ap, ◌∙◌, true, false, List, ◌++◌, ℕ, ◌+◌, ◌≤◌, length, arith, Some, None, Result, Ok, Err}
 use Rattle.std.specs.Option.{unwrap_or}
 use Rattle.std.proofs.lemmas.Option.{unwrap_or-slice_get}
 use lib.Dec.{ltb, eqb}
-use lib.ListN.{take, drop, get_or-append}
+use lib.ListN.{get_or-append}
 use borrow.Author.Tests.{ltb-true, ltb-false, eqb-true, eqb-false, ne_eqb}
-use Rattle.le.proofs.Parts.{by-test, part-front, lent-part}
-use Rattle.le.specs.Le.{part}
+use Rattle.le.proofs.Parts.{by-test, part-front}
+use Rattle.stream.specs.Here.{ReadHere}
 use Rattle.shell.specs.declared.Kind.{Kind}
 use Rattle.shell.specs.declared.Kind.TheVariants.{Input, Output, Errors, Exit, CloseInput, WindowSize}
 use Rattle.shell.specs.declared.UnknownKind.{UnknownKind}
 use Rattle.shell.specs.declared.Frame.{Frame}
 use Rattle.shell.specs.Kind.{kind_number, kind_from, is_unknown, is_empty_exit, exit_code, code_of}
-use Rattle.shell.specs.Frame.{Read, kind_of, length_of, payload_of, frame_in, headed_of, kinded, read_frame, IsHere, ReadHere, used_of}
+use Rattle.shell.specs.Frame.{Read, kind_of, length_of, payload_of, frame_in, headed_of, kinded, read_frame, DataHere, used_of}
 
 -- ---- kinds and their numbers
 
@@ -138,7 +138,7 @@ used-of s (Ok (Some f)) e = let y = says s f e in let u = ap (λ (x : Frame). x.
 used-of s (Err x) e = omega arith
 
 -- and so is its data
-pub is_here : (s : List ℕ) (r : Read) → r ≡ read_frame s → ReadHere (length s) r
+pub is_here : (s : List ℕ) (r : Read) → r ≡ read_frame s → ReadHere DataHere (length s) r
 is_here s (Ok None) e = tt
 is_here s (Ok (Some f)) e =
     let y = says s f (sym e) in
@@ -150,7 +150,3 @@ is_here s (Err x) e = tt
 
 pub used-within : (s : List ℕ) → used_of (read_frame s) ≤ length s
 used-within s = used-of s (read_frame s) refl
-
--- the data as a call that is lent it sees it
-pub payload_lent : (s : List ℕ) (f : Frame) → IsHere (length s) f → take (f.used - f.at) (drop f.at s) ≡ part s f.at f.length
-payload_lent s f h = ap (λ (n : ℕ). take (n - f.at) (drop f.at s)) (sym h.ends) ∙ lent-part s f.at f.length

@@ -1,7 +1,8 @@
 -- The frames of the shell protocol from bytes (docs/SCOPE.md, 11). Assumes nothing.
-use Rattle.std.specs.Prelude.{ℕ, ◌+◌, ◌≤◌, ◌≡◌, cond, List, ltb, Option, Some, None, Result, Ok, Err, length, get_or}
+use Rattle.std.specs.Prelude.{ℕ, ◌+◌, cond, List, ltb, Option, Some, None, Result, Ok, Err, length, get_or}
 use Rattle.le.specs.Le.{num_of, part}
 use Rattle.refusal.specs.Refusal.{read_number_of}
+use Rattle.stream.specs.Here.{IsHere}
 use Rattle.shell.specs.declared.Kind.{Kind}
 use Rattle.shell.specs.declared.UnknownKind.{UnknownKind}
 use Rattle.shell.specs.declared.Frame.{Frame}
@@ -45,16 +46,9 @@ kinded s (Ok kind) = cond (ltb (length s) 5) (Ok None) (headed_of kind s)
 unfoldable pub read_frame : List ℕ → Read
 read_frame s = cond (ltb (length s) 1) (Ok None) (kinded s (kind_from (kind_of s)))
 
--- a frame's data is the end of the bytes that it uses, and these are among n
-pub record IsHere (n : ℕ) (f : Frame) : Type 0 where
-  pub ends : f.at + f.length ≡ f.used
-  pub within : f.used ≤ n
-
--- of an answer that is a frame
-abbrev pub ReadHere : ℕ → Read → Type 0
-ReadHere n (Ok (Some f)) = IsHere n f
-ReadHere n (Ok None) = Unit {0}
-ReadHere n (Err e) = Unit {0}
+-- a frame's data is here
+abbrev pub DataHere : ℕ → Frame → Type 0
+DataHere n f = IsHere n f.at f.length f.used
 
 -- a refusal's number
 abbrev pub refusal_number : ReadError → ℕ

@@ -6,9 +6,10 @@
 ghost use Rattle.std.specs.Prelude.{◌≡◌, ◌≤◌, length};
 ghost use Rattle.le.specs.Le.{part};
 ghost use Rattle.shell.specs.declared.ReadError.TheVariants.{InvalidKind};
+ghost use Rattle.stream.specs.Here.{ReadHere};
 ghost use Rattle.refusal.specs.declared.WriteError.TheVariants.{Refused};
 ghost use Rattle.shell.specs.Kind.{kind_number, kind_from, is_empty_exit, exit_code};
-ghost use Rattle.shell.specs.Frame.{headed_of, read_frame, IsHere, ReadHere, refusal_number};
+ghost use Rattle.shell.specs.Frame.{headed_of, read_frame, DataHere, refusal_number};
 
 use refusal::{Numbered, WriteError};
 
@@ -106,9 +107,9 @@ pub struct Frame {
 
 impl Frame {
     // Its data, of the bytes that it was read from.
-    #[tactic(auto, using(crate::proofs::ReadLaws::payload_lent))]
+    #[tactic(auto, using(stream::proofs::Here::lent), unfolding(le::specs::Le::part))]
     pub fn payload(self, received: &[u8]) -> &[u8]
-        requires { IsHere (length received.now) self }
+        requires { DataHere (length received.now) self }
         ensures { result.now ≡ part received.now self.at self.length }
     {
         &received[self.at..self.used]
@@ -180,7 +181,7 @@ fn read_headed(kind: Kind, received: &[u8]) -> Result<Option<Frame>, ReadError>
 #[tactic(auto, using(crate::proofs::ReadLaws::is_here), unfolding(crate::specs::Frame::read_frame, crate::specs::Frame::kind_of, crate::specs::Frame::kinded))]
 pub fn read_frame(received: &[u8]) -> Result<Option<Frame>, ReadError>
     ensures answer { result ≡ read_frame received.now }
-    ensures here { ReadHere (length received.now) result }
+    ensures here { ReadHere DataHere (length received.now) result }
 {
     let Some(&first) = received.first() else {
         return Ok(None);

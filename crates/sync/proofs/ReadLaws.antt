@@ -1,25 +1,26 @@
 -- Laws of the reader: what an accepted message's bytes say, that what is used is here, and that fields do not change by what
 -- arrives behind them. Assumes nothing.
-use mathlib.Core.Path.{◌≡◌, refl, sym, ap, ◌∙◌}
+use mathlib.Core.Path.{◌≡◌, refl, sym, ap}
 use mathlib.Core.Bool.{false}
 use mathlib.Core.List.{List, ◌++◌}
-use Prim.Native.Nat.{ℕ, ◌+◌, ◌-◌, ◌≤◌}
+use Prim.Native.Nat.{ℕ, ◌+◌, ◌≤◌}
 use native.Mathlib.Omega.{arith}
 use lib.Dec.{ltb}
-use lib.ListN.{length, take, drop}
+use lib.ListN.{length}
 use borrow.Author.Tests.{ltb-false}
 use Rattle.le.specs.Le.{num_of, part}
-use Rattle.le.proofs.Parts.{by-test, part-front, lent-part}
+use Rattle.le.proofs.Parts.{by-test, part-front}
 use Rattle.exchange.specs.declared.SyncId.{SyncId}
 use Rattle.exchange.specs.declared.StatLayout.{StatLayout}
 use Rattle.exchange.specs.declared.StatLayout.TheVariants.{V1, V2}
 use Rattle.exchange.specs.declared.Layout.{Layout}
 use Rattle.exchange.specs.declared.Layout.TheVariants.{Text, Number, Stat, Entry, End}
 use Rattle.std.specs.Prelude.{Option, Some, None, Ok, Err}
+use Rattle.stream.specs.Here.{ReadHere}
 use Rattle.exchange.specs.declared.Exchange.{Exchange}
 use Rattle.sync.specs.declared.Whole.{Whole}
 use Rattle.exchange.specs.Exchange.{Row, stat_length, head_of, found_of, is_over}
-use Rattle.sync.specs.Message.{stat_of, stat_v2_of, either_of, fields_of, length_of, Answer, whole_of, known_of, named_of, read_message, IsHere, ReadHere, used_of}
+use Rattle.sync.specs.Message.{stat_of, stat_v2_of, either_of, fields_of, length_of, Answer, whole_of, known_of, named_of, read_message, TextHere, used_of}
 
 -- ---- with more behind
 
@@ -126,16 +127,12 @@ used-of x s (Err r) e = omega arith
 used-of x s (Ok (Some w)) e = let a = (says x s w e).known in omega (arith, a.used-is, a.whole)
 
 -- and so is its text
-pub is_here : (s : List ℕ) (id : SyncId) (k : Layout) (r : Answer) → r ≡ known_of s id k → ReadHere (length s) r
+pub is_here : (s : List ℕ) (id : SyncId) (k : Layout) (r : Answer) → r ≡ known_of s id k → ReadHere TextHere (length s) r
 is_here s id k (Ok None) e = tt
 is_here s id k (Err r) e = tt
 is_here s id k (Ok (Some w)) e =
     let a = known-says s id k w (sym e) in
     record { ends = omega (arith, a.at-is, a.length-is, a.used-is); within = omega (arith, a.used-is, a.whole) }
-
--- the text as a call that is lent it sees it
-pub text_lent : (s : List ℕ) (w : Whole) → IsHere (length s) w → take (w.used - w.at) (drop w.at s) ≡ part s w.at w.length
-text_lent s w h = ap (λ (n : ℕ). take (n - w.at) (drop w.at s)) (sym h.ends) ∙ lent-part s w.at w.length
 
 pub used-within : (x : Exchange) (s : List ℕ) → used_of (read_message x s) ≤ length s
 used-within x s = used-of x s (read_message x s) refl

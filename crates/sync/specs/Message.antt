@@ -1,6 +1,7 @@
 -- The sync messages from bytes (SYNC.TXT; docs/SCOPE.md, 10 and 13, where it is silent). Assumes nothing.
-use Rattle.std.specs.Prelude.{ℕ, ◌+◌, ◌≤◌, ◌≡◌, cond, List, ltb, length, Option, Some, None, Result, Ok, Err}
+use Rattle.std.specs.Prelude.{ℕ, ◌+◌, cond, List, ltb, length, Option, Some, None, Result, Ok, Err}
 use Rattle.le.specs.Le.{num_of, signed, part}
+use Rattle.stream.specs.Here.{IsHere}
 use Rattle.exchange.specs.declared.SyncId.{SyncId}
 use Rattle.exchange.specs.declared.Layout.{Layout}
 use Rattle.exchange.specs.declared.StatLayout.{StatLayout}
@@ -105,16 +106,9 @@ named_of s None = Err InvalidId
 unfoldable pub read_message : Exchange → List ℕ → Answer
 read_message x s = cond (ltb (length s) 4) (Ok None) (named_of s (found_of x (num_of (part s 0 4))))
 
--- a message's text is the end of the bytes that it uses, and these are among n
-pub record IsHere (n : ℕ) (w : Whole) : Type 0 where
-  pub ends : w.at + w.length ≡ w.used
-  pub within : w.used ≤ n
-
--- of an answer that is a message
-abbrev pub ReadHere : ℕ → Answer → Type 0
-ReadHere n (Ok (Some w)) = IsHere n w
-ReadHere n (Ok None) = Unit {0}
-ReadHere n (Err e) = Unit {0}
+-- a message's text is here
+abbrev pub TextHere : ℕ → Whole → Type 0
+TextHere n w = IsHere n w.at w.length w.used
 
 -- the number of a refusal
 unfoldable pub error_number : ReadError → ℕ

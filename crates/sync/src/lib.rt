@@ -5,9 +5,10 @@
 
 ghost use Rattle.std.specs.Prelude.{◌≡◌, ◌+◌, ◌≤◌, length};
 ghost use Rattle.le.specs.Le.{part};
+ghost use Rattle.stream.specs.Here.{ReadHere};
 ghost use Rattle.exchange.specs.Exchange.{stat_length, head_of};
 ghost use Rattle.sync.specs.Message.{stat_layout, layout_of, stat_of, stat_v2_of, either_of, fields_of, length_of, known_of};
-ghost use Rattle.sync.specs.Message.{read_message, IsHere, ReadHere, error_number};
+ghost use Rattle.sync.specs.Message.{read_message, TextHere, error_number};
 
 use exchange::{Exchange, Layout, StatLayout, SyncId};
 use refusal::Numbered;
@@ -102,9 +103,9 @@ pub struct Whole {
 
 impl Whole {
     // Its text, of the bytes that it was read from.
-    #[tactic(auto, using(crate::proofs::ReadLaws::text_lent))]
+    #[tactic(auto, using(stream::proofs::Here::lent), unfolding(le::specs::Le::part))]
     pub fn text(self, received: &[u8]) -> &[u8]
-        requires { IsHere (length received.now) self }
+        requires { TextHere (length received.now) self }
         ensures { result.now ≡ part received.now self.at self.length }
     {
         &received[self.at..self.used]
@@ -235,7 +236,7 @@ impl Message {
     #[tactic(auto, using(crate::proofs::ReadLaws::is_here), unfolding(crate::specs::Message::read_message, crate::specs::Message::named_of))]
     pub fn read(exchange: Exchange, received: &[u8]) -> Result<Option<Whole>, ReadError>
         ensures answer { result ≡ read_message exchange received.now }
-        ensures here { ReadHere (length received.now) result }
+        ensures here { ReadHere TextHere (length received.now) result }
     {
         if received.len() < 4 {
             return Ok(None);
