@@ -27,7 +27,7 @@ use Rattle.table_dispatch.specs.declared.DispatchOutcome.{DispatchOutcome}
 use Rattle.table_dispatch.specs.declared.DispatchOutcome.TheVariants.{AckWrite, CreditGranted, SlotClosed, DataBuffered, IncomingOpen, CancelQueuedOpen, StrayReady, ChannelFault, Unmatched}
 use Rattle.table.specs.declared.Want.TheVariants.{Local}
 use Rattle.table.specs.Table.{place_of, slot_in}
-use Rattle.slot.proofs.Wrote.{Wrote}
+use Rattle.slot.specs.Wrote.{Wrote}
 use Rattle.table_dispatch.specs.Dispatch.{stored, buffered_at, remote_place, closed_at, close_of, granted, ready_at, grant_of, Dispatched, wrote_by, wrote_at, write_of, route_of, dispatch_of, Dispatches}
 use Rattle.table_dispatch.proofs.RouteLaws.{by-route}
 use Rattle.call.specs.declared.act.ActedOn.{ActedOn}

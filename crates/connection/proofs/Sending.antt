@@ -26,7 +26,7 @@ use Rattle.slot.specs.declared.ChannelError.{ChannelError}
 use Rattle.slot.specs.declared.ChannelFault.TheVariants.{RxOverflow, BadCredit, UnexpectedCommand}
 use Rattle.slot.specs.declared.ChannelSlot.{ChannelSlot}
 use Rattle.slot.specs.declared.Settled.{Settled as SettledSlot}
-use Rattle.slot.proofs.Wrote.{Wrote}
+use Rattle.slot.specs.Wrote.{Wrote}
 use Rattle.slot.specs.Slot.{with_total, total_with, with_numbers, acked, is_ack, is_opening, is_failed, is_closed, opened_by, opened_of, ready_by, ready_of, held_of, acks_now, buffered_with, wrote_of, some_len, delivered_of, ack_len_of, settled_by, settled_some, settled_of, has_data, taken_of, closed_slot, SlotOk}
 use Rattle.credit.specs.Credit.{credit_of as credit_in}
 use Rattle.slot.proofs.Kept.{pick, ReadiedSound, opened-sound, ready-sound, buffered-sound, closed-sound}

@@ -34,7 +34,7 @@ use Rattle.table.specs.declared.Want.TheVariants.{Local}
 use Rattle.table.specs.Table.{place_of}
 use Rattle.table_dispatch.specs.declared.DispatchOutcome.{DispatchOutcome}
 use Rattle.table_dispatch.specs.declared.DispatchOutcome.TheVariants.{AckWrite, CreditGranted, SlotClosed, DataBuffered, IncomingOpen, CancelQueuedOpen, StrayReady, ChannelFault, Unmatched}
-use Rattle.slot.proofs.Wrote.{Wrote}
+use Rattle.slot.specs.Wrote.{Wrote}
 use Rattle.table_dispatch.specs.Dispatch.{Dispatched, wrote_by, wrote_at, write_of, route_of, dispatch_of}
 use Rattle.connection.specs.declared.Refusal.{Refusal}
 use Rattle.connection.specs.declared.Refusal.TheVariants.{StoreShort, OutShort, BrokenState}

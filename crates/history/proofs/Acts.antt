@@ -21,7 +21,7 @@ use Rattle.slot.specs.declared.ids.LocalId.{LocalId}
 use Rattle.slot.specs.declared.ids.RemoteId.{RemoteId}
 use Rattle.slot.specs.declared.ChannelFault.TheVariants.{RxOverflow}
 use Rattle.slot.specs.declared.ChannelSlot.{ChannelSlot}
-use Rattle.slot.proofs.Wrote.{Wrote, left_by}
+use Rattle.slot.specs.Wrote.{Wrote, left_by}
 use Rattle.slot.specs.Slot.{is_opening, is_closed, buffered_with, is_failed, acks_now, wrote_of, ready_by, ready_of, closed_slot, held_of, SlotOk}
 use Rattle.credit.specs.Credit.{credit_of}
 use Rattle.slot.proofs.Stays.{Stays, stays_same, ReadiedStays, ready-stays, wrote-stays, closed-stays}

@@ -19,7 +19,7 @@ use Rattle.slot.specs.declared.ChannelSlot.{ChannelSlot}
 use Rattle.slot.specs.declared.Settled.{Settled}
 use Rattle.slot.specs.Slot.{with_total, total_with, take_len, opening_slot, opened_by, opened_of, ready_by, ready_of, spent_of, is_opening, acks_now, wrote_of, with_numbers, with_sending, acked, is_closed, held_of, buffered_with, some_len, delivered_of, ack_len_of, settled_by, settled_some, settled_of, took_of, closed_slot}
 use Rattle.credit.specs.Credit.{credit_of}
-use Rattle.slot.proofs.Wrote.{Wrote, left_by}
+use Rattle.slot.specs.Wrote.{Wrote, left_by}
 use Rattle.slot.proofs.Kept.{pick}
 use Rattle.slot.proofs.Laws.{cond-true, cond-false}
 use Rattle.connection.specs.Answer.{ack_length}

@@ -32,7 +32,7 @@ use Rattle.table_dispatch.specs.declared.DispatchOutcome.{DispatchOutcome}
 use Rattle.table_dispatch.specs.declared.DispatchOutcome.TheVariants.{AckWrite, CreditGranted, SlotClosed, DataBuffered, IncomingOpen, CancelQueuedOpen, StrayReady, ChannelFault, Unmatched}
 use Rattle.table.specs.declared.Want.TheVariants.{Local}
 use Rattle.table.specs.Table.{wanted_by, place_of, slot_in}
-use Rattle.slot.proofs.Wrote.{Wrote, left_by}
+use Rattle.slot.specs.Wrote.{Wrote, left_by}
 use Rattle.table_dispatch.specs.Dispatch.{remote_place, closed_at, close_of, readied_of, granted, ready_at, grant_of, Dispatched, wrote_by, wrote_at, write_of, route_of, dispatch_of}
 use Rattle.table_dispatch.proofs.RouteLaws.{by-route}
 use Rattle.connection.specs.declared.Answer.{Answer}

@@ -20,7 +20,7 @@ use Rattle.slot.specs.declared.ids.LocalId.{LocalId}
 use Rattle.slot.specs.declared.ids.RemoteId.{RemoteId}
 use Rattle.slot.specs.declared.ChannelFault.TheVariants.{RxOverflow, BadCredit}
 use Rattle.slot.specs.declared.ChannelSlot.{ChannelSlot}
-use Rattle.slot.proofs.Wrote.{Wrote, left_by}
+use Rattle.slot.specs.Wrote.{Wrote, left_by}
 use Rattle.slot.specs.Slot.{empty_slot, is_opening, is_failed, held_of, acks_now, buffered_with, wrote_of, ready_by, ready_of, closed_slot, SlotOk}
 use Rattle.credit.specs.Credit.{credit_of}
 use Rattle.slot.proofs.Kept.{pick}

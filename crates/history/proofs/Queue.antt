@@ -44,7 +44,7 @@ use Rattle.table_dispatch.specs.declared.DispatchOutcome.{DispatchOutcome}
 use Rattle.table_dispatch.specs.declared.DispatchOutcome.TheVariants.{AckWrite, CreditGranted, SlotClosed, DataBuffered, IncomingOpen, CancelQueuedOpen, StrayReady, ChannelFault, Unmatched}
 use Rattle.table.specs.declared.Want.TheVariants.{Local, Remote}
 use Rattle.table.specs.Table.{first, wanted_by, place_of, slot_in, allocated}
-use Rattle.slot.proofs.Wrote.{Wrote}
+use Rattle.slot.specs.Wrote.{Wrote}
 use Rattle.table_dispatch.specs.Dispatch.{buffered_at, stored, named_place, remote_place, closed_at, close_of as table_close, granted, ready_at, stray_of, grant_of, Dispatched, wrote_by, wrote_at, write_of as table_write, route_of, dispatch_of as table_dispatch}
 use Rattle.table_dispatch.proofs.DispatchLaws.{named-found}
 use Rattle.table_dispatch.proofs.KeepLaws.{dispatch-keeps}

@@ -18,6 +18,7 @@ use Rattle.slot.specs.declared.ChannelFault.{ChannelFault}
 use Rattle.credit.specs.Credit.{credit_number, credit_of}
 use Rattle.slot.specs.Numbers.{decision_number, taken_number}
 use Rattle.slot.specs.Slot.{accepted_slot, is_closed, wrote_of, settled_of, taken_of}
+use Rattle.slot.specs.Wrote.{left_by}
 use Rattle.state.specs.declared.Header.{Header}
 use Rattle.state.specs.declared.Pending.TheVariants.{Nothing as NothingPending}
 use Rattle.state.specs.declared.QueuedOpen.{QueuedOpen}
@@ -124,11 +125,6 @@ budget payload =
 -- M8, step by step: a WRTE of 6, a settling of 4
 abbrev six : Result Settled ChannelFault
 six = wrote_of channel ten 6
-
--- the slot that a WRTE leaves: its own, where it is refused
-abbrev left_by : ChannelSlot → Result Settled ChannelFault → ChannelSlot
-left_by s (Ok w) = w.slot
-left_by s (Err f) = s
 
 abbrev four : Settled
 four = settled_of (left_by channel six) ten 4

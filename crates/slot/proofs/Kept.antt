@@ -17,7 +17,7 @@ use Rattle.slot.specs.declared.ids.ChannelIds.{ChannelIds}
 use Rattle.slot.specs.declared.ChannelSlot.{ChannelSlot}
 use Rattle.slot.specs.declared.ChannelFault.{ChannelFault}
 use Rattle.slot.specs.declared.Settled.{Settled}
-use Rattle.slot.proofs.Wrote.{Wrote, left_by}
+use Rattle.slot.specs.Wrote.{Wrote, left_by}
 use Rattle.slot.specs.Slot.{opening_slot, accepted_slot, opened_of, opened_by, ready_of, ready_by, held_of, is_opening, acks_now, buffered_with, wrote_of, delivered_of, ack_len_of, settled_by, settled_some, settled_of, take_len, took_of, taken_of, has_data, is_closed, budget_of, reserved_by, reserved_of, spent_of, refunded_of, closed_slot, failed_slot, slot_ok, SlotOk}
 use Rattle.credit.specs.Credit.{credit_of}
 use Rattle.slot.proofs.Laws.{take-held, take-room}

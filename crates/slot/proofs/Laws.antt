@@ -22,7 +22,7 @@ use Rattle.slot.specs.Slot.{with_state, with_remote, with_sending, with_numbers,
 use Rattle.credit.specs.Credit.{credit_of}
 use Rattle.std.specs.Prelude.{Option, Some, None, Ok, Err, is_some}
 use Rattle.slot.specs.declared.ChannelFault.TheVariants.{RxOverflow, UnexpectedCommand}
-use Rattle.slot.proofs.Wrote.{Wrote}
+use Rattle.slot.specs.Wrote.{Wrote}
 
 -- a choice by a test that is known
 module _ {A : Type 0} where

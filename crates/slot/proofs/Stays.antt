@@ -15,7 +15,7 @@ use Rattle.saturate.proofs.Laws.{held_fits}
 use Rattle.config.specs.declared.negotiated.RxPolicy.{RxPolicy}
 use Rattle.slot.specs.declared.ChannelSlot.{ChannelSlot}
 use Rattle.slot.specs.declared.Settled.{Settled}
-use Rattle.slot.proofs.Wrote.{Wrote, left_by}
+use Rattle.slot.specs.Wrote.{Wrote, left_by}
 use Rattle.slot.specs.Slot.{with_total, total_with, ready_of, ready_by, held_of, is_opening, acks_now, buffered_with, wrote_of, delivered_of, ack_len_of, settled_by, settled_some, settled_of, took_of, with_numbers, spent_of, closed_slot}
 use Rattle.credit.specs.Credit.{credit_of, at_least_zero}
 use Rattle.slot.proofs.Kept.{pick}

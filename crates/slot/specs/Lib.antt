@@ -1,3 +1,4 @@
 pub mod Ids
 pub mod Numbers
 pub mod Slot
+pub mod Wrote

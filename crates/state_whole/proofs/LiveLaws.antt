@@ -11,7 +11,7 @@ use Rattle.config.specs.Negotiated.{policy_of}
 use Rattle.slot.specs.declared.ChannelSlot.{ChannelSlot}
 use Rattle.slot.specs.declared.ids.LocalId.{LocalId}
 use Rattle.slot.specs.declared.ids.RemoteId.{RemoteId}
-use Rattle.slot.proofs.Wrote.{left_by}
+use Rattle.slot.specs.Wrote.{left_by}
 use Rattle.slot.specs.Slot.{opening_slot, accepted_slot, opened_of, opened_by, ready_of, is_opening, is_failed, wrote_of, delivered_of, settled_of, take_len, taken_of, has_data, is_closed, spent_of, closed_slot, SlotOk}
 use Rattle.credit.specs.Credit.{credit_of}
 use Rattle.slot.proofs.Kept.{pick, ReadiedSound, ready-sound, wrote-sound, delivered-sound, settled-sound, took-sound, spent-sound, closed-sound}

@@ -20,7 +20,7 @@ use Rattle.slot.specs.declared.ChannelSlot.{ChannelSlot}
 use Rattle.credit.specs.declared.CreditFault.{CreditFault}
 use Rattle.slot.specs.declared.ChannelFault.TheVariants.{BadCredit}
 use Rattle.slot.specs.declared.Settled.{Settled}
-use Rattle.slot.proofs.Wrote.{Wrote}
+use Rattle.slot.specs.Wrote.{Wrote}
 use Rattle.slot.specs.Slot.{empty_slot, is_opening, is_failed, closed_slot, held_of, wrote_of, SlotOk}
 use Rattle.slot.proofs.Laws.{cond-true, cond-false}
 use Rattle.slot.proofs.Kept.{pick}

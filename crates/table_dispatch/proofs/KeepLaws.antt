@@ -17,7 +17,7 @@ use Rattle.protocol.specs.declared.packet.Packet.{Packet}
 use Rattle.slot.specs.declared.ids.LocalId.{LocalId}
 use Rattle.slot.specs.declared.ids.RemoteId.{RemoteId}
 use Rattle.slot.specs.declared.ChannelSlot.{ChannelSlot}
-use Rattle.slot.proofs.Wrote.{Wrote, left_by}
+use Rattle.slot.specs.Wrote.{Wrote, left_by}
 use Rattle.slot.specs.Slot.{empty_slot, is_opening, is_failed, closed_slot, held_of, acks_now, wrote_of}
 use Rattle.slot.proofs.Kept.{pick}
 use Rattle.state.specs.declared.Header.{Header}

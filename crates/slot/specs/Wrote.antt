@@ -4,6 +4,7 @@ use Rattle.slot.specs.declared.ChannelFault.{ChannelFault}
 use Rattle.slot.specs.declared.ChannelSlot.{ChannelSlot}
 use Rattle.slot.specs.declared.Settled.{Settled}
 
+-- the slot and its acknowledgement, or why the WRTE is refused
 abbrev pub Wrote : Type 0
 Wrote = Result Settled ChannelFault
 
