@@ -25,7 +25,8 @@ use Rattle.connection.specs.Calls.{Lent, dropped, is_there, slot_for}
 use Rattle.call.specs.Promise.{lent_of, agreed_in, found_in, AdmitsState}
 use Rattle.call.proofs.AdmitLaws.{admits-facts}
 use Rattle.connection.proofs.WholeWork.{there-live}
-use Rattle.std.specs.Prelude.{Option, Some, None}
+use Rattle.std.specs.Option.{unwrap_or}
+use Rattle.std.specs.Prelude.{is_some, Option, Some, None}
 
 -- a place that is there is one of n
 pub there-below : (n : ℕ) (ss : List ChannelSlot) (ch : ChannelId) → there_in n ss ch ≡ true → ch.slot < n
@@ -33,17 +34,9 @@ there-below n ss ch e = ltb-true ch.slot n (and-true (ltb ch.slot n) _ e).0
 
 -- ---- what was found
 
-abbrev is_found : Option ChannelSlot → Bool
-is_found (Some s) = true
-is_found None = false
-
-abbrev slot_of : Option ChannelSlot → ChannelSlot
-slot_of (Some s) = s
-slot_of None = empty_slot
-
-there-found : (n : ℕ) (ss : List ChannelSlot) (ch : ChannelId) → is_found (found_in n ss ch) ≡ there_in n ss ch
+there-found : (n : ℕ) (ss : List ChannelSlot) (ch : ChannelId) → is_some (found_in n ss ch) ≡ there_in n ss ch
 unfolding found_in
-there-found n ss ch = pick (λ (x : Option ChannelSlot). is_found x ≡ there_in n ss ch) (there_in n ss ch) (λ t. sym t) (λ t. sym t)
+there-found n ss ch = pick (λ (x : Option ChannelSlot). is_some x ≡ there_in n ss ch) (there_in n ss ch) (λ t. sym t) (λ t. sym t)
 
 -- what `get` answers, from the slot at the place
 module _ (b : List ℕ) (n : ℕ) (ch : ChannelId) (few : n ≤ 64) where
@@ -77,19 +70,19 @@ module _ (state rx store : List ℕ) (h : Header) (i : h ≡ dropped (state_of s
   there-is ch = ap (λ (x : Header). there_in x.negotiated.config.channels (state_of state).slots ch) i
 
   module _ (ch : ChannelId) (found : Option ChannelSlot) (e : found ≡ found_in h.negotiated.config.channels (state_of state).slots ch) where
-    found-is : is_there lent ch ≡ is_found found
-    found-is = sym (there-is ch) ∙ sym (there-found _ _ ch) ∙ ap is_found (sym e)
+    found-is : is_there lent ch ≡ is_some found
+    found-is = sym (there-is ch) ∙ sym (there-found _ _ ch) ∙ ap is_some (sym e)
 
     pub found_none : found ≡ None → is_there lent ch ≡ false
-    found_none f = found-is ∙ ap is_found f
+    found_none f = found-is ∙ ap is_some f
 
     module _ (s : ChannelSlot) (f : found ≡ (Some s)) where
       pub found-there : is_there lent ch ≡ true
-      found-there = found-is ∙ ap is_found f
+      found-there = found-is ∙ ap is_some f
 
       pub found-slot : s ≡ slot_for lent ch
       unfolding slot_for found_in
-      found-slot = ap slot_of (sym f ∙ e ∙ cond-true (there_in h.negotiated.config.channels (state_of state).slots ch) _ _ (there-is ch ∙ found-there))
+      found-slot = ap (λ x. unwrap_or x empty_slot) (sym f ∙ e ∙ cond-true (there_in h.negotiated.config.channels (state_of state).slots ch) _ _ (there-is ch ∙ found-there))
 
   module _ (out : ℕ) (g : AdmitsState state out) where
     pub limits : Within h.negotiated.config
@@ -108,6 +101,10 @@ module _ (state rx store : List ℕ) (h : Header) (i : h ≡ dropped (state_of s
           let k = few in
           let p = there-below _ _ ch (there-is ch ∙ e) in
           omega arith
+
+      -- what reading or storing its slot asks
+      pub slot-fits : (ch.slot < 64) × (state_len ≤ length state)
+      slot-fits = (place-fits, g.state-fits)
 
       pub slot_is : slot_at state ch.slot ≡ slot_for lent ch
       unfolding slot_for slot_in

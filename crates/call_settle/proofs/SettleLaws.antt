@@ -2,7 +2,7 @@
 use mathlib.Core.Path.{◌≡◌, refl, sym, ap, subst, ◌∙◌}
 use mathlib.Core.Bool.{true, false}
 use mathlib.Core.List.{List, [], ◌∷◌}
-use Prim.Native.Nat.{ℕ, ◌≤◌, ◌<◌}
+use Prim.Native.Nat.{ℕ, ◌≤◌}
 use native.Mathlib.Omega.{arith}
 use lib.ListN.{length}
 use Rattle.config.specs.declared.negotiated.RxPolicy.{RxPolicy}
@@ -14,29 +14,23 @@ use Rattle.slot.specs.Slot.{settled_of}
 use Rattle.slot.proofs.Laws.{cond-true, cond-false}
 use Rattle.state.specs.declared.Header.{Header}
 use Rattle.state.specs.Change.{slot_to}
-use Rattle.state.specs.State.{state_len, state_of, put_slot, put_header}
+use Rattle.state.specs.State.{state_of, put_slot, put_header}
 use Rattle.table.specs.declared.ChannelId.{ChannelId}
 use Rattle.connection.specs.declared.Answer.TheVariants.{Settled, Refused}
 use Rattle.connection.specs.declared.Refusal.TheVariants.{ChannelClosed}
 use Rattle.call.specs.declared.Reply.{Reply}
 use Rattle.connection.specs.Calls.{Lent, Outcome, dropped, policy, is_there, slot_for, ack_frames, settled_as, settle_step}
 use Rattle.connection.specs.Frames.{frames_bytes}
-use Rattle.call.specs.Promise.{lent_of, agreed_in, Leaves, AdmitsState}
+use Rattle.call.specs.Promise.{lent_of, agreed_in, Leaves}
 use Rattle.call.proofs.FrameLaws.{ack-short}
 use Rattle.call.proofs.LeaveLaws.{did-begun, did_then, did-stops, stops-leaves}
-use Rattle.call.proofs.ThereLaws.{place-fits}
 
-module _ (state rx store : List ℕ) (room : ℕ) (h : Header) (i : h ≡ dropped (state_of state).header) (g : AdmitsState state room) (ch : ChannelId)
-    (e : is_there (lent_of state rx store) ch ≡ true) where
+module _ (state rx store : List ℕ) (h : Header) (i : h ≡ dropped (state_of state).header) (ch : ChannelId) (e : is_there (lent_of state rx store) ch ≡ true) where
   abbrev lent : Lent
   lent = lent_of state rx store
 
   abbrev head : Header
   head = dropped (state_of state).header
-
-  -- what reading the slot asks
-  pub slot-fits : (ch.slot < 64) × (state_len ≤ length state)
-  slot-fits = (place-fits state rx store h i room g ch e, g.state-fits)
 
   pub settle-leaves : (out : List ℕ) (s : ChannelSlot) (p : RxPolicy) (want : ℕ) (t : SettledSlot) (r : Reply) (end : ℕ) (out' state₁ : List ℕ) → 56 ≤ length out
       → s ≡ slot_for lent ch → p ≡ policy_of h.negotiated → t ≡ settled_of s p want → Puts out 0 (frames_bytes h.negotiated (ack_frames t.slot t.ack)) end out'

@@ -2,7 +2,7 @@
 use mathlib.Core.Path.{◌≡◌, refl, sym, ap, subst, ◌∙◌}
 use mathlib.Core.Bool.{true, false}
 use mathlib.Core.List.{List, []}
-use Prim.Native.Nat.{ℕ, ◌+◌, ◌*◌, ◌≤◌, ◌<◌}
+use Prim.Native.Nat.{ℕ, ◌+◌, ◌*◌, ◌≤◌}
 use native.Mathlib.Omega.{arith}
 use lib.ListN.{length}
 use Rattle.le.specs.Le.{put}
@@ -14,7 +14,7 @@ use Rattle.slot.specs.Slot.{SlotOk, taken_of}
 use Rattle.slot.proofs.Kept.{TakenSound, taken-sound}
 use Rattle.slot.proofs.Laws.{cond-true, cond-false}
 use Rattle.state.specs.declared.Header.{Header}
-use Rattle.state.specs.State.{state_len, state_of, put_slot, put_header}
+use Rattle.state.specs.State.{state_of, put_slot, put_header}
 use Rattle.table.specs.declared.ChannelId.{ChannelId}
 use Rattle.rx_store.specs.RxStore.{ShareFits, front_of}
 use Rattle.rx_store.proofs.ShareLaws.{share_in, front-short}
@@ -25,7 +25,7 @@ use Rattle.call.specs.declared.Reply.{Reply}
 use Rattle.connection.specs.Calls.{Lent, Outcome, begun, ends, dropped, policy, is_there, slot_for, error_refusal, taken_by, take_step}
 use Rattle.call.specs.Promise.{lent_of, agreed_in, Leaves, AdmitsState}
 use Rattle.call.proofs.LeaveLaws.{did-begun, did-slot, did-ends, stops-leaves}
-use Rattle.call.proofs.ThereLaws.{place-fits, lives}
+use Rattle.call.proofs.ThereLaws.{lives}
 use Rattle.std.specs.Prelude.{Option, Some, None, Result, Ok, Err}
 
 module _ (state rx store : List ℕ) (room : ℕ) (h : Header) (i : h ≡ dropped (state_of state).header) (g : AdmitsState state room) (ch : ChannelId)
@@ -35,10 +35,6 @@ module _ (state rx store : List ℕ) (room : ℕ) (h : Header) (i : h ≡ droppe
 
   abbrev head : Header
   head = dropped (state_of state).header
-
-  -- what reading the slot asks
-  pub slot-fits : (ch.slot < 64) × (state_len ≤ length state)
-  slot-fits = (place-fits state rx store h i room g ch e, g.state-fits)
 
   module _ (s : ChannelSlot) (cap : ℕ) (a : s ≡ slot_for lent ch) (b : cap ≡ cap_of h.negotiated.config) where
     cap-is : cap ≡ (policy lent).rx_cap

@@ -1,6 +1,6 @@
 use mathlib.Core.List.{[]}
-use Rattle.call_settle.proofs.SettleLaws.{slot-fits, settle-leaves, settle-refuses}
-use Rattle.call.proofs.ThereLaws.{found_none, found-there, found-slot, limits, looks}
+use Rattle.call_settle.proofs.SettleLaws.{settle-leaves, settle-refuses}
+use Rattle.call.proofs.ThereLaws.{found_none, found-there, found-slot, limits, looks, slot-fits}
 use native.Mathlib.Omega.{arith}
 use Rattle.call_settle.proofs.settle_step.Goals as goal
 
@@ -15,13 +15,13 @@ put_ack-end-requires c = let k = c.requires.0.room in λ e. omega arith
 
 pub ends_with-requires : goal.ends_with-requires
 ends_with-requires c =
-    slot-fits c.args.state.now [] [] _ c.args.h c.requires.1 c.requires.0
+    slot-fits c.args.state.now [] [] c.args.h c.requires.1 _ c.requires.0
     c.args.ch (found-there c.args.state.now [] [] c.args.h c.requires.1
     c.args.ch c.get.result c.get.ensures _ c.in-Some.is)
 
 pub returns-in-Some : goal.returns-in-Some
 returns-in-Some c =
-    λ rx store. settle-leaves c.args.state.now rx store _ c.args.h c.requires.1 c.requires.0
+    λ rx store. settle-leaves c.args.state.now rx store c.args.h c.requires.1
     c.args.ch (found-there c.args.state.now rx store c.args.h c.requires.1
     c.args.ch c.get.result c.get.ensures _ c.in-Some.is) _ _ c.rx_policy.result _
     c.settle_take-settled.result _ _ _ _ c.requires.0.room

@@ -2,7 +2,8 @@ use mathlib.Core.List.{[]}
 use mathlib.Core.Path.{◌≡◌}
 use borrow.Author.Rules.{rules}
 use Rattle.std.specs.Prelude.{Ok, Some, None}
-use Rattle.call_take.proofs.TakeLaws.{slot-fits, take-ok, hand-room, take-data, take-nothing, take-closed}
+use Rattle.call.proofs.ThereLaws.{slot-fits}
+use Rattle.call_take.proofs.TakeLaws.{take-ok, hand-room, take-data, take-nothing, take-closed}
 use Rattle.call_take.proofs.take_there.Goals as goal
 
 pub take_buffered-requires : goal.take_buffered-requires
@@ -19,7 +20,7 @@ hand_over-requires c =
 
 pub ends_with-requires : goal.ends_with-requires
 ends_with-requires c =
-    slot-fits c.args.state.now c.args.rx.now [] 56 c.args.h c.requires.0.1 c.requires.0.0
+    slot-fits c.args.state.now c.args.rx.now [] c.args.h c.requires.0.1 56 c.requires.0.0
     c.args.ch (c.requires.2 [])
 
 pub returns-in-Ok-Some : goal.returns-in-Ok-Some
