@@ -4,7 +4,7 @@ use Prim.Native.Nat.{ℕ}
 use mathlib.Core.Path.{◌≡◌, refl}
 use mathlib.Core.Bool.{true, false}
 use mathlib.Core.List.{List, [], ◌∷◌, ◌++◌, map}
-use lib.ListN.{length, take, set, get_or, replicate}
+use lib.ListN.{take, set, get_or, replicate}
 use Rattle.config.specs.declared.negotiated.Negotiated.{Negotiated}
 use Rattle.state.specs.Change.{changed_all}
 use Rattle.table.specs.declared.ChannelId.{ChannelId}
@@ -30,6 +30,7 @@ use Rattle.incoming.specs.Incoming.{queued_as, queued_opens, named, free_from, f
 use Rattle.connection.specs.Frames.{frame_bytes, frames_bytes}
 use Rattle.connection.specs.Act.{pushed_by, acted_by, table_of, act_on}
 use Rattle.connection.specs.Answer.{answer_number, ack_length, refusal_word, answer_values}
+use Rattle.connection.proofs.RunFrames.{OPEN, OKAY, WRTE, CLSE}
 
 pub data Call : Type 0 where
   queue : List ℕ → List ℕ → Call
@@ -83,22 +84,6 @@ given l (s ∷ ss) =
 -- a made connection, with stores of zeros
 abbrev start : Negotiated → Lent
 start n = record { state = fresh n; rx = replicate (rx_store_len n.config) 0; store = replicate (open_store_len n.config) 0 }
-
--- a frame, its check left out
-abbrev frame : List ℕ → List ℕ → ℕ → ℕ → List ℕ → List ℕ
-frame letters magic a b bytes = letters ++ a ∷ 0 ∷ 0 ∷ 0 ∷ b ∷ 0 ∷ 0 ∷ 0 ∷ length bytes ∷ 0 ∷ 0 ∷ 0 ∷ 0 ∷ 0 ∷ 0 ∷ 0 ∷ magic ++ bytes
-
-abbrev OPEN : ℕ → ℕ → List ℕ → List ℕ
-OPEN = frame (0x4f ∷ 0x50 ∷ 0x45 ∷ 0x4e ∷ []) (0xb0 ∷ 0xaf ∷ 0xba ∷ 0xb1 ∷ [])
-
-abbrev OKAY : ℕ → ℕ → List ℕ → List ℕ
-OKAY = frame (0x4f ∷ 0x4b ∷ 0x41 ∷ 0x59 ∷ []) (0xb0 ∷ 0xb4 ∷ 0xbe ∷ 0xa6 ∷ [])
-
-abbrev WRTE : ℕ → ℕ → List ℕ → List ℕ
-WRTE = frame (0x57 ∷ 0x52 ∷ 0x54 ∷ 0x45 ∷ []) (0xa8 ∷ 0xad ∷ 0xab ∷ 0xba ∷ [])
-
-abbrev CLSE : ℕ → ℕ → List ℕ → List ℕ
-CLSE = frame (0x43 ∷ 0x4c ∷ 0x53 ∷ 0x45 ∷ []) (0xbc ∷ 0xb3 ∷ 0xac ∷ 0xba ∷ [])
 
 -- 2 channels, cap 8; the device takes payloads of 4
 abbrev delayed : Negotiated

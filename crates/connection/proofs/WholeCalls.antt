@@ -1,12 +1,12 @@
 -- Every call leaves a whole state and does not answer refusal 13. Assumes nothing.
 use mathlib.Core.Path.{◌≡◌, refl, sym, subst}
-use mathlib.Core.Bool.{Bool, true, false, not, ◌&&◌}
+use mathlib.Core.Bool.{Bool, true, false, ◌&&◌}
 use mathlib.Core.List.{List, [], ◌∷◌}
 use Prim.Native.Nat.{ℕ, ◌+◌, ◌^◌, ◌≤◌, ◌<◌}
 use native.Mathlib.Omega.{arith}
 use lib.Dec.{ltb, eqb}
 use lib.ListN.{length, set}
-use borrow.Author.Tests.{ltb-true}
+use borrow.Author.Tests.{ltb-true, not-true}
 use Rattle.le.specs.Le.{unsigned, Bytes}
 use Rattle.config.specs.Negotiated.{policy_of}
 use Rattle.config.proofs.Laws.{and-true, sound}
@@ -216,10 +216,6 @@ module _ (l : Lent) (g : Whole (negotiated l) l.state.header l.state.slots l.sta
   not-filled : (s : ChannelSlot) → wanted_by Empty s ≡ true → s.filled ≡ false
   unfolding wanted_by
   not-filled s e = not-true s.filled e
-    where
-      not-true : (b : Bool) → not b ≡ true → b ≡ false
-      not-true true f = never f
-      not-true false f = refl
 
   allocated-free : AllocatedFree (allocated l.state.header l.state.slots)
   unfolding allocated

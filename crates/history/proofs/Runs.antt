@@ -31,6 +31,7 @@ use Rattle.table_dispatch.specs.Dispatch.{named_place, remote_place, closed_at, 
 use Rattle.connection.specs.Frames.{frame_bytes, frames_bytes}
 use Rattle.connection.specs.Act.{acted_by, table_of, act_on}
 use Rattle.connection.specs.Answer.{answer_number, ack_length, refusal_word, answer_values}
+use Rattle.connection.proofs.RunFrames.{OPEN, OKAY, WRTE, CLSE}
 use Rattle.connection.specs.Calls.{written_by, ends, checked, checked_out, is_there, slot_for, ack_frames, unless_fault, received_by, received_of, fresh, make_of, dispatch_by, dispatch_step, settled_as, settle_step, taken_by, take_step, reread, read_settled, read_acted, is_direct, read_direct, read_by, read_taken, read_first, read_step, send_len, send_some, send_by, send_again, write_readied, write_acted, write_act, write_by, write_first, write_on, write_step, close_step, open_on, still_pending, open_readied, open_acted, open_by, open_step, open_outcome, dispatch_outcome, settle_outcome, take_outcome, read_outcome, write_outcome, close_outcome}
 use Rattle.history.specs.Run.{World, Call, open_call, dispatch_call, settle_call, take_call, read_call, write_call, close_call, Start, begins, policy_in, bytes_in, out_of, buf_of, outcome, after, after_all, made}
 use Rattle.history.specs.Seen.{Event, seen_of, held_of, said_by, count_of, sent_by, sent_in, seen_in, events_of}
@@ -144,22 +145,6 @@ writes i n bytes received = write_call (some 56) (channel i n) bytes received
 
 abbrev closes : ℕ → ℕ → Call
 closes i n = close_call (some 56) (channel i n)
-
--- a frame, its check left out
-abbrev frame : List ℕ → List ℕ → ℕ → ℕ → List ℕ → List ℕ
-frame letters magic a b bytes = letters ++ a ∷ 0 ∷ 0 ∷ 0 ∷ b ∷ 0 ∷ 0 ∷ 0 ∷ length bytes ∷ 0 ∷ 0 ∷ 0 ∷ 0 ∷ 0 ∷ 0 ∷ 0 ∷ magic ++ bytes
-
-abbrev OPEN : ℕ → ℕ → List ℕ → List ℕ
-OPEN = frame (0x4f ∷ 0x50 ∷ 0x45 ∷ 0x4e ∷ []) (0xb0 ∷ 0xaf ∷ 0xba ∷ 0xb1 ∷ [])
-
-abbrev OKAY : ℕ → ℕ → List ℕ → List ℕ
-OKAY = frame (0x4f ∷ 0x4b ∷ 0x41 ∷ 0x59 ∷ []) (0xb0 ∷ 0xb4 ∷ 0xbe ∷ 0xa6 ∷ [])
-
-abbrev WRTE : ℕ → ℕ → List ℕ → List ℕ
-WRTE = frame (0x57 ∷ 0x52 ∷ 0x54 ∷ 0x45 ∷ []) (0xa8 ∷ 0xad ∷ 0xab ∷ 0xba ∷ [])
-
-abbrev CLSE : ℕ → ℕ → List ℕ → List ℕ
-CLSE = frame (0x43 ∷ 0x4c ∷ 0x53 ∷ 0x45 ∷ []) (0xbc ∷ 0xb3 ∷ 0xac ∷ 0xba ∷ [])
 
 -- a credit below 256
 abbrev credit : ℕ → List ℕ

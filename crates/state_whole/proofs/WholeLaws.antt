@@ -9,7 +9,7 @@ use native.Mathlib.Omega.{arith}
 use lib.Dec.{ltb, eqb}
 use lib.ListN.{length, take, get_or, set, length-set, length-append}
 use lib.Seq.{get_or-set_same, get_or-set_other}
-use borrow.Author.Tests.{eqb-true, eqb-false, ne_eqb, lt-ltb, le-leb, ltb-true, leb-true}
+use borrow.Author.Tests.{eqb-true, eqb-false, ne_eqb, lt-ltb, le-leb, ltb-true, leb-true, not-true}
 use Rattle.le.proofs.Parts.{by-test}
 use Rattle.config.specs.declared.negotiated.Negotiated.{Negotiated}
 use Rattle.config.specs.Config.{Within, cap_of}
@@ -284,10 +284,6 @@ module _ (n : Negotiated) (c : Connection) (g : Whole n c.header c.slots c.queue
 
 -- ---- a whole state has the facts
 
-not-false : (t : Bool) → not t ≡ true → t ≡ false
-not-false true e = never e
-not-false false e = refl
-
 module _ (n : Negotiated) (k : Within n.config) where
   live_facts : (i : ℕ) (s : ChannelSlot) → SlotFits s → s.filled ≡ true → (ltb i n.config.channels && filled_ok s (cap_of n.config)) ≡ true → Live n i s
   unfolding filled_ok policy_of
@@ -299,8 +295,8 @@ module _ (n : Negotiated) (k : Within n.config) where
       record {
         filled = t;
         place = ltb-true i n.config.channels e₄.0;
-        opening = not-false (is_opening s.state) e₁.0;
-        failed = not-false (is_failed s.failed) e₁.1;
+        opening = not-true (is_opening s.state) e₁.0;
+        failed = not-true (is_failed s.failed) e₁.1;
         remote = e₂.1;
         ok = sound s (cap_of n.config) (limits-sound n.config k).cap-small e₃.1;
         fits = f;
@@ -327,7 +323,7 @@ header-facts h f e =
     let e₃ = and-true _ _ e₄.0 in
     let e₂ = and-true _ _ e₃.0 in
     let e₁ = and-true _ _ e₂.0 in
-    let z = eqb-false h.next_local 0 (not-false (eqb h.next_local 0) e₃.1) in (
+    let z = eqb-false h.next_local 0 (not-true (eqb h.next_local 0) e₃.1) in (
       record { within = within h.negotiated.config e₁.0; payload = leb-true _ _ e₁.1; version = leb-true _ _ e₂.1 },
       record { negotiated = refl; next-some = some h.next_local z; next_fits = f.next; place-fits = f.place; local_fits = f.local; queue-fits = leb-true _ _ e₄.1 },
     )
@@ -340,7 +336,7 @@ pending-facts : (h : Header) (ss : List ChannelSlot) → pending_fine h (filled_
 unfolding pending_fine
 pending-facts h ss e t =
     let k = and-true (ltb h.pending.slot h.negotiated.config.channels) _ (sym (cond-true (is_ours h.pending.what) _ true t) ∙ e) in
-    record { place = ltb-true _ _ k.0; empty = sym (filled-in ss h.pending.slot) ∙ not-false (filled_at ss h.pending.slot) k.1 }
+    record { place = ltb-true _ _ k.0; empty = sym (filled-in ss h.pending.slot) ∙ not-true (filled_at ss h.pending.slot) k.1 }
 
 offer-facts : (h : Header) (os : List QueuedOpen) → offer_fine h os ≡ true → is_offer h.pending.what ≡ true → OfferWhole h.negotiated h.queued os
 unfolding offer_fine
