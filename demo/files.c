@@ -7,7 +7,7 @@
  * simulated here: it speaks frames and reads requests and writes replies by adb_sync.h too. What either end sends arrives cut
  * at random places, messages and frames alike.
  */
-#include "common.h"
+#include "queue.h"
 
 #include <adb_sync.h>
 
@@ -24,38 +24,6 @@
 #define SENT PATH ",33188" /* a SEND's text: the mode in decimal */
 #define TIME 1700000000
 #define WHY "No such file or directory"
-
-/* ---- queues of bytes: what is there stands from `from` to `len` */
-
-struct queue {
-    uint8_t *at;
-    size_t from, len, room;
-};
-
-static const uint8_t *front(const struct queue *q) { return q->at ? q->at + q->from : NULL; }
-static size_t count(const struct queue *q) { return q->len - q->from; }
-
-static void add(struct queue *q, const void *bytes, size_t n)
-{
-    if (q->from > q->len / 2) {
-        memmove(q->at, q->at + q->from, count(q));
-        q->len -= q->from;
-        q->from = 0;
-    }
-    if (q->len + n > q->room) {
-        q->room = 2 * (q->len + n);
-        q->at = realloc(q->at, q->room);
-        if (!q->at) die("no memory", q->room, 0);
-    }
-    if (n) memcpy(q->at + q->len, bytes, n);
-    q->len += n;
-}
-
-static void drop(struct queue *q, size_t n)
-{
-    if (n > count(q)) die("used more than has arrived", n, count(q));
-    q->from += n;
-}
 
 /* ---- a run's memory */
 
@@ -315,12 +283,6 @@ static void host_looks(uint32_t size)
 }
 
 /* ---- a run */
-
-static void empty(struct queue *q)
-{
-    free(q->at);
-    memset(q, 0, sizeof *q);
-}
 
 static void run(int with_delayed, uint64_t seed, size_t size)
 {

@@ -4,119 +4,20 @@
  *
  * A live connection is built by a short run of calls, in both modes, with and without an open that waits. Then each call is
  * made on random state bytes; on the state with each single byte changed, and with numbers at and past their limits; and with
- * every buffer one byte short. Expected is what the scope document says, from a test of a whole state that is written here
- * again after docs/LAYOUT.md:
+ * every buffer one byte short. Expected is what the scope document says, from a test of a whole state that is written again
+ * in lent.h after docs/LAYOUT.md:
  *   8 for a short state or answer, with nothing touched; else 13 if and only if the bytes are not a whole state; else 8 for a
  *   short store; else 9 for a short outgoing buffer; each with nothing changed but the answer, which is all 0.
  * After any other answer only what the call may change has changed, and the state is whole.
  */
-#include "../demo/common.h"
+#include "lent.h"
 
-#include <adb.h>
-
-#include <inttypes.h>
-#include <stdio.h>
-#include <stdlib.h>
-#include <string.h>
-
-#define GUARD 16
-#define MARK 0xA5
 #define CHANNELS 6
 #define PAYLOAD 64
 #define MAX_RX 200
 #define INITIAL_ACK 100
 #define OUT 88
 #define NONE UINT32_MAX
-
-/* ---- lent buffers: what each held before the call is kept beside it */
-
-enum { STATE, RX, OPENS, DESTINATION, DATA, RECEIVED, OUTGOING, BUF, ANSWER, BUFFERS };
-
-static const char *const buffer_names[BUFFERS] = { "state", "rx", "opens", "destination", "data", "received", "out", "buf",
-                                                   "answer" };
-
-/* Guard bytes stand right before and right behind each buffer, whatever its length. */
-static uint8_t room[BUFFERS][2 * GUARD + 8192];
-static uint8_t before[BUFFERS][8192];
-static size_t len[BUFFERS];
-
-static uint8_t *at(int b) { return room[b] + GUARD; }
-
-/* An empty buffer is lent as null. */
-static uint8_t *ptr(int b) { return len[b] ? at(b) : NULL; }
-
-static void lend(int b, const uint8_t *bytes, size_t n)
-{
-    len[b] = n;
-    memset(room[b], MARK, GUARD);
-    if (bytes) memcpy(at(b), bytes, n);
-    else memset(at(b), 0x5A, n);
-    memset(at(b) + n, MARK, GUARD);
-    memcpy(before[b], at(b), n);
-}
-
-static int guards(int b)
-{
-    static uint8_t marks[GUARD];
-    memset(marks, MARK, GUARD);
-    return !memcmp(room[b], marks, GUARD) && !memcmp(at(b) + len[b], marks, GUARD);
-}
-
-static int same(int b, size_t from) { return from >= len[b] || !memcmp(at(b) + from, before[b] + from, len[b] - from); }
-
-/* ---- what a whole state is (docs/LAYOUT.md) */
-
-static size_t cap_of(const uint8_t *s)
-{
-    return adb_rx_cap(adb_le32(s + ADB_STATE_MAX_PAYLOAD), (size_t)adb_le64(s + ADB_STATE_MAX_RX_PER_CHANNEL));
-}
-
-static int slot_is_whole(const uint8_t *s, size_t i)
-{
-    const uint8_t *p = s + ADB_STATE_SLOT(i);
-    const unsigned tag = p[ADB_STATE_SLOT_TAG], in_state = tag >> ADB_TAG_STATE_SHIFT & 3;
-    const uint64_t settled = adb_le32(p + ADB_STATE_SLOT_SETTLED), head = adb_le32(p + ADB_STATE_SLOT_HEAD);
-    const uint64_t buffered = adb_le32(p + ADB_STATE_SLOT_BUFFERED), cap = cap_of(s);
-    if (tag >> ADB_TAG_FAULT_SHIFT > 5 || in_state == 3) return 0;
-    if (!(tag & ADB_TAG_FILLED)) return 1;
-    return i < adb_le64(s + ADB_STATE_CHANNELS) && in_state != 0 && tag >> ADB_TAG_FAULT_SHIFT == 0 && tag & ADB_TAG_HAS_REMOTE &&
-           settled <= buffered && settled <= cap && buffered - settled <= cap && head <= 2 * cap && buffered <= 2 * cap - head;
-}
-
-static int is_whole(const uint8_t *s)
-{
-    const uint64_t channels = adb_le64(s + ADB_STATE_CHANNELS), queued = adb_le64(s + ADB_STATE_QUEUED);
-    const uint64_t place = adb_le64(s + ADB_STATE_PENDING_SLOT);
-    const uint32_t payload = adb_le32(s + ADB_STATE_MAX_PAYLOAD);
-    if (channels < 1 || channels > ADB_MAX_CHANNELS || payload < 1 || payload > ADB_MAX_PAYLOAD) return 0;
-    if (adb_le64(s + ADB_STATE_MAX_RX_PER_CHANNEL) > ADB_MAX_RX_PER_CHANNEL) return 0;
-    if (adb_le32(s + ADB_STATE_INITIAL_ACK_BYTES) > ADB_MAX_INITIAL_ACK_BYTES) return 0;
-    if (adb_le32(s + ADB_STATE_DEVICE_MAX_PAYLOAD) > ADB_MAX_PAYLOAD || adb_le32(s + ADB_STATE_VERSION) > 0x01000001) return 0;
-    if (adb_le32(s + ADB_STATE_NEXT_LOCAL) == 0 || queued > channels) return 0;
-    if (s[ADB_STATE_DELAYED] > 1 || s[ADB_STATE_PENDING] > ADB_PENDING_OFFER) return 0;
-    for (size_t i = 0; i < ADB_MAX_CHANNELS; i++)
-        if (!slot_is_whole(s, i)) return 0;
-    if (s[ADB_STATE_PENDING] == ADB_PENDING_OPEN &&
-        (place >= channels || s[ADB_STATE_SLOT(place) + ADB_STATE_SLOT_TAG] & ADB_TAG_FILLED))
-        return 0;
-    if (s[ADB_STATE_PENDING] == ADB_PENDING_OFFER && queued >= channels) return 0;
-    for (size_t i = 0; i < queued + (s[ADB_STATE_PENDING] == ADB_PENDING_OFFER); i++) {
-        const uint8_t *p = s + ADB_STATE_QUEUED_OPEN(i);
-        if (adb_le64(p + ADB_STATE_QUEUED_SHARE) >= channels || adb_le64(p + ADB_STATE_QUEUED_SIZE) > payload) return 0;
-    }
-    return 1;
-}
-
-static size_t rx_need(const uint8_t *s)
-{
-    return adb_rx_store_len((size_t)adb_le64(s + ADB_STATE_CHANNELS), adb_le32(s + ADB_STATE_MAX_PAYLOAD),
-                            (size_t)adb_le64(s + ADB_STATE_MAX_RX_PER_CHANNEL));
-}
-
-static size_t opens_need(const uint8_t *s)
-{
-    return adb_open_store_len((size_t)adb_le64(s + ADB_STATE_CHANNELS), adb_le32(s + ADB_STATE_MAX_PAYLOAD));
-}
 
 /* ---- the calls */
 
@@ -436,11 +337,6 @@ static void changed_bytes(void)
     }
 }
 
-static void poke(uint8_t *state, size_t at_byte, int bytes, uint64_t v)
-{
-    for (int i = 0; i < bytes; i++) state[at_byte + (size_t)i] = (uint8_t)(v >> 8 * i);
-}
-
 /* Numbers at and past their limits. */
 static void boundaries(void)
 {
@@ -507,7 +403,7 @@ static void boundaries(void)
 /* The base with some buffers at other lengths; more than a buffer's own bytes are filler. */
 static uint32_t at_lengths(const struct call *c, size_t state, size_t rx, size_t opens, size_t out, size_t answer, int late)
 {
-    uint8_t bytes[8192];
+    uint8_t bytes[MOST];
     lend_base(c);
     memset(bytes, 0x3C, sizeof bytes);
     memcpy(bytes, base_state, sizeof base_state);

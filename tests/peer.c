@@ -9,17 +9,7 @@
  * leaves no room. A program of use would close a channel then; this one reads on, to count what was lost.
  */
 #define _POSIX_C_SOURCE 200809L
-#include "../demo/common.h"
-
-#include <arpa/inet.h>
-#include <errno.h>
-#include <fcntl.h>
-#include <netinet/in.h>
-#include <netinet/tcp.h>
-#include <poll.h>
-#include <sys/socket.h>
-#include <time.h>
-#include <unistd.h>
+#include "wire.h"
 
 #define VERSION 0x01000001
 #define SLOW_BYTES 1000
@@ -37,62 +27,19 @@ struct channel {
 };
 
 static uint32_t max_payload, initial_ack, slow_each;
-static size_t max_rx, rx_len, opens_len, out_len, in_room, have, unsent, unsent_room;
+static size_t max_rx, rx_len, opens_len, out_len, in_room, have;
 static int delayed;
 static struct channel channels[ADB_MAX_CHANNELS];
-static uint8_t state[ADB_STATE_LEN], answer[ADB_ANSWER_LEN], *rx, *opens, *in, *out, *queue;
+static uint8_t state[ADB_STATE_LEN], answer[ADB_ANSWER_LEN], *rx, *opens, *in, *out;
 static uint64_t accepted, rejected, no_slot, overflows, got, put, longest;
 
 #define LENT state, sizeof state, rx, rx_len, opens, opens_len
-
-static void *memory(void *old, size_t n)
-{
-    void *p = realloc(old, n ? n : 1);
-    if (!p) die("no memory", n, 0);
-    return p;
-}
-
-static uint64_t now_ms(void)
-{
-    struct timespec t;
-    clock_gettime(CLOCK_MONOTONIC, &t);
-    return (uint64_t)t.tv_sec * 1000 + (uint64_t)t.tv_nsec / 1000000;
-}
-
-/* CRC-32 as zlib has it, so that a script can compare what a dropping channel read. */
-static uint32_t crc32(uint32_t crc, const uint8_t *p, size_t n)
-{
-    crc = ~crc;
-    for (size_t i = 0; i < n; i++) {
-        crc ^= p[i];
-        for (int k = 0; k < 8; k++) crc = crc & 1 ? crc >> 1 ^ 0xedb88320u : crc >> 1;
-    }
-    return ~crc;
-}
-
-/* ---- the wire */
-
-static void enqueue(const uint8_t *p, size_t n)
-{
-    if (unsent + n > unsent_room) queue = memory(queue, unsent_room = 2 * (unsent + n));
-    memcpy(queue + unsent, p, n);
-    unsent += n;
-}
-
-/* A failure is left to reading, which meets it too. */
-static void send_some(int fd)
-{
-    const ssize_t n = unsent ? send(fd, queue, unsent, MSG_NOSIGNAL) : 0;
-    if (n <= 0) return;
-    unsent -= (size_t)n;
-    memmove(queue, queue + n, unsent);
-}
 
 /* After each call: what it wrote goes to the wire. */
 static uint32_t sending(uint32_t said)
 {
     const size_t n = (size_t)adb_answer_written(answer);
-    enqueue(out, n);
+    add(&unsent, out, n);
     if (n > longest) longest = n;
     return said;
 }
@@ -127,7 +74,7 @@ static void connects(int fd)
     n = (uint32_t)snprintf(mine, sizeof mine, "device::ro.product.name=vedunka;features=cmd,shell_v2%s", delayed ? ",delayed_ack" : "");
     put_head(frame, "CNXN", VERSION, max_payload, n, sum((uint8_t *)mine, n));
     memcpy(frame + ADB_HEADER_LEN, mine, n);
-    enqueue(frame, ADB_HEADER_LEN + n);
+    add(&unsent, frame, ADB_HEADER_LEN + n);
     free(text);
 }
 
@@ -195,7 +142,7 @@ static void writes(struct channel *c)
 /* Echoes and reads in turn, until the one or the other waits. */
 static void serves(struct channel *c, uint64_t now)
 {
-    while (c->taken && unsent < UNSENT_MAX) {
+    while (c->taken && count(&unsent) < UNSENT_MAX) {
         uint32_t said;
         writes(c);
         if (c->held || (c->slow && now < c->last + SLOW_MS)) return;
@@ -242,32 +189,12 @@ static void dispatches(void)
     memmove(in, in + at, have);
 }
 
-static int listens(uint16_t port)
-{
-    const int one = 1, fd = socket(AF_INET, SOCK_STREAM, 0);
-    struct sockaddr_in a = { .sin_family = AF_INET, .sin_port = htons(port), .sin_addr = { htonl(INADDR_LOOPBACK) } };
-    socklen_t n = sizeof a;
-    int c;
-    setsockopt(fd, SOL_SOCKET, SO_REUSEADDR, &one, sizeof one);
-    if (bind(fd, (struct sockaddr *)&a, n) || listen(fd, 1) || getsockname(fd, (struct sockaddr *)&a, &n)) die("the port", port, 0);
-    printf("port %d\n", ntohs(a.sin_port));
-    if ((c = accept(fd, NULL, NULL)) < 0) die("no connection", 0, 0);
-    setsockopt(c, IPPROTO_TCP, TCP_NODELAY, &one, sizeof one);
-    close(fd);
-    return c;
-}
-
 static void loop(int fd)
 {
     for (;;) {
-        struct pollfd p = { fd, (short)(POLLIN | (unsent ? POLLOUT : 0)), 0 };
         int slow = 0;
-        ssize_t n;
         for (int i = 0; i < ADB_MAX_CHANNELS; i++) slow |= channels[i].taken && channels[i].slow;
-        if (poll(&p, 1, slow ? SLOW_MS : -1) < 0) die("poll", (uint64_t)errno, 0);
-        n = p.revents & ~POLLOUT ? recv(fd, in + have, in_room - have, 0) : -1;
-        if (n == 0 || (n < 0 && p.revents & (POLLERR | POLLHUP))) return; /* the other end went */
-        have += n > 0 ? (size_t)n : 0;
+        if (!arrives(fd, slow ? SLOW_MS : -1, in, &have, in_room)) return; /* the other end went */
         dispatches();
         for (int i = 0; i < ADB_MAX_CHANNELS; i++) serves(&channels[i], now_ms());
         send_some(fd);

@@ -13,6 +13,7 @@ use Rattle.config.specs.declared.ConnectionConfig.{ConnectionConfig}
 use Rattle.slot.proofs.Laws.{cond-true, cond-false}
 use Rattle.le.specs.Rows.{rows}
 use Rattle.state_whole.specs.Whole.{is_whole}
+use Rattle.slot.specs.declared.Spending.TheVariants.{Within}
 use Rattle.table.specs.declared.ChannelId.{ChannelId}
 use Rattle.connection.specs.declared.Answer.{Answer}
 use Rattle.call.specs.declared.Reply.{Reply}
@@ -24,7 +25,8 @@ use Rattle.connection.specs.declared.Refusal.{Refusal}
 use Rattle.refusal.specs.Refusal.{number_of as number_by}
 use Rattle.std.specs.Prelude.{Result, Ok, Err}
 use Rattle.history.specs.Run.{bytes_in, Call, open_call, dispatch_call, settle_call, take_call, read_call, write_call, close_call, front_taken, look_call, numbers_look, look_outcome, accept_call, reject_call, let_go_call, World, outcome, after}
-use Rattle.adb.specs.Export.{world_of, numbers_of, answer_bytes, said_in, is_short, Exported, called, exported, Does, is_yes, MakesState}
+use Rattle.call_answer.specs.Answer.{numbers_of, answer_bytes, said_in}
+use Rattle.adb.specs.Export.{world_of, is_short, Exported, called, exported, Does, is_yes, MakesState}
 use Rattle.state.specs.State.{state_len}
 
 -- ---- bytes
@@ -37,13 +39,6 @@ bytes_same (x ∷ l) y =
     let h = y 0 in
     let e : x % 256 ≡ x = omega arith in
     ap (λ (a : ℕ). a ∷ bytes_in l) e ∙ ap (λ (r : List ℕ). x ∷ r) (bytes_same l (λ k. y (suc k)))
-
--- ---- the answer's bytes
-
--- six numbers, read back as rows, are what the answer says
-pub said-six : (d numbers : List ℕ) → length numbers ≡ 6 → rows 8 num_of (length numbers) d ≡ numbers → said_in d ≡ numbers
-unfolding said_in
-said-six d numbers n e = ap (λ (k : ℕ). rows 8 num_of k d) (sym n) ∙ e
 
 -- ---- too few bytes
 
@@ -124,11 +119,11 @@ module _ (state rx store : List ℕ) where
   read_is out ch buf received y = ap (read_outcome (is_whole state) (lent_of state rx store) (length out) ch (length buf)) (sym (bytes_same received y))
 
   pub write-is : (out : List ℕ) (ch : ChannelId) (given received : List ℕ) → Bytes given → Bytes received
-      → write_outcome (is_whole state) (lent_of state rx store) (length out) ch given received ≡ outcome w (write_call out ch given received)
+      → write_outcome Within (is_whole state) (lent_of state rx store) (length out) ch given received ≡ outcome w (write_call Within out ch given received)
   unfolding outcome
   write-is out ch given received d y =
-      ap (λ (x : List ℕ). write_outcome (is_whole state) (lent_of state rx store) (length out) ch x received) (sym (bytes_same given d))
-      ∙ ap (write_outcome (is_whole state) (lent_of state rx store) (length out) ch (bytes_in given)) (sym (bytes_same received y))
+      ap (λ (x : List ℕ). write_outcome Within (is_whole state) (lent_of state rx store) (length out) ch x received) (sym (bytes_same given d))
+      ∙ ap (write_outcome Within (is_whole state) (lent_of state rx store) (length out) ch (bytes_in given)) (sym (bytes_same received y))
 
   pub close-is : (out : List ℕ) (ch : ChannelId) → close_outcome (is_whole state) (lent_of state rx store) (length out) ch ≡ outcome w (close_call out ch)
   unfolding outcome

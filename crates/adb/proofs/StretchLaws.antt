@@ -9,7 +9,8 @@ use Rattle.le.specs.Rows.{flat}
 use Rattle.slot.proofs.Laws.{cond-true, cond-false}
 use Rattle.call_stretch.specs.Promise.{stretched_number, stretched_values, stretch_of, StretchLooks}
 use Rattle.call_stretch.proofs.LookLaws.{refused-spares}
-use Rattle.adb.specs.Export.{said_in, is_short}
+use Rattle.call_answer.specs.Answer.{said_in}
+use Rattle.adb.specs.Export.{is_short}
 use Rattle.adb.specs.Stretch.{Found, found_numbers, answered_by, stretch_found, Stretches, AdbStretchDoes}
 use Rattle.connection.specs.declared.Refusal.{Refusal}
 use Rattle.stretch.specs.declared.Stretch.{Stretch}

@@ -5,7 +5,9 @@ use mathlib.Core.List.{List, [], ◌∷◌}
 use Prim.Native.Nat.{ℕ, ◌+◌, ◌<◌, ◌^◌}
 use native.Mathlib.Omega.{arith}
 use lib.Dec.{ltb}
+use lib.IntN.{pos, neg_ℤ}
 use lib.ListN.{length, drop, get_or}
+use lib.Signed.{◌<ℤ◌}
 use borrow.Author.Tests.{ltb-false}
 use Rattle.le.proofs.Parts.{by-test}
 use Rattle.config.specs.declared.negotiated.Negotiated.{Negotiated}
@@ -21,16 +23,19 @@ use Rattle.history.specs.NoLeak.{ReadOnly, EvenAt}
 use Rattle.history.specs.Never13.{Unbroken}
 use Rattle.history.specs.Numbers.{opens_in, given_by, given_in}
 use Rattle.history.specs.Queue.{Queues}
-use Rattle.history.specs.Run.{Call, open_call, dispatch_call, settle_call, take_call, read_call, write_call, close_call, front_taken, look_call, accept_call, reject_call, let_go_call, out_of, buf_of, World, after, after_all, made, Start, begins}
+use Rattle.history.specs.Run.{Call, open_call, dispatch_call, settle_call, take_call, read_call, write_call, close_call, front_taken, look_call, accept_call, reject_call, let_go_call, verdict_call, out_of, buf_of, World, after, after_all, made, Start, begins}
 use Rattle.history.specs.Seen.{Held, held_of, Seen, Event, seen_of, events_of}
+use Rattle.history.specs.Spending.{longest}
+use Rattle.history.proofs.Floor.{floor}
 use Rattle.history.proofs.Given.{numbers_apart}
 use Rattle.history.proofs.Heard.{nothing8, seen-eight}
 use Rattle.history.proofs.Never13.{Holds, holds_after, holds_kept, starts, never-13}
 use Rattle.history.proofs.Queue.{queue-is-rusts}
 use Rattle.history.proofs.Theorem.{demand-3, no-leak}
 use Rattle.history.proofs.Told.{entry-eight, told-eight}
-use Rattle.adb.specs.Export.{world_of, said_in, is_short, Exported, called, exported, Does, is_yes}
-use Rattle.adb.specs.Linked.{Step, left_in, held_in, event_in, Ran, Runs, leaves, events, ApartIn, None13, ReadsAt, Making, lends_by, policy_by, LinkedDemand3, LinkedFree, LinkedNever13, LinkedQueue, LinkedNoLeak}
+use Rattle.call_answer.specs.Answer.{said_in}
+use Rattle.adb.specs.Export.{world_of, is_short, Exported, called, exported, Does, is_yes}
+use Rattle.adb.specs.Linked.{Step, left_in, held_in, event_in, Ran, Runs, leaves, events, ApartIn, None13, ReadsAt, Making, lends_by, agreed_by, policy_by, LinkedDemand3, LinkedFree, LinkedNever13, LinkedQueue, LinkedNoLeak, LinkedFloor}
 use Rattle.state.specs.State.{state_len}
 
 -- ---- one call: refused by 8 for a short answer, or the definition's
@@ -84,13 +89,15 @@ given-eight (dispatch_call out received) = refl
 given-eight (settle_call out ch want) = refl
 given-eight (take_call ch buf) = refl
 given-eight (read_call out ch buf received) = refl
-given-eight (write_call out ch bytes received) = refl
+given-eight (write_call spending out ch bytes received) = refl
 given-eight (close_call out ch) = refl
 given-eight front_taken = refl
 given-eight (look_call x) = refl
 given-eight (accept_call out) = refl
 given-eight (reject_call out) = refl
 given-eight let_go_call = refl
+given-eight (verdict_call out true remote credit) = refl
+given-eight (verdict_call out false remote credit) = refl
 
 pub record Same (p : RxPolicy) (w : World) (xs : List Step) : Type 0 where
   pub calls : List Call
@@ -242,3 +249,7 @@ pub linked-no-leak : LinkedNoLeak
 linked-no-leak m xs r apart d i only =
     let s = linked m xs r in
     subst (λ (y : Ledger). EvenAt (book_at y i)) (sym (s.ledger clean)) (no-leak (start m) s.calls (s.apart apart) d i (s.only i only))
+
+pub linked-floor : LinkedFloor
+linked-floor m xs r i =
+    subst (λ (v : World). neg_ℤ (pos (longest (agreed_by m))) <ℤ (place_slot v i).send_budget) (sym (left_at m xs r)) (floor (start m) (linked m xs r).calls i)

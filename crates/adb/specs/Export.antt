@@ -1,10 +1,9 @@
 -- What the exported functions leave (docs/ARCHITECTURE.md, "The C interface"), in the terms of the calls' definitions and of
 -- the theorems over lists of calls. Assumes nothing.
 use Rattle.std.specs.Prelude.{ℕ, ◌≡◌, Bool, cond, ◌||◌, List, ◌∷◌, ltb, length}
-use Rattle.le.specs.Le.{num_of, bytes_of, put}
-use Rattle.le.specs.Rows.{flat, rows}
-use Rattle.connection.specs.declared.Answer.{Answer}
-use Rattle.connection.specs.Answer.{answer_number, answer_values}
+use Rattle.le.specs.Le.{put}
+use Rattle.call_answer.specs.Answer.{numbers_of, answer_bytes, said_in}
+use Rattle.connection.specs.Answer.{answer_number}
 use Rattle.connection.specs.Calls.{written_by, Made}
 use Rattle.connection.specs.Frames.{frames_bytes}
 use Rattle.history.specs.Run.{Call, World, lent, outcome, after}
@@ -13,18 +12,6 @@ use Rattle.state.specs.State.{state_len}
 -- lent bytes that last from call to call
 abbrev pub world_of : List ℕ → List ℕ → List ℕ → World
 world_of state rx store = record { state = state; rx = rx; store = store }
-
--- an answer's six numbers: used, written, then the answer's four values
-abbrev pub numbers_of : ℕ → ℕ → Answer → List ℕ
-numbers_of used written a = used ∷ written ∷ answer_values a
-
--- its 48 bytes
-unfoldable pub answer_bytes : ℕ → ℕ → Answer → List ℕ
-answer_bytes used written a = flat (bytes_of 8) (numbers_of used written a)
-
--- the six numbers that an answer's bytes say
-unfoldable pub said_in : List ℕ → List ℕ
-said_in answer = rows 8 num_of 6 answer
 
 -- a call's number, all that it was lent, and what the answer then says
 pub record Exported : Type 0 where

@@ -1,7 +1,7 @@
 -- Lists of calls through the exported functions, and what the theorems say of them: whatever a C program can do with them after
 -- an adb_make or adb_make_from_cnxn that answered 0, short answers included, with the state and both stores lent whole as the
 -- last call left them. Assumes nothing.
-use Rattle.std.specs.Prelude.{ℕ, ◌<◌, ◌^◌, ◌≡◌, Bool, true, List, [], ◌∷◌, map, length, drop, get_or}
+use Rattle.std.specs.Prelude.{ℕ, ◌<◌, ◌^◌, ◌≡◌, Bool, true, List, [], ◌∷◌, map, pos, neg_ℤ, ◌<ℤ◌, length, drop, get_or}
 use Rattle.config.specs.declared.ConnectionConfig.{ConnectionConfig}
 use Rattle.config.specs.declared.negotiated.Negotiated.{Negotiated}
 use Rattle.config.specs.declared.negotiated.RxPolicy.{RxPolicy}
@@ -9,14 +9,16 @@ use Rattle.config.specs.Config.{stores_fit}
 use Rattle.config.specs.Negotiated.{negotiated_of, policy_of}
 use Rattle.call_make.specs.Make.{make_in}
 use Rattle.history.specs.Book.{clean, book_at, ledger_of}
-use Rattle.history.specs.Demand3.{Distinct, Claims}
+use Rattle.history.specs.Demand3.{place_slot, Distinct, Claims}
 use Rattle.history.specs.Never13.{Unbroken}
 use Rattle.history.specs.NoLeak.{ReadOnly, EvenAt}
 use Rattle.history.specs.Numbers.{given_in}
 use Rattle.history.specs.Queue.{Queues}
 use Rattle.history.specs.Run.{Call, out_of, buf_of, World}
 use Rattle.history.specs.Seen.{Held, Event}
-use Rattle.adb.specs.Export.{world_of, said_in, exported, Does, is_yes, MakesState}
+use Rattle.history.specs.Spending.{longest}
+use Rattle.call_answer.specs.Answer.{said_in}
+use Rattle.adb.specs.Export.{world_of, exported, Does, is_yes, MakesState}
 
 -- ---- one call
 
@@ -142,3 +144,8 @@ abbrev pub LinkedNoLeak : Type 0
 LinkedNoLeak =
     (m : Making) (xs : List Step) → Runs (lends_by m) xs → ApartIn xs → (policy_by m).delayed ≡ true
     → (i : ℕ) → ReadsAt i xs → EvenAt (book_at (ledger_of (policy_by m) clean (events xs)) i)
+
+-- each budget is above 0 less the longest payload
+abbrev pub LinkedFloor : Type 0
+LinkedFloor =
+    (m : Making) (xs : List Step) → Runs (lends_by m) xs → (i : ℕ) → neg_ℤ (pos (longest (agreed_by m))) <ℤ (place_slot (leaves (lends_by m) xs) i).send_budget

@@ -1,6 +1,7 @@
 -- What each exported function promises, in the terms of `exported` and of `make_in`. Assumes nothing.
 use Rattle.std.specs.Prelude.{List, [], ℕ}
 use Rattle.config.specs.declared.ConnectionConfig.{ConnectionConfig}
+use Rattle.slot.specs.declared.Spending.TheVariants.{Within}
 use Rattle.table.specs.declared.ChannelId.{ChannelId}
 use Rattle.call_make.specs.Make.{make_in, make_from}
 use Rattle.history.specs.Run.{open_call, dispatch_call, settle_call, take_call, read_call, write_call, close_call, front_taken, look_call, numbers_look, accept_call, reject_call, let_go_call}
@@ -43,10 +44,10 @@ AdbReadDoes state rx opens slot local received out buf answer r state' rx' opens
     Does (exported (world_of state rx opens) (read_call out (channel_of slot local) buf received) out buf answer) r
     state' rx' opens' out' buf' answer'
 
--- what `adb_write` promises
+-- what `adb_write` promises: it sends within the budget
 abbrev pub AdbWriteDoes : List ℕ → List ℕ → List ℕ → ℕ → ℕ → List ℕ → List ℕ → List ℕ → List ℕ → ℕ → List ℕ → List ℕ → List ℕ → List ℕ → List ℕ → Type 0
 AdbWriteDoes state rx opens slot local bytes received out answer r state' rx' opens' out' answer' =
-    Does (exported (world_of state rx opens) (write_call out (channel_of slot local) bytes received) out [] answer) r
+    Does (exported (world_of state rx opens) (write_call Within out (channel_of slot local) bytes received) out [] answer) r
     state' rx' opens' out' [] answer'
 
 -- what `adb_close` promises

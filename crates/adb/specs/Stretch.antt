@@ -3,7 +3,8 @@ use Rattle.std.specs.Prelude.{ℕ, ◌≡◌, Bool, true, cond, List, ◌∷◌,
 use Rattle.le.specs.Le.{bytes_of, put}
 use Rattle.le.specs.Rows.{flat}
 use Rattle.call_stretch.specs.Promise.{stretched_number, stretched_values, is_refused, stretch_of, Spares}
-use Rattle.adb.specs.Export.{said_in, is_short}
+use Rattle.call_answer.specs.Answer.{said_in}
+use Rattle.adb.specs.Export.{is_short}
 use Rattle.connection.specs.declared.Refusal.{Refusal}
 use Rattle.stretch.specs.declared.Stretch.{Stretch}
 

@@ -7,17 +7,14 @@
 pub mod shortest;
 
 ghost use Rattle.std.specs.Prelude.{◌≡◌, ◌≤◌, length};
-ghost use Rattle.le.specs.Le.{bytes_of, put};
-ghost use Rattle.le.specs.Rows.{flat};
-ghost use Rattle.connection.specs.Answer.{answer_number, ack_length, refusal_word};
-ghost use Rattle.adb.specs.Export.{numbers_of, answer_bytes, said_in, is_short, is_yes};
+ghost use Rattle.adb.specs.Export.{is_short, is_yes};
 ghost use Rattle.adb.specs.Promise.{channel_of, limits_of, AdbMakeFromCnxnDoes};
 ghost use Rattle.adb.specs.Promise.{AdbCloseDoes, AdbDispatchDoes, AdbMakeDoes, AdbOpenDoes, AdbReadDoes, AdbSettleDoes, AdbTakeDoes};
 ghost use Rattle.adb.specs.Promise.{AdbTakeFrontDoes, AdbNumbersDoes, AdbWriteDoes, AdbAcceptDoes, AdbRejectDoes, AdbLetGoDoes};
 
 use c_answer::ANSWER_SHORT;
-use call::Reply;
 use call_accept::accept;
+use call_answer::answered;
 use call_close::close;
 use call_dispatch::dispatch;
 use call_let_go::let_go;
@@ -31,74 +28,11 @@ use call_take::take;
 use call_take_front::take_front;
 use call_write::write;
 use config::ConnectionConfig;
-use connection::{Answer, Refusal};
+use connection::Refusal;
 use refusal::number_of;
 use slot::ids::LocalId;
 use state::STATE_LEN;
 use table::ChannelId;
-
-#[tactic(auto, unfolding(connection::specs::Answer::ack_length))]
-fn ack_length(ack: Option<usize>) -> u64
-    ensures { result ≡ ack_length ack }
-{
-    ack.unwrap_or(0) as u64
-}
-
-#[tactic(auto, unfolding(connection::specs::Answer::refusal_word))]
-fn refusal_word(refusal: Refusal) -> u64
-    ensures { result ≡ refusal_word refusal }
-{
-    match refusal {
-        Refusal::InvalidCommand(word) => word,
-        _ => 0,
-    }
-}
-
-// An answer's six numbers: used, written, then the answer's four values.
-#[tactic(auto, unfolding(connection::specs::Answer::answer_values))]
-fn numbers_of(reply: Reply) -> [u64; 6]
-    ensures { result ≡ numbers_of reply.used reply.written reply.answer }
-{
-    let used = reply.used as u64;
-    let written = reply.written as u64;
-    match reply.answer {
-        Answer::Done => [used, written, 0, 0, 0, 0],
-        Answer::Waiting => [used, written, 0, 0, 0, 0],
-        Answer::Nothing => [used, written, 0, 0, 0, 0],
-        Answer::Opened(ch) => [used, written, ch.slot as u64, u64::from(ch.local.0), 0, 0],
-        Answer::Settled(ack) => [used, written, ack_length(ack), 0, 0, 0],
-        Answer::Read(n) => [used, written, n as u64, 0, 0, 0],
-        Answer::Written(n) => [used, written, n as u64, 0, 0, 0],
-        Answer::Front(remote, credit, place, len) => [
-            used,
-            written,
-            u64::from(remote.0),
-            u64::from(credit),
-            place as u64,
-            len as u64,
-        ],
-        Answer::Numbers(_, total, buffered, unacked, budget) => [
-            used,
-            written,
-            total as u64,
-            u64::from(buffered),
-            unacked as u64,
-            budget,
-        ],
-        Answer::Refused(refusal) => [used, written, refusal_word(refusal), 0, 0, 0],
-    }
-}
-
-// The answer's 48 bytes, and the call's number.
-fn answered(answer: &mut [u8], reply: Reply) -> u32
-    requires { 48 ≤ length answer.old }
-    ensures { (result ≡ answer_number reply.answer) ×
-        (answer.new ≡ put answer.old 0 (answer_bytes reply.used reply.written reply.answer)) ×
-        (said_in answer.new ≡ numbers_of reply.used reply.written reply.answer) }
-{
-    c_answer::put(answer, &numbers_of(reply));
-    reply.answer.number()
-}
 
 #[tactic(auto, unfolding(crate::specs::Export::is_short))]
 fn is_short(state: usize, answer: usize) -> bool

@@ -14,7 +14,8 @@ use connection::Answer;
 use protocol::packet::Packet;
 use state::Header;
 
-fn dispatch_step(
+// The call's step, once it is admitted.
+pub fn dispatch_step(
     state: &mut [u8],
     rx: &mut [u8],
     store: &mut [u8],

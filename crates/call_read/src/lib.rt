@@ -228,7 +228,8 @@ fn read_channel(
     }
 }
 
-fn read_step(
+// The call's step, once it is admitted.
+pub fn read_step(
     state: &mut [u8],
     rx: &mut [u8],
     store: &mut [u8],

@@ -20,11 +20,12 @@ use Rattle.protocol.specs.Packet.{decode_of, Puts}
 use Rattle.protocol.proofs.PacketLaws.{frame-length}
 use Rattle.protocol.specs.Command.{is_ready}
 use Rattle.slot.specs.declared.ChannelSlot.{ChannelSlot}
+use Rattle.slot.specs.declared.Spending.{Spending}
 use Rattle.credit.specs.declared.CreditFault.{CreditFault}
 use Rattle.slot.specs.declared.ids.ChannelIds.{ChannelIds}
 use Rattle.slot.specs.Ids.{closed_by}
-use Rattle.slot.specs.Slot.{is_closed, ready_of, budget_of, spent_of, closed_slot}
-use Rattle.slot.proofs.Laws.{cond-true, cond-false}
+use Rattle.slot.specs.Slot.{is_closed, ready_of, leave_of, spent_of, closed_slot}
+use Rattle.slot.proofs.Laws.{cond-true, cond-false, leave-none}
 use Rattle.state.specs.declared.Header.{Header}
 use Rattle.state.specs.Change.{slot_to, changed_all}
 use Rattle.le.specs.Rows.{flat}
@@ -123,34 +124,34 @@ module _ (state out bytes : List ℕ) (ch : ChannelId) (h : Header) (g : Sends s
         (did-stops agreed 0 state out _ _ _ _ _ _ w₁ [] state₂ h (Written len) used r g.header f q))
 
   -- what may be sent
-  budget-is : (b : Option ℕ) (p : RxPolicy) → p ≡ policy_of h.negotiated → b ≡ budget_of s p → budget_of s (policy_of agreed) ≡ b
-  budget-is b p y u = ap (λ (x : Header). budget_of s (policy_of x.negotiated)) (sym g.header) ∙ ap (budget_of s) (sym y) ∙ sym u
+  leave-is : (spending : Spending) (b : Option ℕ) (p : RxPolicy) → p ≡ policy_of h.negotiated → b ≡ leave_of spending s p → leave_of spending s (policy_of agreed) ≡ b
+  leave-is spending b p y u = ap (λ (x : Header). leave_of spending s (policy_of x.negotiated)) (sym g.header) ∙ ap (leave_of spending s) (sym y) ∙ sym u
 
   -- ---- the turn after an OKAY
 
-  module _ (closed : Bool) (c : closed ≡ is_closed s.state) (rx store : List ℕ) where
+  module _ (spending : Spending) (closed : Bool) (c : closed ≡ is_closed s.state) (rx store : List ℕ) where
     pub again-closed : (r : Reply) (state₂ : List ℕ) → closed ≡ true → state₂ ≡ put_header (put_slot state ch.slot s) h
         → r ≡ record { answer = Refused ChannelClosed; used = used; written = 0 }
-        → Leaves agreed (send_again (lent_of state rx store) ch (length out) bytes used (starts state rx store) s) 0 state out [] r state₂ rx store out []
+        → Leaves agreed (send_again spending (lent_of state rx store) ch (length out) bytes used (starts state rx store) s) 0 state out [] r state₂ rx store out []
     unfolding send_again
     again-closed r state₂ t f q =
         subst (λ (o : Outcome). Leaves agreed o 0 state out [] r state₂ rx store out []) (sym (cond-true _ _ _ (sym c ∙ t)))
         (stores state rx store out h g.header ch.slot s (Refused ChannelClosed) used r state₂ f q)
 
-    module _ (t : closed ≡ false) (b : Option ℕ) (p : RxPolicy) (y : p ≡ policy_of h.negotiated) (u : b ≡ budget_of s p) where
-      again_by : (x : Option ℕ) → b ≡ x → send_again (lent_of state rx store) ch (length out) bytes used (starts state rx store) s ≡ send_by (lent_of state rx store) ch (length out) bytes used (starts state rx store) s x
+    module _ (t : closed ≡ false) (b : Option ℕ) (p : RxPolicy) (y : p ≡ policy_of h.negotiated) (u : b ≡ leave_of spending s p) where
+      again_by : (x : Option ℕ) → b ≡ x → send_again spending (lent_of state rx store) ch (length out) bytes used (starts state rx store) s ≡ send_by (lent_of state rx store) ch (length out) bytes used (starts state rx store) s x
       unfolding send_again
-      again_by x m = cond-false _ _ _ (sym c ∙ t) ∙ ap (send_by (lent_of state rx store) ch (length out) bytes used (starts state rx store) s) (budget-is b p y u ∙ m)
+      again_by x m = cond-false _ _ _ (sym c ∙ t) ∙ ap (send_by (lent_of state rx store) ch (length out) bytes used (starts state rx store) s) (leave-is spending b p y u ∙ m)
 
       pub again-sends : (most : ℕ) (r : Reply) (state' out' : List ℕ) → b ≡ Some most
           → Leaves agreed (send_some (lent_of state rx store) ch (length out) bytes used (starts state rx store) s (send_len (lent_of state rx store) bytes most)) 0 state out [] r state' rx store out' []
-          → Leaves agreed (send_again (lent_of state rx store) ch (length out) bytes used (starts state rx store) s) 0 state out [] r state' rx store out' []
+          → Leaves agreed (send_again spending (lent_of state rx store) ch (length out) bytes used (starts state rx store) s) 0 state out [] r state' rx store out' []
       unfolding send_by
       again-sends most r state' out' m = subst (λ (o : Outcome). Leaves agreed o 0 state out [] r state' rx store out' []) (sym (again_by (Some most) m))
 
       pub again-waits : (r : Reply) (state₂ : List ℕ) → b ≡ None → state₂ ≡ put_header (put_slot state ch.slot s) h
           → r ≡ record { answer = Waiting; used = used; written = 0 }
-          → Leaves agreed (send_again (lent_of state rx store) ch (length out) bytes used (starts state rx store) s) 0 state out [] r state₂ rx store out []
+          → Leaves agreed (send_again spending (lent_of state rx store) ch (length out) bytes used (starts state rx store) s) 0 state out [] r state₂ rx store out []
       unfolding send_by
       again-waits r state₂ m f q =
           subst (λ (o : Outcome). Leaves agreed o 0 state out [] r state₂ rx store out []) (sym (again_by None m))
@@ -158,22 +159,22 @@ module _ (state out bytes : List ℕ) (ch : ChannelId) (h : Header) (g : Sends s
 
   -- ---- the channel's own OKAY
 
-  module _ (payload : List ℕ) (p : RxPolicy) (x : Result ChannelSlot CreditFault) (y : p ≡ policy_of h.negotiated) (e : x ≡ ready_of s payload p) (rx store : List ℕ) where
+  module _ (spending : Spending) (payload : List ℕ) (p : RxPolicy) (x : Result ChannelSlot CreditFault) (y : p ≡ policy_of h.negotiated) (e : x ≡ ready_of s payload p) (rx store : List ℕ) where
     readied-is : (z : Result ChannelSlot CreditFault) → x ≡ z → z ≡ ready_of s payload (policy_of agreed)
     readied-is z f = sym f ∙ e ∙ ap (λ (a : RxPolicy). ready_of s payload a) (y ∙ ap (λ (a : Header). policy_of a.negotiated) g.header)
 
     pub ready-again : (t : ChannelSlot) (r : Reply) (state' out' : List ℕ) → x ≡ Ok t
-        → Leaves agreed (send_again (lent_of state rx store) ch (length out) bytes used (starts state rx store) t) 0 state out [] r state' rx store out' []
-        → Leaves agreed (write_readied (lent_of state rx store) ch (length out) bytes used (starts state rx store) s (ready_of s payload (policy (lent_of state rx store)))) 0 state out [] r state' rx store out' []
+        → Leaves agreed (send_again spending (lent_of state rx store) ch (length out) bytes used (starts state rx store) t) 0 state out [] r state' rx store out' []
+        → Leaves agreed (write_readied spending (lent_of state rx store) ch (length out) bytes used (starts state rx store) s (ready_of s payload (policy (lent_of state rx store)))) 0 state out [] r state' rx store out' []
     unfolding write_readied
     ready-again t r state' out' f =
-        subst (λ (z : Result ChannelSlot CreditFault). Leaves agreed (write_readied (lent_of state rx store) ch (length out) bytes used (starts state rx store) s z) 0 state out [] r state' rx store out' []) (readied-is (Ok t) f)
+        subst (λ (z : Result ChannelSlot CreditFault). Leaves agreed (write_readied spending (lent_of state rx store) ch (length out) bytes used (starts state rx store) s z) 0 state out [] r state' rx store out' []) (readied-is (Ok t) f)
 
     pub ready-bad : (b : CreditFault) (r : Reply) (state' : List ℕ) → x ≡ Err b → state' ≡ put_header state h → r ≡ record { answer = Refused (BadCredit b); used = used; written = 0 }
-        → Leaves agreed (write_readied (lent_of state rx store) ch (length out) bytes used (starts state rx store) s (ready_of s payload (policy (lent_of state rx store)))) 0 state out [] r state' rx store out []
+        → Leaves agreed (write_readied spending (lent_of state rx store) ch (length out) bytes used (starts state rx store) s (ready_of s payload (policy (lent_of state rx store)))) 0 state out [] r state' rx store out []
     unfolding write_readied
     ready-bad b r state' f d q =
-        subst (λ (z : Result ChannelSlot CreditFault). Leaves agreed (write_readied (lent_of state rx store) ch (length out) bytes used (starts state rx store) s z) 0 state out [] r state' rx store out []) (readied-is (Err b) f)
+        subst (λ (z : Result ChannelSlot CreditFault). Leaves agreed (write_readied spending (lent_of state rx store) ch (length out) bytes used (starts state rx store) s z) 0 state out [] r state' rx store out []) (readied-is (Err b) f)
         (stops-leaves state rx store h g.header out [] _ (Refused (BadCredit b)) used r state' refl d q)
 
 -- ---- a channel that was found
@@ -211,23 +212,23 @@ module _ (state rx store out received bytes : List ℕ) (ch : ChannelId) (h : He
   abbrev ended : (r : Reply) (state' rx' store' out' : List ℕ) (o : Outcome) → Type 0
   ended r state' rx' store' out' o = Leaves values o 0 state out [] r state' rx' store' out' []
 
-  abbrev whole : Outcome
-  whole = write_by found ch (length out) bytes (starts state rx store) s received (Ok p)
-
   pub packet-place : PacketRoom received h.negotiated.config.max_payload p
   unfolding received_of
   packet-place =
       subst (λ (x : Header). PacketRoom received x.negotiated.config.max_payload p) (sym k.finds.header)
       (packet-room received values.config.max_payload (received_of found received) p refl q)
 
-  module _ (own : Bool) (o : own ≡ (is_ready p.command && eqb p.arg1 s.local.0)) where
+  module _ (spending : Spending) (own : Bool) (o : own ≡ (is_ready p.command && eqb p.arg1 s.local.0)) where
+    abbrev whole : Outcome
+    whole = write_by spending found ch (length out) bytes (starts state rx store) s received (Ok p)
+
     -- the channel's own OKAY
     pub packet-ready : (payload : List ℕ) (r : Reply) (state' out' : List ℕ) → own ≡ true → payload ≡ body_of received p
-        → ended r state' rx store out' (write_readied found ch (length out) bytes (frame_len p) (starts state rx store) s (ready_of s payload (policy found))) → ended r state' rx store out' whole
+        → ended r state' rx store out' (write_readied spending found ch (length out) bytes (frame_len p) (starts state rx store) s (ready_of s payload (policy found))) → ended r state' rx store out' whole
     unfolding write_by
     packet-ready payload r state' out' t b g =
         subst (ended r state' rx store out') (sym (cond-true _ _ _ (sym o ∙ t)))
-        (subst (λ (x : List ℕ). ended r state' rx store out' (write_readied found ch (length out) bytes (frame_len p) (starts state rx store) s (ready_of s x (policy found)))) b g)
+        (subst (λ (x : List ℕ). ended r state' rx store out' (write_readied spending found ch (length out) bytes (frame_len p) (starts state rx store) s (ready_of s x (policy found)))) b g)
 
     module _ (f : own ≡ false) (ids : ChannelIds) (closed : Bool) (d : ids ≡ ids_in s) (c : closed ≡ closed_by ids p) where
       closed_is : closed ≡ closed_by (ids_in s) p
@@ -272,13 +273,13 @@ module _ (state rx store out received bytes : List ℕ) (ch : ChannelId) (h : He
             (rest-act (dropped (state_of state).header) ss (state_of state).queue rx store p (body_of received p) ch.slot (omega arith) (omega arith) a b))
             (sym o ∙ f) (sym closed_is ∙ v)
 
-        -- so it waits again, and stores no other slot
-        turn_is : send_again found ch (length out) bytes (frame_len p) (then_acted (starts state rx store) act) after
+        -- so nothing may be sent, it waits again, and stores no other slot
+        turn_is : send_again spending found ch (length out) bytes (frame_len p) (then_acted (starts state rx store) act) after
             ≡ ends (then (then_acted (starts state rx store) act) (slot_to ch.slot after ∷ []) []) Waiting (frame_len p) []
         unfolding send_again send_by
         turn_is =
             cond-false _ _ _ (ap is_closed rests.state ∙ k.unclosed)
-            ∙ ap (send_by found ch (length out) bytes (frame_len p) (then_acted (starts state rx store) act) after) (rests-budget s after (policy_of values) rests ∙ k.nothing)
+            ∙ ap (send_by found ch (length out) bytes (frame_len p) (then_acted (starts state rx store) act) after) ((leave-none spending after (policy_of values)).0 (rests-budget s after (policy_of values) rests ∙ k.nothing))
 
         is-state : is_state state ≡ true
         unfolding is_whole
@@ -298,7 +299,7 @@ module _ (state rx store out received bytes : List ℕ) (ch : ChannelId) (h : He
               z ∙ sym (put_back state act.changes ch.slot k.finds.admits.bytes is-state keeps.within (finds-place state rx store (length out) ch h s k.finds))
               ∙ ap (λ (x : List ℕ). put_slot x ch.slot after) (sym z)
 
-          acted-by : (x : Option ChannelFault) → act.fault ≡ x → ended r state₂ rx₁ store₁ out₁ (write_acted found ch (length out) bytes (frame_len p) (starts state rx store) act x)
+          acted-by : (x : Option ChannelFault) → act.fault ≡ x → ended r state₂ rx₁ store₁ out₁ (write_acted spending found ch (length out) bytes (frame_len p) (starts state rx store) act x)
           unfolding write_acted unless_fault
           acted-by (Some why) z = did-stops values 0 state out _ _ _ _ _ _ did [] state₂ acted.header _ (frame_len p) r g.header_is e (answers (Some why) z)
           acted-by None z =
@@ -321,9 +322,9 @@ module _ (state rx store out received bytes : List ℕ) (ch : ChannelId) (h : He
 
 -- ---- waiting for it
 
-module _ (state rx store out received bytes : List ℕ) (ch : ChannelId) (h : Header) (s : ChannelSlot) (i : h ≡ dropped (state_of state).header) where
+module _ (spending : Spending) (state rx store out received bytes : List ℕ) (ch : ChannelId) (h : Header) (s : ChannelSlot) (i : h ≡ dropped (state_of state).header) where
   abbrev first : Outcome
-  first = write_first (lent_of state rx store) ch (length out) bytes received (starts state rx store) s None
+  first = write_first spending (lent_of state rx store) ch (length out) bytes received (starts state rx store) s None
 
   pub wait-gone : (r : Reply) (state' : List ℕ) → s.has_remote ≡ false → state' ≡ put_header state h → r ≡ record { answer = Refused ChannelClosed; used = 0; written = 0 }
       → Leaves (agreed_in state) first 0 state out [] r state' rx store out []
@@ -336,11 +337,11 @@ module _ (state rx store out received bytes : List ℕ) (ch : ChannelId) (h : He
     pub wait-received : (p : Packet) → got ≡ Ok p → received_of (lent_of state rx store) received ≡ Ok p
     wait-received p f = sym (received_is state rx store h (ap (λ (x : Header). x.negotiated) i) received got d) ∙ f
 
-    first_by : (x : Result Packet (Answer × ℕ)) → s.has_remote ≡ true → got ≡ x → first ≡ write_by (lent_of state rx store) ch (length out) bytes (starts state rx store) s received x
+    first_by : (x : Result Packet (Answer × ℕ)) → s.has_remote ≡ true → got ≡ x → first ≡ write_by spending (lent_of state rx store) ch (length out) bytes (starts state rx store) s received x
     unfolding write_first
     first_by x t f =
         cond-true s.has_remote _ _ t
-        ∙ ap (write_by (lent_of state rx store) ch (length out) bytes (starts state rx store) s received) (sym (received_is state rx store h (ap (λ (x : Header). x.negotiated) i) received got d) ∙ f)
+        ∙ ap (write_by spending (lent_of state rx store) ch (length out) bytes (starts state rx store) s received) (sym (received_is state rx store h (ap (λ (x : Header). x.negotiated) i) received got d) ∙ f)
 
     pub wait-stops : (a : Answer) (used : ℕ) (r : Reply) (state' : List ℕ) → s.has_remote ≡ true → got ≡ Err (a, used) → state' ≡ put_header state h
         → r ≡ record { answer = a; used = used; written = 0 } → Leaves (agreed_in state) first 0 state out [] r state' rx store out []
@@ -350,17 +351,17 @@ module _ (state rx store out received bytes : List ℕ) (ch : ChannelId) (h : He
         (stops-leaves state rx store h i out [] _ a used r state' refl e q)
 
     pub wait-packet : (p : Packet) (r : Reply) (state' rx' store' out' : List ℕ) → s.has_remote ≡ true → got ≡ Ok p
-        → Leaves (agreed_in state) (write_by (lent_of state rx store) ch (length out) bytes (starts state rx store) s received (Ok p)) 0 state out [] r state' rx' store' out' []
+        → Leaves (agreed_in state) (write_by spending (lent_of state rx store) ch (length out) bytes (starts state rx store) s received (Ok p)) 0 state out [] r state' rx' store' out' []
         → Leaves (agreed_in state) first 0 state out [] r state' rx' store' out' []
     wait-packet p r state' rx' store' out' t f =
         subst (λ (o : Outcome). Leaves (agreed_in state) o 0 state out [] r state' rx' store' out' []) (sym (first_by (Ok p) t f))
 
 -- ---- the first turn
 
-module _ (state rx store out received bytes : List ℕ) (ch : ChannelId) (h : Header) (s : ChannelSlot) (k : Finds state rx store (length out) ch h s) (closed : Bool)
+module _ (spending : Spending) (state rx store out received bytes : List ℕ) (ch : ChannelId) (h : Header) (s : ChannelSlot) (k : Finds state rx store (length out) ch h s) (closed : Bool)
     (c : closed ≡ is_closed s.state) where
   abbrev turn : Outcome
-  turn = write_on (lent_of state rx store) ch (length out) bytes received (starts state rx store) s
+  turn = write_on spending (lent_of state rx store) ch (length out) bytes received (starts state rx store) s
 
   pub on-closed : (r : Reply) (state' : List ℕ) → closed ≡ true → state' ≡ put_header state h → r ≡ record { answer = Refused ChannelClosed; used = 0; written = 0 }
       → Leaves (agreed_in state) turn 0 state out [] r state' rx store out []
@@ -369,13 +370,13 @@ module _ (state rx store out received bytes : List ℕ) (ch : ChannelId) (h : He
       subst (λ (o : Outcome). Leaves (agreed_in state) o 0 state out [] r state' rx store out []) (sym (cond-true _ _ _ (sym c ∙ t)))
       (stops-leaves state rx store h k.header out [] _ (Refused ChannelClosed) 0 r state' refl e q)
 
-  module _ (t : closed ≡ false) (b : Option ℕ) (p : RxPolicy) (y : p ≡ policy_of h.negotiated) (u : b ≡ budget_of s p) where
-    may-send : (x : Option ℕ) → b ≡ x → budget_of s (policy_of (agreed_in state)) ≡ x
-    may-send x m = budget-is state out bytes ch h (finds-sends state rx store (length out) ch h s k) 0 s b p y u ∙ m
+  module _ (t : closed ≡ false) (b : Option ℕ) (p : RxPolicy) (y : p ≡ policy_of h.negotiated) (u : b ≡ leave_of spending s p) where
+    may-send : (x : Option ℕ) → b ≡ x → leave_of spending s (policy_of (agreed_in state)) ≡ x
+    may-send x m = leave-is state out bytes ch h (finds-sends state rx store (length out) ch h s k) 0 s spending b p y u ∙ m
 
-    turn_by : (x : Option ℕ) → b ≡ x → turn ≡ write_first (lent_of state rx store) ch (length out) bytes received (starts state rx store) s x
+    turn_by : (x : Option ℕ) → b ≡ x → turn ≡ write_first spending (lent_of state rx store) ch (length out) bytes received (starts state rx store) s x
     unfolding write_on
-    turn_by x m = cond-false _ _ _ (sym c ∙ t) ∙ ap (write_first (lent_of state rx store) ch (length out) bytes received (starts state rx store) s) (may-send x m)
+    turn_by x m = cond-false _ _ _ (sym c ∙ t) ∙ ap (write_first spending (lent_of state rx store) ch (length out) bytes received (starts state rx store) s) (may-send x m)
 
     pub on-sends : (most : ℕ) (r : Reply) (state' out' : List ℕ) → b ≡ Some most
         → Leaves (agreed_in state) (send_some (lent_of state rx store) ch (length out) bytes 0 (starts state rx store) s (send_len (lent_of state rx store) bytes most)) 0 state out [] r state' rx store out' []
@@ -384,18 +385,18 @@ module _ (state rx store out received bytes : List ℕ) (ch : ChannelId) (h : He
     on-sends most r state' out' m = subst (λ (o : Outcome). Leaves (agreed_in state) o 0 state out [] r state' rx store out' []) (sym (turn_by (Some most) m))
 
     pub on-waits : b ≡ None → Waits state rx store (length out) ch h s
-    on-waits m = record { finds = k; unclosed = sym c ∙ t; nothing = may-send None m }
+    on-waits m = record { finds = k; unclosed = sym c ∙ t; nothing = (leave-none spending s (policy_of (agreed_in state))).1 (may-send None m) }
 
     pub on-packet : (r : Reply) (state' rx' store' out' : List ℕ) → b ≡ None
-        → Leaves (agreed_in state) (write_first (lent_of state rx store) ch (length out) bytes received (starts state rx store) s None) 0 state out [] r state' rx' store' out' []
+        → Leaves (agreed_in state) (write_first spending (lent_of state rx store) ch (length out) bytes received (starts state rx store) s None) 0 state out [] r state' rx' store' out' []
         → Leaves (agreed_in state) turn 0 state out [] r state' rx' store' out' []
     on-packet r state' rx' store' out' m = subst (λ (o : Outcome). Leaves (agreed_in state) o 0 state out [] r state' rx' store' out' []) (sym (turn_by None m))
 
 -- ---- the call
 
-module _ (state rx store out received bytes : List ℕ) (ch : ChannelId) (h : Header) (g : Admits state rx store (length out)) (i : h ≡ dropped (state_of state).header) where
+module _ (spending : Spending) (state rx store out received bytes : List ℕ) (ch : ChannelId) (h : Header) (g : Admits state rx store (length out)) (i : h ≡ dropped (state_of state).header) where
   abbrev step : Outcome
-  step = write_step (lent_of state rx store) ch (length out) bytes received
+  step = write_step spending (lent_of state rx store) ch (length out) bytes received
 
   pub step-none : (r : Reply) (state' : List ℕ) → length bytes ≡ 0 → state' ≡ put_header state h → r ≡ record { answer = Written 0; used = 0; written = 0 }
       → Leaves (agreed_in state) step 0 state out [] r state' rx store out []
@@ -410,20 +411,20 @@ module _ (state rx store out received bytes : List ℕ) (ch : ChannelId) (h : He
 
     module _ (z : length bytes ≡ 0 → ⊥) where
       step-some : (there : Bool) → is_there (lent_of state rx store) ch ≡ there → step
-          ≡ cond there (write_on (lent_of state rx store) ch (length out) bytes received (starts state rx store) (slot_for (lent_of state rx store) ch))
+          ≡ cond there (write_on spending (lent_of state rx store) ch (length out) bytes received (starts state rx store) (slot_for (lent_of state rx store) ch))
           (ends (starts state rx store) (Refused ChannelClosed) 0 [])
       unfolding write_step
       step-some there e =
           cond-false _ _ _ (ne_eqb (length bytes) 0 z)
-          ∙ ap (λ (b : Bool). cond b (write_on (lent_of state rx store) ch (length out) bytes received (starts state rx store) (slot_for (lent_of state rx store) ch))
+          ∙ ap (λ (b : Bool). cond b (write_on spending (lent_of state rx store) ch (length out) bytes received (starts state rx store) (slot_for (lent_of state rx store) ch))
           (ends (starts state rx store) (Refused ChannelClosed) 0 [])) e
 
       pub step-there : (s : ChannelSlot) (r : Reply) (state' rx' store' out' : List ℕ) → found ≡ Some s
-          → Leaves (agreed_in state) (write_on (lent_of state rx store) ch (length out) bytes received (starts state rx store) s) 0 state out [] r state' rx' store' out' []
+          → Leaves (agreed_in state) (write_on spending (lent_of state rx store) ch (length out) bytes received (starts state rx store) s) 0 state out [] r state' rx' store' out' []
           → Leaves (agreed_in state) step 0 state out [] r state' rx' store' out' []
       step-there s r state' rx' store' out' f k =
           subst (λ (o : Outcome). Leaves (agreed_in state) o 0 state out [] r state' rx' store' out' []) (sym (step-some true (step-finds s f).there))
-          (subst (λ (x : ChannelSlot). Leaves (agreed_in state) (write_on (lent_of state rx store) ch (length out) bytes received (starts state rx store) x) 0 state out [] r state' rx' store' out' [])
+          (subst (λ (x : ChannelSlot). Leaves (agreed_in state) (write_on spending (lent_of state rx store) ch (length out) bytes received (starts state rx store) x) 0 state out [] r state' rx' store' out' [])
           (step-finds s f).slot k)
 
       pub step_gone : (r : Reply) (state' : List ℕ) → found ≡ None → state' ≡ put_header state h → r ≡ record { answer = Refused ChannelClosed; used = 0; written = 0 }

@@ -1,8 +1,10 @@
 -- What writing asks and promises inside. Assumes nothing.
 use Rattle.std.specs.Prelude.{ℕ, ◌≤◌, ◌<◌, ◌≡◌, true, false, List, [], length, None, Ok}
-use Rattle.config.specs.Config.{Within}
+use Rattle.config.specs.Config.{Within as Limits}
 use Rattle.config.specs.Negotiated.{policy_of}
 use Rattle.slot.specs.declared.ChannelSlot.{ChannelSlot}
+use Rattle.slot.specs.declared.Spending.{Spending}
+use Rattle.slot.specs.declared.Spending.TheVariants.{Within}
 use Rattle.slot.specs.Slot.{is_closed, budget_of, ready_of}
 use Rattle.state.specs.declared.Header.{Header}
 use Rattle.state.specs.State.{state_len, state_of}
@@ -22,7 +24,7 @@ pub record Sends (state : List ℕ) (place : ℕ) (h : Header) : Type 0 where
   pub state-fits : state_len ≤ length state
   pub place-fits : place < 64
   pub header : h ≡ dropped (state_of state).header
-  pub within : Within h.negotiated.config
+  pub within : Limits h.negotiated.config
   pub payload : h.negotiated.max_payload ≤ 1_048_576
 
 -- a channel that is in the table, and its slot
@@ -44,14 +46,14 @@ SendSomeLeaves state ch s bytes most used out r state' out' =
     ((rx store : List ℕ) → Leaves (agreed_in state) (send_some (lent_of state rx store) ch (length out) bytes used (starts state rx store) s (send_len (lent_of state rx store) bytes most)) 0 state out [] r state' rx store out' [])
 
 -- what `send_again` promises
-abbrev pub SendAgainLeaves : List ℕ → ChannelId → ChannelSlot → List ℕ → ℕ → List ℕ → Reply → List ℕ → List ℕ → Type 0
-SendAgainLeaves state ch s bytes used out r state' out' =
-    ((rx store : List ℕ) → Leaves (agreed_in state) (send_again (lent_of state rx store) ch (length out) bytes used (starts state rx store) s) 0 state out [] r state' rx store out' [])
+abbrev pub SendAgainLeaves : Spending → List ℕ → ChannelId → ChannelSlot → List ℕ → ℕ → List ℕ → Reply → List ℕ → List ℕ → Type 0
+SendAgainLeaves spending state ch s bytes used out r state' out' =
+    ((rx store : List ℕ) → Leaves (agreed_in state) (send_again spending (lent_of state rx store) ch (length out) bytes used (starts state rx store) s) 0 state out [] r state' rx store out' [])
 
 -- what `write_ready` promises
-abbrev pub WriteReadyLeaves : List ℕ → ChannelId → ChannelSlot → List ℕ → List ℕ → ℕ → List ℕ → Reply → List ℕ → List ℕ → Type 0
-WriteReadyLeaves state ch s bytes payload used out r state' out' =
-    ((rx store : List ℕ) → Leaves (agreed_in state) (write_readied (lent_of state rx store) ch (length out) bytes used (starts state rx store) s (ready_of s payload (policy (lent_of state rx store)))) 0 state out [] r state' rx store out' [])
+abbrev pub WriteReadyLeaves : Spending → List ℕ → ChannelId → ChannelSlot → List ℕ → List ℕ → ℕ → List ℕ → Reply → List ℕ → List ℕ → Type 0
+WriteReadyLeaves spending state ch s bytes payload used out r state' out' =
+    ((rx store : List ℕ) → Leaves (agreed_in state) (write_readied spending (lent_of state rx store) ch (length out) bytes used (starts state rx store) s (ready_of s payload (policy (lent_of state rx store)))) 0 state out [] r state' rx store out' [])
 
 -- what `write_packet` asks
 abbrev pub WritePacketAsks : List ℕ → List ℕ → List ℕ → ChannelId → ChannelSlot → List ℕ → List ℕ → Header → Packet → Type 0
@@ -59,30 +61,30 @@ WritePacketAsks state rx store ch s received out h packet =
     Waits state rx store (length out) ch h s × (received_of (lent_of state rx store) received ≡ (Ok packet))
 
 -- what `write_packet` promises
-abbrev pub WritePacketLeaves : List ℕ → List ℕ → List ℕ → ChannelId → ChannelSlot → List ℕ → List ℕ → List ℕ → Packet → Reply → List ℕ → List ℕ → List ℕ → List ℕ → Type 0
-WritePacketLeaves state rx store ch s bytes received out packet r state' rx' store' out' =
-    Leaves (agreed_in state) (write_by (lent_of state rx store) ch (length out) bytes (starts state rx store) s received (Ok packet)) 0 state out
+abbrev pub WritePacketLeaves : Spending → List ℕ → List ℕ → List ℕ → ChannelId → ChannelSlot → List ℕ → List ℕ → List ℕ → Packet → Reply → List ℕ → List ℕ → List ℕ → List ℕ → Type 0
+WritePacketLeaves spending state rx store ch s bytes received out packet r state' rx' store' out' =
+    Leaves (agreed_in state) (write_by spending (lent_of state rx store) ch (length out) bytes (starts state rx store) s received (Ok packet)) 0 state out
     [] r state' rx' store' out' []
 
 -- what `wait_ack` promises
-abbrev pub WaitAckLeaves : List ℕ → List ℕ → List ℕ → ChannelId → ChannelSlot → List ℕ → List ℕ → List ℕ → Reply → List ℕ → List ℕ → List ℕ → List ℕ → Type 0
-WaitAckLeaves state rx store ch s bytes received out r state' rx' store' out' =
-    Leaves (agreed_in state) (write_first (lent_of state rx store) ch (length out) bytes received (starts state rx store) s None) 0 state out [] r
+abbrev pub WaitAckLeaves : Spending → List ℕ → List ℕ → List ℕ → ChannelId → ChannelSlot → List ℕ → List ℕ → List ℕ → Reply → List ℕ → List ℕ → List ℕ → List ℕ → Type 0
+WaitAckLeaves spending state rx store ch s bytes received out r state' rx' store' out' =
+    Leaves (agreed_in state) (write_first spending (lent_of state rx store) ch (length out) bytes received (starts state rx store) s None) 0 state out [] r
     state' rx' store' out' []
 
 -- what `write_channel` promises
-abbrev pub WriteChannelLeaves : List ℕ → List ℕ → List ℕ → ChannelId → ChannelSlot → List ℕ → List ℕ → List ℕ → Reply → List ℕ → List ℕ → List ℕ → List ℕ → Type 0
-WriteChannelLeaves state rx store ch s bytes received out r state' rx' store' out' =
-    Leaves (agreed_in state) (write_on (lent_of state rx store) ch (length out) bytes received (starts state rx store) s) 0 state out [] r state' rx'
+abbrev pub WriteChannelLeaves : Spending → List ℕ → List ℕ → List ℕ → ChannelId → ChannelSlot → List ℕ → List ℕ → List ℕ → Reply → List ℕ → List ℕ → List ℕ → List ℕ → Type 0
+WriteChannelLeaves spending state rx store ch s bytes received out r state' rx' store' out' =
+    Leaves (agreed_in state) (write_on spending (lent_of state rx store) ch (length out) bytes received (starts state rx store) s) 0 state out [] r state' rx'
     store' out' []
 
 -- what `write_step` promises
-abbrev pub WriteStepLeaves : List ℕ → List ℕ → List ℕ → ChannelId → List ℕ → List ℕ → List ℕ → Reply → List ℕ → List ℕ → List ℕ → List ℕ → Type 0
-WriteStepLeaves state rx store ch bytes received out r state' rx' store' out' =
-    Leaves (agreed_in state) (write_step (lent_of state rx store) ch (length out) bytes received) 0 state out [] r state' rx' store' out' []
+abbrev pub WriteStepLeaves : Spending → List ℕ → List ℕ → List ℕ → ChannelId → List ℕ → List ℕ → List ℕ → Reply → List ℕ → List ℕ → List ℕ → List ℕ → Type 0
+WriteStepLeaves spending state rx store ch bytes received out r state' rx' store' out' =
+    Leaves (agreed_in state) (write_step spending (lent_of state rx store) ch (length out) bytes received) 0 state out [] r state' rx' store' out' []
 
--- what `write` promises
+-- what `write` promises: the host sends within the budget
 abbrev pub WriteLeaves : List ℕ → List ℕ → List ℕ → ChannelId → List ℕ → List ℕ → List ℕ → Reply → List ℕ → List ℕ → List ℕ → List ℕ → Type 0
 WriteLeaves state rx store ch bytes received out r state' rx' store' out' =
-    Leaves (agreed_in state) (write_outcome (is_whole state) (lent_of state rx store) (length out) ch bytes received) 0 state out [] r state' rx' store'
+    Leaves (agreed_in state) (write_outcome Within (is_whole state) (lent_of state rx store) (length out) ch bytes received) 0 state out [] r state' rx' store'
     out' []

@@ -15,11 +15,11 @@ use call::frames::{ids_in, put_write};
 use call::recv::{is_own, recv_pkt, unless_fault};
 use connection::{Answer, Refusal};
 use protocol::packet::Packet;
-use slot::{ChannelSlot, is_closed};
+use slot::{ChannelSlot, Spending, is_closed};
 use state::Header;
 use table::ChannelId;
 
-// The least of the bytes left, the payload's maximum (at least 1) and the budget.
+// The least of the bytes left, the payload's maximum (at least 1) and what may be sent.
 fn send_len(len: usize, max_payload: u32, most: usize) -> usize
     ensures { result ≡ min (min len (max max_payload 1)) most }
 {
@@ -58,20 +58,21 @@ fn send_again(
     state: &mut [u8],
     ch: ChannelId,
     s: ChannelSlot,
+    spending: Spending,
     bytes: &[u8],
     used: usize,
     out: &mut [u8],
     h: Header,
 ) -> Reply
     requires { Sends state.old ch.slot h }
-    ensures { SendAgainLeaves state.old ch s bytes.now used out.old result
+    ensures { SendAgainLeaves spending state.old ch s bytes.now used out.old result
         state.new out.new }
 {
     if is_closed(s.state) {
         let closed = Answer::Refused(Refusal::ChannelClosed);
         return ends_with(state, ch, s, h, closed, used, 0);
     }
-    match slot_send::budget(s, h.negotiated.rx_policy()) {
+    match slot_send::leave(s, h.negotiated.rx_policy(), spending) {
         Some(most) => send_some(state, ch, s, bytes, most, used, out, h),
         None => ends_with(state, ch, s, h, Answer::Waiting, used, 0),
     }
@@ -82,6 +83,7 @@ fn write_ready(
     state: &mut [u8],
     ch: ChannelId,
     s: ChannelSlot,
+    spending: Spending,
     bytes: &[u8],
     payload: &[u8],
     used: usize,
@@ -89,11 +91,11 @@ fn write_ready(
     h: Header,
 ) -> Reply
     requires { Sends state.old ch.slot h }
-    ensures { WriteReadyLeaves state.old ch s bytes.now payload.now used
+    ensures { WriteReadyLeaves spending state.old ch s bytes.now payload.now used
         out.old result state.new out.new }
 {
     match slot_send::apply_ready(s, payload, h.negotiated.rx_policy()) {
-        Ok(t) => send_again(state, ch, t, bytes, used, out, h),
+        Ok(t) => send_again(state, ch, t, spending, bytes, used, out, h),
         Err(fault) => {
             let short = Answer::Refused(Refusal::BadCredit(fault));
             ends(state, h, short, used, 0)
@@ -108,6 +110,7 @@ fn write_packet(
     store: &mut [u8],
     ch: ChannelId,
     s: ChannelSlot,
+    spending: Spending,
     bytes: &[u8],
     received: &[u8],
     out: &mut [u8],
@@ -115,14 +118,14 @@ fn write_packet(
     packet: Packet,
 ) -> Reply
     requires { WritePacketAsks state.old rx.old store.old ch s received.now out.old h packet }
-    ensures { WritePacketLeaves state.old rx.old store.old ch s bytes.now
+    ensures { WritePacketLeaves spending state.old rx.old store.old ch s bytes.now
         received.now out.old packet result state.new rx.new store.new
         out.new }
 {
     let payload = packet.payload_in(received);
     let used = packet.frame_len();
     if is_own(packet.command.is_ready(), packet.arg1, s.local) {
-        return write_ready(state, ch, s, bytes, payload, used, out, h);
+        return write_ready(state, ch, s, spending, bytes, payload, used, out, h);
     }
     if ids_in(s).closed_by(packet) {
         let closed = Answer::Refused(Refusal::ChannelClosed);
@@ -140,19 +143,22 @@ fn wait_ack(
     store: &mut [u8],
     ch: ChannelId,
     s: ChannelSlot,
+    spending: Spending,
     bytes: &[u8],
     received: &[u8],
     out: &mut [u8],
     h: Header,
 ) -> Reply
     requires { Waits state.old rx.old store.old (length out.old) ch h s }
-    ensures { WaitAckLeaves state.old rx.old store.old ch s bytes.now
+    ensures { WaitAckLeaves spending state.old rx.old store.old ch s bytes.now
         received.now out.old result state.new rx.new store.new out.new }
 {
     if s.has_remote {
         return match recv_pkt(received, h.negotiated.config.max_payload) {
             Err((answer, used)) => ends(state, h, answer, used, 0),
-            Ok(packet) => write_packet(state, rx, store, ch, s, bytes, received, out, h, packet),
+            Ok(packet) => write_packet(
+                state, rx, store, ch, s, spending, bytes, received, out, h, packet,
+            ),
         };
     }
     ends(state, h, Answer::Refused(Refusal::ChannelClosed), 0, 0)
@@ -165,48 +171,51 @@ fn write_channel(
     store: &mut [u8],
     ch: ChannelId,
     s: ChannelSlot,
+    spending: Spending,
     bytes: &[u8],
     received: &[u8],
     out: &mut [u8],
     h: Header,
 ) -> Reply
     requires { Finds state.old rx.old store.old (length out.old) ch h s }
-    ensures { WriteChannelLeaves state.old rx.old store.old ch s bytes.now
+    ensures { WriteChannelLeaves spending state.old rx.old store.old ch s bytes.now
         received.now out.old result state.new rx.new store.new out.new }
 {
     if is_closed(s.state) {
         return ends(state, h, Answer::Refused(Refusal::ChannelClosed), 0, 0);
     }
-    match slot_send::budget(s, h.negotiated.rx_policy()) {
+    match slot_send::leave(s, h.negotiated.rx_policy(), spending) {
         Some(most) => send_some(state, ch, s, bytes, most, 0, out, h),
-        None => wait_ack(state, rx, store, ch, s, bytes, received, out, h),
+        None => wait_ack(state, rx, store, ch, s, spending, bytes, received, out, h),
     }
 }
 
-fn write_step(
+// The call's step, once it is admitted: within the budget, or past its end.
+pub fn write_step(
     state: &mut [u8],
     rx: &mut [u8],
     store: &mut [u8],
     ch: ChannelId,
+    spending: Spending,
     bytes: &[u8],
     received: &[u8],
     out: &mut [u8],
     h: Header,
 ) -> Reply
     requires { Begins state.old rx.old store.old (length out.old) h }
-    ensures { WriteStepLeaves state.old rx.old store.old ch bytes.now
+    ensures { WriteStepLeaves spending state.old rx.old store.old ch bytes.now
         received.now out.old result state.new rx.new store.new out.new }
 {
     if bytes.len() == 0 {
         return ends(state, h, Answer::Written(0), 0, 0);
     }
     match get(state, h.negotiated.config.channels, ch) {
-        Some(s) => write_channel(state, rx, store, ch, s, bytes, received, out, h),
+        Some(s) => write_channel(state, rx, store, ch, s, spending, bytes, received, out, h),
         None => not_there(state, h),
     }
 }
 
-// Some of the bytes are sent in one WRTE, or one packet is looked at where none may be sent yet.
+// Some of the bytes are sent in one WRTE, within the budget, or one packet is looked at where none may be sent yet.
 pub fn write(
     state: &mut [u8],
     rx: &mut [u8],
@@ -221,6 +230,16 @@ pub fn write(
 {
     match admit_out(state, rx.len(), store.len(), out.len()) {
         Err(refusal) => refused(refusal),
-        Ok(h) => write_step(state, rx, store, ch, bytes, received, out, drop_pending(h)),
+        Ok(h) => write_step(
+            state,
+            rx,
+            store,
+            ch,
+            Spending::Within,
+            bytes,
+            received,
+            out,
+            drop_pending(h),
+        ),
     }
 }

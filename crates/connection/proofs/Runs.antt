@@ -20,7 +20,8 @@ use Rattle.protocol.specs.Message.{message_of, header_bytes}
 use Rattle.protocol.specs.Packet.{payload_of, check_passes, packet_of, known_of, named_of, decode_of, message_for, packet_bytes as frame_bytes-protocol}
 use Rattle.slot.specs.Ids.{named_by, closed_by}
 use Rattle.credit.specs.Credit.{credit_of, at_least_zero}
-use Rattle.slot.specs.Slot.{emptied_slot, total_with, opening_slot, empty_slot, is_opening, is_closed, is_failed, error_of, opened_by, opened_of, ready_by, ready_of, held_of, acks_now, buffered_with, wrote_of, some_len, delivered_of, ack_len_of, has_data, settled_by, settled_some, settled_of, take_len, took_of, taken_of, budget_of, spent_of, closed_slot, slot_ok}
+use Rattle.slot.specs.declared.Spending.TheVariants.{Within}
+use Rattle.slot.specs.Slot.{emptied_slot, total_with, opening_slot, empty_slot, is_opening, is_closed, is_failed, error_of, opened_by, opened_of, ready_by, ready_of, held_of, acks_now, buffered_with, wrote_of, some_len, delivered_of, ack_len_of, has_data, settled_by, settled_some, settled_of, take_len, took_of, taken_of, budget_of, leave_by, leave_of, spent_of, closed_slot, slot_ok}
 use Rattle.wire.specs.Wire.{credit_bytes, okay_bytes, close_bytes}
 use Rattle.le.specs.Rows.{flat}
 use Rattle.state_whole.specs.Whole.{filled_ok, slot_fine, slots_fine, queued_fine, queue_fine, pending_fine, offer_fine, opens_fine, header_fine, filled_at, whole}
@@ -52,7 +53,7 @@ called l (dispatches received) = dispatch_outcome (whole l.state) l 56 received
 called l (settles i n want) = settle_outcome (whole l.state) l 56 (channel i n) want
 called l (takes i n room) = take_outcome (whole l.state) l (channel i n) room
 called l (reads i n room received) = read_outcome (whole l.state) l 56 (channel i n) room received
-called l (writes i n bytes received) = write_outcome (whole l.state) l 56 (channel i n) bytes received
+called l (writes i n bytes received) = write_outcome Within (whole l.state) l 56 (channel i n) bytes received
 called l (closes i n) = close_outcome (whole l.state) l 56 (channel i n)
 called l takes_front = take_front_outcome (whole l.state) l
 
@@ -166,5 +167,5 @@ live_steps =
 
 pub agrees : given (start delayed) delayed_steps ++ given (start classic) classic_steps ++ given (start delayed) live_steps
     ≡ map (λ (s : Step). s.said) (delayed_steps ++ classic_steps ++ live_steps)
-unfolding num_of bytes_of signed part put clamp sat_sum positive_part slid fits_behind appended_head appended taken_head within_limits cap_of ceiling_of watermark_of opening_credit rx_store_len open_store_len stores_fit both negotiated_of policy_of credit_of-config total sum_of policy_for check_for letters_of word_of magic_of commands among_of command_of message_of header_bytes payload_of check_passes packet_of known_of named_of decode_of message_for frame_bytes-protocol is_close named_by closed_by credit_of at_least_zero opening_slot empty_slot emptied_slot total_with is_opening is_closed is_failed error_of opened_by opened_of ready_by ready_of held_of acks_now buffered_with wrote_of some_len delivered_of ack_len_of has_data settled_by settled_some settled_of take_len took_of taken_of budget_of spent_of closed_slot slot_ok credit_bytes okay_bytes close_bytes flat filled_ok slot_fine slots_fine queued_fine queue_fine pending_fine offer_fine opens_fine header_fine filled_at whole first wanted_by place_of next_local_id allocated slot_in named_place remote_place closed_at close_of readied_of granted ready_at stray_of grant_of share_of buffered_in wrote_by wrote_at write_of route_of dispatch_of queued_as queued_opens named free_from free_share stays_by kept withdrawal popped next_share pushed frame_bytes frames_bytes pushed_by acted_by table_of act_on answer_number ack_length refusal_word answer_values ends checked checked_out is_there slot_for ack_frames unless_fault received_by received_of is_write is_ready fresh dispatch_by dispatch_step settled_as settle_step front_of taken_by take_step reread read_settled read_acted is_direct read_direct read_by read_taken read_first read_step send_len send_some send_by send_again write_readied write_acted write_act write_by write_first write_on write_step close_step take_front_by take_front_step open_on still_pending open_readied open_acted open_by open_step open_outcome dispatch_outcome settle_outcome take_outcome read_outcome write_outcome close_outcome take_front_outcome is_the
+unfolding num_of bytes_of signed part put clamp sat_sum positive_part slid fits_behind appended_head appended taken_head within_limits cap_of ceiling_of watermark_of opening_credit rx_store_len open_store_len stores_fit both negotiated_of policy_of credit_of-config total sum_of policy_for check_for letters_of word_of magic_of commands among_of command_of message_of header_bytes payload_of check_passes packet_of known_of named_of decode_of message_for frame_bytes-protocol is_close named_by closed_by credit_of at_least_zero opening_slot empty_slot emptied_slot total_with is_opening is_closed is_failed error_of opened_by opened_of ready_by ready_of held_of acks_now buffered_with wrote_of some_len delivered_of ack_len_of has_data settled_by settled_some settled_of take_len took_of taken_of budget_of leave_by leave_of spent_of closed_slot slot_ok credit_bytes okay_bytes close_bytes flat filled_ok slot_fine slots_fine queued_fine queue_fine pending_fine offer_fine opens_fine header_fine filled_at whole first wanted_by place_of next_local_id allocated slot_in named_place remote_place closed_at close_of readied_of granted ready_at stray_of grant_of share_of buffered_in wrote_by wrote_at write_of route_of dispatch_of queued_as queued_opens named free_from free_share stays_by kept withdrawal popped next_share pushed frame_bytes frames_bytes pushed_by acted_by table_of act_on answer_number ack_length refusal_word answer_values ends checked checked_out is_there slot_for ack_frames unless_fault received_by received_of is_write is_ready fresh dispatch_by dispatch_step settled_as settle_step front_of taken_by take_step reread read_settled read_acted is_direct read_direct read_by read_taken read_first read_step send_len send_some send_by send_again write_readied write_acted write_act write_by write_first write_on write_step close_step take_front_by take_front_step open_on still_pending open_readied open_acted open_by open_step open_outcome dispatch_outcome settle_outcome take_outcome read_outcome write_outcome close_outcome take_front_outcome is_the
 agrees = refl

@@ -17,9 +17,10 @@ use Rattle.slot.specs.declared.ChannelSlot.{ChannelSlot}
 use Rattle.credit.specs.declared.CreditFault.{CreditFault}
 use Rattle.slot.specs.declared.ChannelFault.TheVariants.{BadCredit as CreditBad}
 use Rattle.slot.specs.declared.Settled.{Settled as SettledSlot}
+use Rattle.slot.specs.declared.Spending.{Spending}
 use Rattle.slot.specs.declared.ids.RemoteId.{RemoteId}
 use Rattle.slot.specs.Ids.{closed_by}
-use Rattle.slot.specs.Slot.{emptied_slot, is_closed, ready_of, taken_of, budget_of, closed_slot}
+use Rattle.slot.specs.Slot.{emptied_slot, is_closed, ready_of, taken_of, leave_of, closed_slot}
 use Rattle.slot.proofs.Kept.{pick}
 use Rattle.state.specs.declared.Header.{Header}
 use Rattle.state.specs.Change.{Change, slot_to, changed_all}
@@ -34,7 +35,7 @@ use Rattle.connection.specs.declared.Answer.TheVariants.{Done, Waiting, Nothing,
 use Rattle.connection.specs.declared.Refusal.TheVariants.{PayloadTooLarge, BadCredit, UnexpectedCommand, OutShort, ChannelClosed, NoFreeChannels}
 use Rattle.connection.specs.Answer.{answer_number}
 use Rattle.connection.specs.Act.{Acted, act_on, PacketFits}
-use Rattle.connection.specs.Calls.{looked, numbers_in, numbers_for, Lent, Work, begun, then, then_acted, ends, dropped, pending_for, policy, ids_in, is_there, slot_for, ack_frames, fault_refusal, error_refusal, unless_fault, received_of, body_of, frame_len, dispatch_by, dispatch_step, settled_as, settle_step, taken_by, take_step, reread, read_settled, read_acted, is_direct, read_direct, read_by, read_taken, read_first, read_step, send_len, send_some, send_by, send_again, write_readied, write_acted, write_act, write_by, write_first, write_on, write_step, close_step, take_front_by, take_front_step, open_on, still_pending, open_readied, open_acted, open_by, open_step, offer_in, is_offered, reject_on, accept_on, accept_step, reject_step, let_go_step}
+use Rattle.connection.specs.Calls.{looked, numbers_in, numbers_for, Lent, Work, begun, then, then_acted, ends, dropped, pending_for, policy, ids_in, is_there, slot_for, ack_frames, fault_refusal, error_refusal, unless_fault, received_of, body_of, frame_len, dispatch_by, dispatch_step, settled_as, settle_step, taken_by, take_step, reread, read_settled, read_acted, is_direct, read_direct, read_by, read_taken, read_first, read_step, send_len, send_some, send_by, send_again, write_readied, write_acted, write_act, write_by, write_first, write_on, write_step, close_step, take_front_by, take_front_step, open_on, still_pending, open_readied, open_acted, open_by, open_step, offer_in, is_offered, reject_on, accept_on, accept_step, reject_step, verdict_step, let_go_step}
 use Rattle.connection.specs.Frames.{Frame, frames_bytes}
 use Rattle.state_whole.proofs.WholeLaws.{Live, Whole, live-whole, emptied-whole}
 use Rattle.state_whole.proofs.LiveLaws.{ReadiedLive, ready-live, opened-live, accepted-live, TakenLive, taken_live, settled-live, delivered-live, spent-live, closed-live}
@@ -273,6 +274,11 @@ module _ (l : Lent) (g : Whole (negotiated l) l.state.header l.state.slots l.sta
   unfolding reject_step
   reject-kept = pick (Kept l) (is_offered l) (λ t. reject-on (offer_in l).remote Done done-fine) (λ t. not-offered)
 
+  pub verdict-kept : (take : Bool) (remote : RemoteId) (credit : ℕ) → remote.0 < 2 ^ 32 → credit < 2 ^ 32 → Kept l (verdict_step l take remote credit)
+  unfolding verdict_step
+  verdict-kept take remote credit h f =
+      pick (Kept l) take (λ t. accept-on remote credit h f (allocated l.state.header l.state.slots) allocated-free) (λ t. reject-on remote Done done-fine)
+
   pub let-go-kept : Kept l (let_go_step l)
   unfolding let_go_step
   let-go-kept =
@@ -376,7 +382,7 @@ module _ (l : Lent) (g : Whole (negotiated l) l.state.header l.state.slots l.sta
 
     -- ---- write
 
-    module _ (ch : ChannelId) (out : ℕ) (bytes : List ℕ) where
+    module _ (spending : Spending) (ch : ChannelId) (out : ℕ) (bytes : List ℕ) where
       send-some : (used : ℕ) (w : Work) (s : ChannelSlot) (n : ℕ) → At l ch.slot w → Live (negotiated l) ch.slot s → Kept l (send_some l ch out bytes used w s n)
       unfolding send_some
       send-some used w s n k v =
@@ -388,24 +394,24 @@ module _ (l : Lent) (g : Whole (negotiated l) l.state.header l.state.slots l.sta
       send-by used w s k v (Some most) = send-some used w s (send_len l bytes most) k v
       send-by used w s k v None = at-ends l ch.slot _ (at_slot l ch.slot w k s [] v) Waiting used [] pending-fine
 
-      send-again : (used : ℕ) (w : Work) (s : ChannelSlot) → At l ch.slot w → Live (negotiated l) ch.slot s → Kept l (send_again l ch out bytes used w s)
+      send-again : (used : ℕ) (w : Work) (s : ChannelSlot) → At l ch.slot w → Live (negotiated l) ch.slot s → Kept l (send_again spending l ch out bytes used w s)
       unfolding send_again
       send-again used w s k v =
           pick (Kept l) (is_closed s.state) (λ t. at-ends l ch.slot _ (at_slot l ch.slot w k s [] v) (Refused ChannelClosed) used [] closed-fine)
-          (λ t. send-by used w s k v (budget_of s (policy l)))
+          (λ t. send-by used w s k v (leave_of spending s (policy l)))
 
-      write-readied : (used : ℕ) (w : Work) (s : ChannelSlot) → At l ch.slot w → (r : Result ChannelSlot CreditFault) → ReadiedLive (negotiated l) ch.slot r → Kept l (write_readied l ch out bytes used w s r)
+      write-readied : (used : ℕ) (w : Work) (s : ChannelSlot) → At l ch.slot w → (r : Result ChannelSlot CreditFault) → ReadiedLive (negotiated l) ch.slot r → Kept l (write_readied spending l ch out bytes used w s r)
       unfolding write_readied
       write-readied used w s k (Ok t) v = send-again used w t k v
       write-readied used w s k (Err f) v = at-ends l ch.slot w k (Refused (BadCredit f)) used [] (bad-fine f)
 
-      write-acted : (used : ℕ) (w : Work) (a : Acted) → At l ch.slot (then_acted w a) → (f : Option ChannelFault) → Kept l (write_acted l ch out bytes used w a f)
+      write-acted : (used : ℕ) (w : Work) (a : Acted) → At l ch.slot (then_acted w a) → (f : Option ChannelFault) → Kept l (write_acted spending l ch out bytes used w a f)
       unfolding write_acted
       write-acted used w a k (Some f) = at-ends l ch.slot _ k (Refused (fault_refusal f)) used [] (fault-fine f)
       write-acted used w a k None = send-again used (then_acted w a) _ k k.live
 
       module _ (start : At l ch.slot (begun (dropped l.state.header) l)) (s : ChannelSlot) (v : Live (negotiated l) ch.slot s) where
-        write-by : (r : Result Packet (Answer × ℕ)) → ReceivedFits (negotiated l) received r → Kept l (write_by l ch out bytes (begun (dropped l.state.header) l) s received r)
+        write-by : (r : Result Packet (Answer × ℕ)) → ReceivedFits (negotiated l) received r → Kept l (write_by spending l ch out bytes (begun (dropped l.state.header) l) s received r)
         unfolding write_by write_act
         write-by (Err (a, used)) k = at-ends l ch.slot _ start a used [] k
         write-by (Ok p) k =
@@ -415,20 +421,20 @@ module _ (l : Lent) (g : Whole (negotiated l) l.state.header l.state.slots l.sta
             (λ u. at-ends l ch.slot _ (at_slot l ch.slot _ start (closed_slot s) [] (closed-live (negotiated l) ch.slot s v)) (Refused ChannelClosed) (frame_len p) [] closed-fine)
             (λ u. write-acted (frame_len p) _ _ (at-act l ch.slot _ start _ (acted p k)) _))
 
-        write-first : Bytes received → (b : Option ℕ) → Kept l (write_first l ch out bytes received (begun (dropped l.state.header) l) s b)
+        write-first : Bytes received → (b : Option ℕ) → Kept l (write_first spending l ch out bytes received (begun (dropped l.state.header) l) s b)
         unfolding write_first
         write-first y (Some most) = send-some 0 _ s (send_len l bytes most) start v
         write-first y None =
             pick (Kept l) s.has_remote (λ t. write-by (received_of l received) (received-fits l received y))
             (λ t. at-ends l ch.slot _ start (Refused ChannelClosed) 0 [] closed-fine)
 
-        write-on : Bytes received → Kept l (write_on l ch out bytes received (begun (dropped l.state.header) l) s)
+        write-on : Bytes received → Kept l (write_on spending l ch out bytes received (begun (dropped l.state.header) l) s)
         unfolding write_on
         write-on y =
             pick (Kept l) (is_closed s.state) (λ t. at-ends l ch.slot _ start (Refused ChannelClosed) 0 [] closed-fine)
-            (λ t. write-first y (budget_of s (policy l)))
+            (λ t. write-first y (leave_of spending s (policy l)))
 
-      pub write_kept : Bytes received → Kept l (write_step l ch out bytes received)
+      pub write_kept : Bytes received → Kept l (write_step spending l ch out bytes received)
       unfolding write_step
       write_kept y =
           pick (Kept l) (eqb (length bytes) 0) (λ z. ends-kept l _ (dropped-whole l g) (Written 0) 0 [] (written-fine 0))

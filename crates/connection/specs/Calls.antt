@@ -17,10 +17,11 @@ use Rattle.slot.specs.declared.ChannelFault.{ChannelFault}
 use Rattle.slot.specs.declared.ChannelFault.TheVariants.{RxOverflow, BadCredit as CreditBad, UnexpectedCommand as WriteEarly}
 use Rattle.slot.specs.declared.ChannelSlot.{ChannelSlot}
 use Rattle.slot.specs.declared.Settled.{Settled as SettledSlot}
+use Rattle.slot.specs.declared.Spending.{Spending}
 use Rattle.slot.specs.declared.ids.ChannelIds.{ChannelIds}
 use Rattle.slot.specs.declared.ids.RemoteId.{RemoteId}
 use Rattle.slot.specs.Ids.{closed_by}
-use Rattle.slot.specs.Slot.{empty_slot, emptied_slot, opening_slot, accepted_slot, is_closed, opened_of, ready_of, delivered_of, settled_of, taken_of, budget_of, spent_of, closed_slot}
+use Rattle.slot.specs.Slot.{empty_slot, emptied_slot, opening_slot, accepted_slot, is_closed, opened_of, ready_of, delivered_of, settled_of, taken_of, leave_of, spent_of, closed_slot}
 use Rattle.state.specs.declared.Header.{Header}
 use Rattle.state.specs.declared.Pending.TheVariants.{Nothing as NothingPending, Opening as OursPending}
 use Rattle.state.specs.declared.PendingOpen.{PendingOpen}
@@ -310,9 +311,9 @@ read_step l ch room received =
     cond (is_there l ch) (read_first l ch room received (settled_of (slot_for l ch) (policy l) room))
     (not_there l)
 
--- ---- write (`wait_ack`, then one turn of `write_channel`)
+-- ---- write (`wait_ack`, then one turn of `write_channel`); spending: whether a WRTE may pass the budget
 
--- the least of data left, max_payload (at least 1) and budget
+-- the least of data left, max_payload (at least 1) and what may be sent
 unfoldable pub send_len : Lent → List ℕ → ℕ → ℕ
 send_len l bytes most = min (min (length bytes) (max l.state.header.negotiated.max_payload 1)) most
 
@@ -322,57 +323,57 @@ send_some l ch out bytes used w s n =
     cond (ltb out (length (frames_bytes w.header.negotiated w.frames) + message_size + n)) (untouched l OutShort)
     (ends (then w (slot_to ch.slot (spent_of s (policy l) n) ∷ []) (write_frame (ids_in s) (take n bytes) ∷ [])) (Written n) used [])
 
--- by the budget: sent, or waiting again
+-- by what may be sent: sent, or waiting again
 unfoldable pub send_by : Lent → ChannelId → ℕ → List ℕ → ℕ → Work → ChannelSlot → Option ℕ → Outcome
 send_by l ch out bytes used w s (Some most) = send_some l ch out bytes used w s (send_len l bytes most)
 send_by l ch out bytes used w s None = ends_with w ch s Waiting used
 
 -- the turn of the loop after a packet: closed, sent, or waiting again
-unfoldable pub send_again : Lent → ChannelId → ℕ → List ℕ → ℕ → Work → ChannelSlot → Outcome
-send_again l ch out bytes used w s =
+unfoldable pub send_again : Spending → Lent → ChannelId → ℕ → List ℕ → ℕ → Work → ChannelSlot → Outcome
+send_again spending l ch out bytes used w s =
     cond (is_closed s.state) (ends_with w ch s (Refused ChannelClosed) used)
-    (send_by l ch out bytes used w s (budget_of s (policy l)))
+    (send_by l ch out bytes used w s (leave_of spending s (policy l)))
 
 -- the channel's own OKAY: its credit is used at once, or it is short (5)
-unfoldable pub write_readied : Lent → ChannelId → ℕ → List ℕ → ℕ → Work → ChannelSlot → Result ChannelSlot CreditFault → Outcome
-write_readied l ch out bytes used w s (Ok t) = send_again l ch out bytes used w t
-write_readied l ch out bytes used w s (Err f) = ends w (Refused (BadCredit f)) used []
+unfoldable pub write_readied : Spending → Lent → ChannelId → ℕ → List ℕ → ℕ → Work → ChannelSlot → Result ChannelSlot CreditFault → Outcome
+write_readied spending l ch out bytes used w s (Ok t) = send_again spending l ch out bytes used w t
+write_readied spending l ch out bytes used w s (Err f) = ends w (Refused (BadCredit f)) used []
 
 -- a packet that was dispatched: its fault, or the next turn of the loop
-unfoldable pub write_acted : Lent → ChannelId → ℕ → List ℕ → ℕ → Work → Acted → Option ChannelFault → Outcome
-write_acted l ch out bytes used w a (Some f) = ends (then_acted w a) (Refused (fault_refusal f)) used []
-write_acted l ch out bytes used w a None =
-    send_again l ch out bytes used (then_acted w a) (slot_in (changed_all l.state (w.changes ++ a.changes)).slots ch.slot)
+unfoldable pub write_acted : Spending → Lent → ChannelId → ℕ → List ℕ → ℕ → Work → Acted → Option ChannelFault → Outcome
+write_acted spending l ch out bytes used w a (Some f) = ends (then_acted w a) (Refused (fault_refusal f)) used []
+write_acted spending l ch out bytes used w a None =
+    send_again spending l ch out bytes used (then_acted w a) (slot_in (changed_all l.state (w.changes ++ a.changes)).slots ch.slot)
 
 -- any other packet: dispatched
-unfoldable pub write_act : Lent → ChannelId → ℕ → List ℕ → ℕ → Work → Acted → Outcome
-write_act l ch out bytes used w a = write_acted l ch out bytes used w a a.fault
+unfoldable pub write_act : Spending → Lent → ChannelId → ℕ → List ℕ → ℕ → Work → Acted → Outcome
+write_act spending l ch out bytes used w a = write_acted spending l ch out bytes used w a a.fault
 
 -- no packet: its answer; else the channel's own OKAY, its CLSE (10), or any other
-unfoldable pub write_by : Lent → ChannelId → ℕ → List ℕ → Work → ChannelSlot → List ℕ → Result Packet (Answer × ℕ) → Outcome
-write_by l ch out bytes w s received (Err (a, used)) = ends w a used []
-write_by l ch out bytes w s received (Ok p) =
-    cond (is_ready p.command && eqb p.arg1 s.local.0) (write_readied l ch out bytes (frame_len p) w s (ready_of s (body_of received p) (policy l)))
+unfoldable pub write_by : Spending → Lent → ChannelId → ℕ → List ℕ → Work → ChannelSlot → List ℕ → Result Packet (Answer × ℕ) → Outcome
+write_by spending l ch out bytes w s received (Err (a, used)) = ends w a used []
+write_by spending l ch out bytes w s received (Ok p) =
+    cond (is_ready p.command && eqb p.arg1 s.local.0) (write_readied spending l ch out bytes (frame_len p) w s (ready_of s (body_of received p) (policy l)))
     (cond (closed_by (ids_in s) p) (ends_with w ch (closed_slot s) (Refused ChannelClosed) (frame_len p))
-    (write_act l ch out bytes (frame_len p) w
+    (write_act spending l ch out bytes (frame_len p) w
     (act_on w.header l.state.slots l.state.queue l.rx l.store p (body_of received p))))
 
--- by the budget: sent at once, or a packet is looked at
-unfoldable pub write_first : Lent → ChannelId → ℕ → List ℕ → List ℕ → Work → ChannelSlot → Option ℕ → Outcome
-write_first l ch out bytes received w s (Some most) = send_some l ch out bytes 0 w s (send_len l bytes most)
-write_first l ch out bytes received w s None =
-    cond s.has_remote (write_by l ch out bytes w s received (received_of l received)) (ends w (Refused ChannelClosed) 0 [])
+-- by what may be sent: sent at once, or a packet is looked at
+unfoldable pub write_first : Spending → Lent → ChannelId → ℕ → List ℕ → List ℕ → Work → ChannelSlot → Option ℕ → Outcome
+write_first spending l ch out bytes received w s (Some most) = send_some l ch out bytes 0 w s (send_len l bytes most)
+write_first spending l ch out bytes received w s None =
+    cond s.has_remote (write_by spending l ch out bytes w s received (received_of l received)) (ends w (Refused ChannelClosed) 0 [])
 
 -- the first turn: closed, sent at once, or a packet is looked at
-unfoldable pub write_on : Lent → ChannelId → ℕ → List ℕ → List ℕ → Work → ChannelSlot → Outcome
-write_on l ch out bytes received w s =
-    cond (is_closed s.state) (ends w (Refused ChannelClosed) 0 []) (write_first l ch out bytes received w s (budget_of s (policy l)))
+unfoldable pub write_on : Spending → Lent → ChannelId → ℕ → List ℕ → List ℕ → Work → ChannelSlot → Outcome
+write_on spending l ch out bytes received w s =
+    cond (is_closed s.state) (ends w (Refused ChannelClosed) 0 []) (write_first spending l ch out bytes received w s (leave_of spending s (policy l)))
 
 -- no bytes: done without looking at the channel
-unfoldable pub write_step : Lent → ChannelId → ℕ → List ℕ → List ℕ → Outcome
-write_step l ch out bytes received =
+unfoldable pub write_step : Spending → Lent → ChannelId → ℕ → List ℕ → List ℕ → Outcome
+write_step spending l ch out bytes received =
     cond (eqb (length bytes) 0) (ends (begun (dropped l.state.header) l) (Written 0) 0 [])
-    (cond (is_there l ch) (write_on l ch out bytes received (begun (dropped l.state.header) l) (slot_for l ch))
+    (cond (is_there l ch) (write_on spending l ch out bytes received (begun (dropped l.state.header) l) (slot_for l ch))
     (not_there l))
 
 -- ---- close (`close_channel`)
@@ -500,6 +501,11 @@ accept_step l =
 unfoldable pub reject_step : Lent → Outcome
 reject_step l = cond (is_offered l) (reject_on l (dropped l.state.header) (offer_in l).remote Done) (not_offered l)
 
+-- an open of the peer's is taken or refused at once, by its number and credit: it was never queued
+unfoldable pub verdict_step : Lent → Bool → RemoteId → ℕ → Outcome
+verdict_step l take remote credit =
+    cond take (accept_on l (dropped l.state.header) remote credit (allocated l.state.header l.state.slots)) (reject_on l (dropped l.state.header) remote Done)
+
 -- it goes back to the head of the queue (`Drop`)
 unfoldable pub let_go_step : Lent → Outcome
 let_go_step l =
@@ -529,8 +535,8 @@ unfoldable pub read_outcome : Bool → Lent → ℕ → ChannelId → ℕ → Li
 read_outcome whole l out ch room received = checked_out whole l out (read_step l ch room received)
 
 -- write
-unfoldable pub write_outcome : Bool → Lent → ℕ → ChannelId → List ℕ → List ℕ → Outcome
-write_outcome whole l out ch bytes received = checked_out whole l out (write_step l ch out bytes received)
+unfoldable pub write_outcome : Spending → Bool → Lent → ℕ → ChannelId → List ℕ → List ℕ → Outcome
+write_outcome spending whole l out ch bytes received = checked_out whole l out (write_step spending l ch out bytes received)
 
 -- close
 unfoldable pub close_outcome : Bool → Lent → ℕ → ChannelId → Outcome
@@ -551,6 +557,10 @@ accept_outcome whole l out = checked_out whole l out (accept_step l)
 -- reject
 unfoldable pub reject_outcome : Bool → Lent → ℕ → Outcome
 reject_outcome whole l out = checked_out whole l out (reject_step l)
+
+-- a verdict at once: a device's end makes this call, the host's functions do not
+unfoldable pub verdict_outcome : Bool → Lent → ℕ → Bool → RemoteId → ℕ → Outcome
+verdict_outcome whole l out take remote credit = checked_out whole l out (verdict_step l take remote credit)
 
 -- let go: it is lent no outgoing buffer
 unfoldable pub let_go_outcome : Bool → Lent → Outcome

@@ -66,7 +66,7 @@ pub data Accepts (l : Lent) : Outcome → Type 0 where
   declines : (x : Outcome) → eqb (answer_number x.answer) 0 ≡ false → Tame l.state.slots x.changes → slots_by l.state.slots x.changes ≡ l.state.slots → x.rx ≡ l.rx → Accepts l x
 
 module _ (l : Lent) (ok : TableOk (policy l) l.state.header.negotiated.config.channels l.state.slots l.rx) where
-  accepts-on : (remote : RemoteId) (credit : ℕ) (r : Result ChannelId NoFreeChannels) → allocated l.state.header l.state.slots ≡ r → Accepts l (accept_on l (dropped l.state.header) remote credit r)
+  pub accepts-on : (remote : RemoteId) (credit : ℕ) (r : Result ChannelId NoFreeChannels) → allocated l.state.header l.state.slots ≡ r → Accepts l (accept_on l (dropped l.state.header) remote credit r)
   unfolding accept_on reject_on ends answer_number
   accepts-on remote credit (Err _) e = declines _ refl tt refl refl
   accepts-on remote credit (Ok ch) e = takes _ ch remote credit e refl refl refl refl refl

@@ -166,7 +166,7 @@ NoSlot (header_to h ∷ xs) = NoSlot xs
 NoSlot (queued_to i q ∷ xs) = NoSlot xs
 NoSlot (queue_to qs ∷ xs) = NoSlot xs
 
-no_slot : (ss : List ChannelSlot) (xs : List Change) → NoSlot xs → slots_by ss xs ≡ ss
+pub no_slot : (ss : List ChannelSlot) (xs : List Change) → NoSlot xs → slots_by ss xs ≡ ss
 no_slot ss [] e = refl
 no_slot ss (slot_to i s ∷ xs) e = absurd e
 no_slot ss (header_to h ∷ xs) e = no_slot ss xs e

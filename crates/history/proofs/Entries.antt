@@ -19,11 +19,12 @@ use Rattle.protocol.specs.declared.message.Message.{Message}
 use Rattle.protocol.proofs.RoundTrip.{Says}
 use Rattle.protocol.specs.Command.{is_ready, is_close, is_write}
 use Rattle.slot.specs.declared.ChannelSlot.{ChannelSlot}
+use Rattle.slot.specs.declared.Spending.{Spending}
 use Rattle.slot.specs.declared.Settled.{Settled}
 use Rattle.slot.specs.declared.ChannelError.{ChannelError}
 use Rattle.slot.specs.declared.ids.LocalId.{LocalId}
 use Rattle.slot.specs.Ids.{closed_by}
-use Rattle.slot.specs.Slot.{budget_of, spent_of, ready_of, closed_slot, delivered_of, emptied_slot, settled_of, took_of, taken_of, take_len, has_data, is_closed, error_of, held_of, SlotOk}
+use Rattle.slot.specs.Slot.{leave_of, spent_of, ready_of, closed_slot, delivered_of, emptied_slot, settled_of, took_of, taken_of, take_len, has_data, is_closed, error_of, held_of, SlotOk}
 use Rattle.slot.proofs.Stays.{Stays, settled-state, settled-stays}
 use Rattle.slot.proofs.Kept.{pick, settled-sound}
 use Rattle.slot.proofs.Laws.{cond-true, cond-false, take-held}
@@ -349,7 +350,7 @@ module _ (l : Lent) (credit : Terms) (ok : TableOk (policy l) l.state.header.neg
 
   -- ---- reject, let go
 
-  reject-on : (remote : RemoteId) (a : Answer) → Fine p credit ss i (reject_on l (dropped l.state.header) remote a) b
+  pub reject-on : (remote : RemoteId) (a : Answer) → Fine p credit ss i (reject_on l (dropped l.state.header) remote a) b
   unfolding reject_on
   reject-on remote a = ends-fine p credit ss i (then (begun (dropped l.state.header) l) [] (close_frame (record { local = record { 0 = 0 }; remote = remote }) ∷ [])) a 0 [] b g
 
@@ -1025,7 +1026,7 @@ module _ (l : Lent) (credit : Terms) (ok : TableOk (policy l) l.state.header.neg
 
   -- ---- write
 
-  module _ (ch : ChannelId) (out : ℕ) (bytes received : List ℕ) (fs : List Sent) where
+  module _ (spending : Spending) (ch : ChannelId) (out : ℕ) (bytes received : List ℕ) (fs : List Sent) where
     -- the book, before the credit that was written
     abbrev entered : Answer → ℕ → List ℕ → Book
     entered a used bs =
@@ -1070,12 +1071,12 @@ module _ (l : Lent) (credit : Terms) (ok : TableOk (policy l) l.state.header.neg
         by-budget (Some most) = sent-fine (send_len l bytes most) (h2 (send_len l bytes most))
         by-budget None = write-ends (then w (slot_to ch.slot s ∷ []) []) Waiting used (still-quiet [] refl) h3
 
-        turn-fine : (is_closed s.state ≡ true → Left (then w (slot_to ch.slot s ∷ []) []) (Refused ChannelClosed) used) → write-fine (send_again l ch out bytes used w s)
+        turn-fine : (is_closed s.state ≡ true → Left (then w (slot_to ch.slot s ∷ []) []) (Refused ChannelClosed) used) → write-fine (send_again spending l ch out bytes used w s)
         unfolding send_again
         turn-fine h1 =
             pick write-fine (is_closed s.state)
             (λ t. write-ends (then w (slot_to ch.slot s ∷ []) []) (Refused ChannelClosed) used (still-quiet [] refl) (h1 t))
-            (λ t. by-budget (budget_of s p))
+            (λ t. by-budget (leave_of spending s p))
 
     -- ---- write, on this channel
 
@@ -1165,7 +1166,7 @@ module _ (l : Lent) (credit : Terms) (ok : TableOk (policy l) l.state.header.neg
           readied-left : (t : ChannelSlot) (f : List Frame) (a : Answer) → eqb (answer_number a) 4 ≡ false → SameRun s0 t → Good p credit t q0 b → Left (then w0 (slot_to ch.slot t ∷ []) f) a (frame_len k)
           readied-left t f a four w x = this-left t f a (frame_len k) w (good-by p credit _ _ _ _ _ _ refl refl (ready-book a four) x)
 
-          readied-by : (r : Result ChannelSlot CreditFault) → Leaves (SameRun s0) r → Leaves (λ (t : ChannelSlot). Good p credit t q0 b) r → write-fine (write_readied l ch out bytes (frame_len k) w0 s0 r)
+          readied-by : (r : Result ChannelSlot CreditFault) → Leaves (SameRun s0) r → Leaves (λ (t : ChannelSlot). Good p credit t q0 b) r → write-fine (write_readied spending l ch out bytes (frame_len k) w0 s0 r)
           unfolding write_readied answer_number
           readied-by (Ok t) w x =
               turn-fine (frame_len k) w0 t refl
@@ -1174,7 +1175,7 @@ module _ (l : Lent) (credit : Terms) (ok : TableOk (policy l) l.state.header.neg
               (λ c. readied-left t [] (Refused ChannelClosed) refl w x)
           readied-by (Err c) w x = write-ends w0 (Refused (CreditRefused c)) (frame_len k) refl (good-by p credit _ _ _ _ _ _ refl refl (ready-book (Refused (CreditRefused c)) (bad-four c)) g)
 
-          this-readied : write-fine (write_readied l ch out bytes (frame_len k) w0 s0 (ready_of s0 body_w p))
+          this-readied : write-fine (write_readied spending l ch out bytes (frame_len k) w0 s0 (ready_of s0 body_w p))
           this-readied = readied-by (ready_of s0 body_w p) (ready-run s0 body_w p) (ready-good p credit s0 q0 b g body_w)
 
         -- any other packet: dispatched, and another turn
@@ -1222,7 +1223,7 @@ module _ (l : Lent) (credit : Terms) (ok : TableOk (policy l) l.state.header.neg
           tells-closed c e =
               record { taken = λ own f. absurd (true≢false (sym c ∙ at-live p _ _ _ _ _ _ _ _ at_w own open0)); over = λ own f. absurd (fault-apart (sym e ∙ f)) }
 
-          this-again : act_w.fault ≡ None → write-fine (send_again l ch out bytes (frame_len k) (then_acted w0 act_w) s_w)
+          this-again : act_w.fault ≡ None → write-fine (send_again spending l ch out bytes (frame_len k) (then_acted w0 act_w) s_w)
           unfolding answer_number
           this-again e =
               turn-fine (frame_len k) (then_acted w0 act_w) s_w quiet_w
@@ -1230,7 +1231,7 @@ module _ (l : Lent) (credit : Terms) (ok : TableOk (policy l) l.state.header.neg
               (left_w s_w [] Waiting (record { head = refl; more = refl }) (good_w Waiting refl (tells-no Waiting e refl)))
               (λ c. left_w s_w [] (Refused ChannelClosed) (record { head = refl; more = refl }) (good_w (Refused ChannelClosed) refl (tells-closed c e)))
 
-          acted-by : (f : Option ChannelFault) → act_w.fault ≡ f → write-fine (write_acted l ch out bytes (frame_len k) w0 act_w f)
+          acted-by : (f : Option ChannelFault) → act_w.fault ≡ f → write-fine (write_acted spending l ch out bytes (frame_len k) w0 act_w f)
           unfolding write_acted answer_number
           acted-by (Some f) e =
               let a : Answer = Refused (fault_refusal f) in
@@ -1239,9 +1240,9 @@ module _ (l : Lent) (credit : Terms) (ok : TableOk (policy l) l.state.header.neg
               (subst (λ (x : Answer). Left (then_acted w0 act_w) x (frame_len k)) z (good_w (unless_fault act_w.fault Waiting) (not-four act_w.fault Waiting waiting-four) (tells-fault (mine_of ss i k) act_w.fault Waiting refl)))
           acted-by None e =
               let sl : slot_in (changed_all l.state act_w.changes).slots ch.slot ≡ s_w = ap (λ (x : List ChannelSlot). slot_in x ch.slot) (slots-by l.state act_w.changes) ∙ ap (slot_in ts_w) d in
-              subst (λ (x : ChannelSlot). write-fine (send_again l ch out bytes (frame_len k) (then_acted w0 act_w) x)) (sym sl) (this-again e)
+              subst (λ (x : ChannelSlot). write-fine (send_again spending l ch out bytes (frame_len k) (then_acted w0 act_w) x)) (sym sl) (this-again e)
 
-        this-packet : write-fine (write_by l ch out bytes w0 s0 received (Ok k))
+        this-packet : write-fine (write_by spending l ch out bytes w0 s0 received (Ok k))
         unfolding write_by write_act
         this-packet =
             pick write-fine (is_ready k.command && eqb k.arg1 s0.local.0)
@@ -1250,23 +1251,23 @@ module _ (l : Lent) (credit : Terms) (ok : TableOk (policy l) l.state.header.neg
             (λ u. subst write-fine (sym (cond-true (closed_by (ids_in s0) k) _ _ u)) (this-end u))
             (λ u. subst write-fine (sym (cond-false (closed_by (ids_in s0) k) _ _ u)) (acted-by u (act_on (dropped l.state.header) ss l.state.queue l.rx l.store k body_w).fault refl)))
 
-      this-received : is_closed s0.state ≡ false → (r : Result Packet (Answer × ℕ)) → Got received l.state.header.negotiated.config.max_payload r → write-fine (write_by l ch out bytes w0 s0 received r)
+      this-received : is_closed s0.state ≡ false → (r : Result Packet (Answer × ℕ)) → Got received l.state.header.negotiated.config.max_payload r → write-fine (write_by spending l ch out bytes w0 s0 received r)
       unfolding write_by
       this-received op r (stopped a used st) = this-stop a used st
       this-received op r (packet k sy) = this-packet op k sy
 
-      this-first : is_closed s0.state ≡ false → (x : Option ℕ) → write-fine (write_first l ch out bytes received w0 s0 x)
+      this-first : is_closed s0.state ≡ false → (x : Option ℕ) → write-fine (write_first spending l ch out bytes received w0 s0 x)
       unfolding write_first
       this-first op (Some most) = sent-fine 0 w0 s0 refl (send_len l bytes most) (first-sent (send_len l bytes most))
       this-first op None = subst write-fine (sym (cond-true s0.has_remote _ _ g.known)) (this-received op (received_of l received) (got l received))
 
       -- a write on this channel
-      write-this : write-fine (write_on l ch out bytes received w0 s0)
+      write-this : write-fine (write_on spending l ch out bytes received w0 s0)
       unfolding write_on
       write-this =
           by-test (is_closed s0.state)
           (λ c. subst write-fine (sym (cond-true (is_closed s0.state) _ _ c)) (this-plain (Refused ChannelClosed)))
-          (λ c. subst write-fine (sym (cond-false (is_closed s0.state) _ _ c)) (this-first c (budget_of s0 p)))
+          (λ c. subst write-fine (sym (cond-false (is_closed s0.state) _ _ c)) (this-first c (leave_of spending s0 p)))
 
     -- ---- write, on another channel
 
@@ -1331,7 +1332,7 @@ module _ (l : Lent) (credit : Terms) (ok : TableOk (policy l) l.state.header.neg
               (ap (λ (x : Bool). x && eqb m-else.arg1 b.local) (reads-write received lim-else k sy ∙ rw2.0))
               (ap (λ (x : Bool). x && cond (eqb m-else.arg1 0) (not (eqb m-else.arg0 0) && (eqb (named_in m-else.arg0 books) i)) (eqb m-else.arg1 b.local)) (reads-close received lim-else k sy ∙ rw2.1))) g))
 
-          readied-else : (r : Result ChannelSlot CreditFault) → write-fine (write_readied l ch out bytes (frame_len k) w-else s-else r)
+          readied-else : (r : Result ChannelSlot CreditFault) → write-fine (write_readied spending l ch out bytes (frame_len k) w-else s-else r)
           unfolding write_readied answer_number
           readied-else (Ok t) =
               turn-fine (frame_len k) w-else t refl
@@ -1377,7 +1378,7 @@ module _ (l : Lent) (credit : Terms) (ok : TableOk (policy l) l.state.header.neg
                 over = λ own f. absurd (fault-apart (sym e ∙ f));
               }
 
-          again-else : act-else.fault ≡ None → write-fine (send_again l ch out bytes (frame_len k) (then_acted w-else act-else) (slot_in ts-else j-else))
+          again-else : act-else.fault ≡ None → write-fine (send_again spending l ch out bytes (frame_len k) (then_acted w-else act-else) (slot_in ts-else j-else))
           unfolding answer_number
           again-else e =
               turn-fine (frame_len k) (then_acted w-else act-else) (slot_in ts-else j-else) quiet-else
@@ -1385,7 +1386,7 @@ module _ (l : Lent) (credit : Terms) (ok : TableOk (policy l) l.state.header.neg
               (left-else (slot_in ts-else j-else) [] Waiting (good-else Waiting refl (no-else Waiting e refl)))
               (λ c. left-else (slot_in ts-else j-else) [] (Refused ChannelClosed) (good-else (Refused ChannelClosed) refl (closed-else c e)))
 
-          acted-else : (f : Option ChannelFault) → act-else.fault ≡ f → write-fine (write_acted l ch out bytes (frame_len k) w-else act-else f)
+          acted-else : (f : Option ChannelFault) → act-else.fault ≡ f → write-fine (write_acted spending l ch out bytes (frame_len k) w-else act-else f)
           unfolding write_acted answer_number
           acted-else (Some f) e =
               let a : Answer = Refused (fault_refusal f) in
@@ -1394,9 +1395,9 @@ module _ (l : Lent) (credit : Terms) (ok : TableOk (policy l) l.state.header.neg
               (subst (λ (x : Answer). Left (then_acted w-else act-else) x (frame_len k)) z (good-else (unless_fault act-else.fault Waiting) (not-four act-else.fault Waiting waiting-four) (tells-fault (mine_of ss i k) act-else.fault Waiting refl)))
           acted-else None e =
               let sl : slot_in (changed_all l.state act-else.changes).slots j-else ≡ slot_in ts-else j-else = ap (λ (x : List ChannelSlot). slot_in x j-else) (slots-by l.state act-else.changes) in
-              subst (λ (x : ChannelSlot). write-fine (send_again l ch out bytes (frame_len k) (then_acted w-else act-else) x)) (sym sl) (again-else e)
+              subst (λ (x : ChannelSlot). write-fine (send_again spending l ch out bytes (frame_len k) (then_acted w-else act-else) x)) (sym sl) (again-else e)
 
-        packet-else : write-fine (write_by l ch out bytes w-else s-else received (Ok k))
+        packet-else : write-fine (write_by spending l ch out bytes w-else s-else received (Ok k))
         unfolding write_by write_act
         packet-else =
             pick write-fine (is_ready k.command && eqb k.arg1 s-else.local.0)
@@ -1405,37 +1406,37 @@ module _ (l : Lent) (credit : Terms) (ok : TableOk (policy l) l.state.header.neg
             (λ u. subst write-fine (sym (cond-true (closed_by (ids_in s-else) k) _ _ u)) (end-else u))
             (λ u. subst write-fine (sym (cond-false (closed_by (ids_in s-else) k) _ _ u)) (acted-else u (act_on (dropped l.state.header) ss l.state.queue l.rx l.store k body-else).fault refl)))
 
-      received-else : is_closed s-else.state ≡ false → (r : Result Packet (Answer × ℕ)) → Got received l.state.header.negotiated.config.max_payload r → write-fine (write_by l ch out bytes w-else s-else received r)
+      received-else : is_closed s-else.state ≡ false → (r : Result Packet (Answer × ℕ)) → Got received l.state.header.negotiated.config.max_payload r → write-fine (write_by spending l ch out bytes w-else s-else received r)
       unfolding write_by
       received-else op r (stopped a used st) = stop-else a used st
       received-else op r (packet k sy) = packet-else op k sy
 
-      first_else : is_closed s-else.state ≡ false → (x : Option ℕ) → write-fine (write_first l ch out bytes received w-else s-else x)
+      first_else : is_closed s-else.state ≡ false → (x : Option ℕ) → write-fine (write_first spending l ch out bytes received w-else s-else x)
       unfolding write_first
       first_else op (Some most) =
           sent-fine 0 w-else s-else refl (send_len l bytes most)
           (else-left (spent_of s-else p (send_len l bytes most)) (write_frame (ids_in s-else) (take (send_len l bytes most) bytes) ∷ []) (Written (send_len l bytes most)) 0 (none-else (Written (send_len l bytes most))))
       first_else op None = subst write-fine (sym (cond-true s-else.has_remote _ _ (ok.known j-else fill))) (received-else op (received_of l received) (got l received))
 
-      write-else : write-fine (write_on l ch out bytes received w-else s-else)
+      write-else : write-fine (write_on spending l ch out bytes received w-else s-else)
       unfolding write_on
       write-else =
           by-test (is_closed s-else.state)
           (λ c. subst write-fine (sym (cond-true (is_closed s-else.state) _ _ c)) (write-ends w-else (Refused ChannelClosed) 0 refl (none-else (Refused ChannelClosed))))
-          (λ c. subst write-fine (sym (cond-false (is_closed s-else.state) _ _ c)) (first_else c (budget_of s-else p)))
+          (λ c. subst write-fine (sym (cond-false (is_closed s-else.state) _ _ c)) (first_else c (leave_of spending s-else p)))
 
     plain-else : (a : Answer) → write-fine (ends (begun (dropped l.state.header) l) a 0 [])
     plain-else a = write-ends (begun (dropped l.state.header) l) a 0 refl (good-by p credit _ _ _ _ _ _ refl refl (entered-none a []) g)
 
-    write-by : On ch → write-fine (write_step l ch out bytes received)
+    write-by : On ch → write-fine (write_step spending l ch out bytes received)
     unfolding write_step slot_for
     write-by (this d t o) =
         pick write-fine (eqb (length bytes) 0) (λ z. plain-else (Written 0))
-        (λ z. subst write-fine (sym (cond-true (is_there l ch) _ _ t)) (subst (λ (x : ℕ). write-fine (write_on l ch out bytes received (begun (dropped l.state.header) l) (slot_in ss x))) (sym d) (write-this d o)))
+        (λ z. subst write-fine (sym (cond-true (is_there l ch) _ _ t)) (subst (λ (x : ℕ). write-fine (write_on spending l ch out bytes received (begun (dropped l.state.header) l) (slot_in ss x))) (sym d) (write-this d o)))
     write-by (another d t f ne o) =
         pick write-fine (eqb (length bytes) 0) (λ z. plain-else (Written 0)) (λ z. subst write-fine (sym (cond-true (is_there l ch) _ _ t)) (write-else d t f ne o))
     write-by (none t o) =
         pick write-fine (eqb (length bytes) 0) (λ z. plain-else (Written 0)) (λ z. subst write-fine (sym (cond-false (is_there l ch) _ _ t)) (plain-else (Refused ChannelClosed)))
 
-    pub write-call : write-fine (write_step l ch out bytes received)
+    pub write-call : write-fine (write_step spending l ch out bytes received)
     write-call = write-by (on ch)

@@ -27,27 +27,27 @@ use Rattle.state_whole.specs.Whole.{is_whole}
 use Rattle.table.specs.declared.ChannelId.{ChannelId}
 use Rattle.table.specs.declared.Want.TheVariants.{Empty}
 use Rattle.table.specs.Table.{place_of, next_local_id, allocated, slot_in}
-use Rattle.connection.specs.declared.Answer.TheVariants.{Refused, Opened}
+use Rattle.connection.specs.declared.Answer.TheVariants.{Done, Refused, Opened}
 use Rattle.connection.specs.declared.Refusal.TheVariants.{StoreShort, OutShort, PayloadTooLarge, BrokenState}
 use Rattle.connection.specs.Answer.{answer_number}
-use Rattle.connection.specs.Calls.{numbers_outcome, Lent, Outcome, ends, checked, checked_out, untouched, body_of, is_there, slot_for, dispatch_step, settle_step, take_step, read_step, write_step, close_step, take_front_step, fresh, open_outcome, dispatch_outcome, settle_outcome, take_outcome, read_outcome, write_outcome, close_outcome, take_front_outcome, accept_outcome, reject_outcome, let_go_outcome, reject_step, let_go_step}
+use Rattle.connection.specs.Calls.{numbers_outcome, Lent, Outcome, ends, checked, checked_out, untouched, dropped, body_of, is_there, slot_for, dispatch_step, settle_step, take_step, read_step, write_step, close_step, take_front_step, fresh, open_outcome, dispatch_outcome, settle_outcome, take_outcome, read_outcome, write_outcome, close_outcome, take_front_outcome, accept_outcome, reject_outcome, let_go_outcome, verdict_outcome, reject_step, let_go_step, verdict_step}
 use Rattle.connection.specs.Frames.{Frame, Sent}
 use Rattle.connection.proofs.Slots.{slots_by, slots-by, slot-set-same, slot-set-other}
 use Rattle.connection.proofs.Sending.{sent_of}
-use Rattle.history.specs.Run.{look_outcome, bytes_in, Call, open_call, dispatch_call, settle_call, take_call, read_call, write_call, close_call, front_taken, look_call, numbers_look, accept_call, reject_call, let_go_call, World, lent, outcome, after, begins, agreed_in}
+use Rattle.history.specs.Run.{look_outcome, bytes_in, Call, open_call, dispatch_call, settle_call, take_call, read_call, write_call, close_call, front_taken, look_call, numbers_look, word_in, accept_call, reject_call, let_go_call, verdict_call, World, lent, outcome, after, begins, agreed_in}
 use Rattle.history.specs.Seen.{held_of, Seen, Event, seen_of, events_of}
 use Rattle.history.specs.Demand3.{Distinct, Apart}
 use Rattle.history.specs.Numbers.{opens_in, given_by, given_in, NumbersApart, Demand3Free}
 use Rattle.history.proofs.Good.{Good, Leaves, new-good}
 use Rattle.history.proofs.Heads.{Heads, Numbers, keeps, asks, skips, moves, Grants, declines as held, grants}
-use Rattle.history.proofs.Marks.{Mark, Tame, tame-at, dispatch-tame, settle-tame, take-tame, read-tame, write-tame, front-tame, reject-tame, let-go-tame}
+use Rattle.history.proofs.Marks.{Mark, Tame, tame-at, dispatch-tame, settle-tame, take-tame, read-tame, write-tame, front-tame, reject-tame-on, reject-tame, let-go-tame}
 use Rattle.history.proofs.Never13.{Holds, state-after, holds_after, starts, always-8}
 use Rattle.history.proofs.Opens.{refused-some, Opens, fills, leaves, opens}
 use Rattle.history.proofs.Places.{TableOk}
 use Rattle.history.proofs.Theorem.{table, fits-long, fresh_start, fresh-far, no_slot, after-8, demand-3}
 use Rattle.history.proofs.Told.{or-true}
 use Rattle.history.proofs.Written.{seen-is}
-use Rattle.history.proofs.Accepts.{Accepts, takes, declines, allocated-below, allocated-local, accepts, accepts-out}
+use Rattle.history.proofs.Accepts.{Accepts, takes, declines, allocated-below, allocated-local, accepts-on, accepts, accepts-out}
 use Rattle.connection.specs.declared.Answer.{Answer}
 use Rattle.table.specs.declared.NoFreeChannels.{NoFreeChannels}
 use Rattle.std.specs.Prelude.{Result, Ok, Err}
@@ -305,29 +305,29 @@ module _ (w : World) (r : List ℕ) (rx store : ℕ) where
         (ap (λ (x : Header). x.next_local) f) (λ u. absurd (true≢false (sym u ∙ ap (λ (x : Header). is_ours x.pending.what) f)))
     open-given out destination received small o z (skips q f a lt) (fills o1 t k sy e1 e2 e3 e5 on off e4) = absurd (true≢false (sym on ∙ q))
 
-    -- an accept that is done
-    accept-one : (out : List ℕ) (ch : ChannelId) → (outcome w (accept_call out)).answer ≡ Opened ch → given_by (accept_call out) (seen_of (event (accept_call out))) ≡ 1
-    unfolding given_by answer_number
-    accept-one out ch e = ap (λ (k : ℕ). cond (eqb k 0) 1 0) (number-seen (accept_call out) ∙ ap answer_number e)
+    -- a call that gives one out where it is done: an accept, and a verdict that takes
+    module _ (x : Call) (counts : (o : Seen) → given_by x o ≡ cond (eqb o.number 0) 1 0) where
+      accept-one : (ch : ChannelId) → (outcome w x).answer ≡ Opened ch → given_by x (seen_of (event x)) ≡ 1
+      unfolding answer_number
+      accept-one ch e = counts (seen_of (event x)) ∙ ap (λ (k : ℕ). cond (eqb k 0) 1 0) (number-seen x ∙ ap answer_number e)
 
-    accept-given : (out : List ℕ) → let x = accept_call out in g + given_by x (seen_of (event x)) < 2 ^ 32
-        → (o : Outcome) → o ≡ outcome w x → Grants l o → Accepts l o → Given (g + given_by x (seen_of (event x))) (to o)
-    unfolding answer_number accepted_slot opening_slot
-    accept-given out small o z (held a) (declines o1 e t es er) = heads-given o _ a.heads (tame-shrinks c.slots o.changes t)
-    accept-given out small o z (grants ch0 e f a) (declines o1 e1 t es er) = absurd (true≢false (sym (ap (λ (x : Answer). eqb (answer_number x) 0) a) ∙ e1))
-    accept-given out small o z m (takes o1 ch remote cr e0 e1 e2 er e5 eh) =
-        let p = allocated-below c.header c.slots ch e0 in
-        let q = h.facts.limits.within.most-channels in
-        let y = ok.size in
-        let d = accept-one out ch (ap (λ (x : Outcome). x.answer) (sym z) ∙ e1) in
-        let k : suc g ≡ g + given_by (accept_call out) (seen_of (event (accept_call out))) = omega arith in
-        subst (λ (x : ℕ). Given x (to o)) k
-        (given-takes g c (to o) ch.slot _ (omega arith) (omega arith) (slots-by c o.changes ∙ e2) (allocated-local c.header c.slots ch e0)
-        (ap (λ (x : Header). x.next_local) eh) (ap (λ (x : Header). is_ours x.pending.what) eh) v)
+      accept-given : g + given_by x (seen_of (event x)) < 2 ^ 32 → (o : Outcome) → o ≡ outcome w x → Grants l o → Accepts l o → Given (g + given_by x (seen_of (event x))) (to o)
+      unfolding answer_number accepted_slot opening_slot
+      accept-given small o z (held a) (declines o1 e t es er) = heads-given o _ a.heads (tame-shrinks c.slots o.changes t)
+      accept-given small o z (grants ch0 e f a) (declines o1 e1 t es er) = absurd (true≢false (sym (ap (λ (y : Answer). eqb (answer_number y) 0) a) ∙ e1))
+      accept-given small o z m (takes o1 ch remote cr e0 e1 e2 er e5 eh) =
+          let p = allocated-below c.header c.slots ch e0 in
+          let q = h.facts.limits.within.most-channels in
+          let y = ok.size in
+          let d = accept-one ch (ap (λ (y : Outcome). y.answer) (sym z) ∙ e1) in
+          let k : suc g ≡ g + given_by x (seen_of (event x)) = omega arith in
+          subst (λ (y : ℕ). Given y (to o)) k
+          (given-takes g c (to o) ch.slot _ (omega arith) (omega arith) (slots-by c o.changes ∙ e2) (allocated-local c.header c.slots ch e0)
+          (ap (λ (x : Header). x.next_local) eh) (ap (λ (x : Header). is_ours x.pending.what) eh) v)
 
     -- each call
     call-given : (x : Call) → g + given_by x (seen_of (event x)) < 2 ^ 32 → Given (g + given_by x (seen_of (event x))) (to (outcome w x))
-    unfolding outcome open_outcome dispatch_outcome settle_outcome take_outcome read_outcome write_outcome close_outcome take_front_outcome look_outcome numbers_outcome accept_outcome reject_outcome let_go_outcome
+    unfolding outcome open_outcome dispatch_outcome settle_outcome take_outcome read_outcome write_outcome close_outcome take_front_outcome look_outcome numbers_outcome accept_outcome reject_outcome let_go_outcome verdict_outcome verdict_step given_by
     call-given (open_call out destination received) small =
         open-given out destination received small _ refl (moves w (open_call out destination received)) (opens-out (bytes_in received) (is_whole w.state) (length out) _ (opens l ok (bytes_in received) (length out) (bytes_in destination)))
     call-given (dispatch_call out received) small =
@@ -338,18 +338,24 @@ module _ (w : World) (r : List ℕ) (rx store : ℕ) where
         heads-given _ _ (moves w (take_call ch buf)).heads (shrinks-checked (is_whole w.state) _ (tame-shrinks c.slots (take_step l ch (length buf)).changes (take-tame l ok ch (length buf))))
     call-given (read_call out ch buf received) small =
         heads-given _ _ (moves w (read_call out ch buf received)).heads (shrinks-out (is_whole w.state) (length out) _ (tame-shrinks c.slots (read_step l ch (length buf) (bytes_in received)).changes (read-tame l ok ch (length buf) (bytes_in received))))
-    call-given (write_call out ch bytes received) small =
-        heads-given _ _ (moves w (write_call out ch bytes received)).heads (shrinks-out (is_whole w.state) (length out) _ (tame-shrinks c.slots (write_step l ch (length out) (bytes_in bytes) (bytes_in received)).changes (write-tame l ok ch (length out) (bytes_in bytes) (bytes_in received))))
+    call-given (write_call spending out ch bytes received) small =
+        heads-given _ _ (moves w (write_call spending out ch bytes received)).heads (shrinks-out (is_whole w.state) (length out) _ (tame-shrinks c.slots (write_step spending l ch (length out) (bytes_in bytes) (bytes_in received)).changes (write-tame l ok spending ch (length out) (bytes_in bytes) (bytes_in received))))
     call-given (close_call out ch) small =
         heads-given _ _ (moves w (close_call out ch)).heads (shrinks-out (is_whole w.state) (length out) _ (close-shrinks ch))
     call-given front_taken small =
         heads-given _ _ (moves w front_taken) (shrinks-checked (is_whole w.state) _ (tame-shrinks c.slots (take_front_step l).changes (front-tame l ok)))
     call-given (look_call (numbers_look ch)) small = heads-given _ _ (moves w (look_call (numbers_look ch))).heads (shrinks-checked (is_whole w.state) _ none-shrinks)
-    call-given (accept_call out) small = accept-given out small _ refl (moves w (accept_call out)) (accepts-out l ok (is_whole w.state) (length out) _ (accepts l ok))
+    call-given (accept_call out) small = accept-given (accept_call out) (λ o. refl) small _ refl (moves w (accept_call out)) (accepts-out l ok (is_whole w.state) (length out) _ (accepts l ok))
     call-given (reject_call out) small =
         heads-given _ _ (moves w (reject_call out)).heads (shrinks-out (is_whole w.state) (length out) _ (tame-shrinks c.slots (reject_step l).changes (reject-tame l ok)))
     call-given let_go_call small =
         heads-given _ _ (moves w let_go_call).heads (shrinks-checked (is_whole w.state) _ (tame-shrinks c.slots (let_go_step l).changes (let-go-tame l ok)))
+    call-given (verdict_call out true remote credit) small =
+        let x = verdict_call out true remote credit in
+        accept-given x (λ o. refl) small _ refl (moves w x) (accepts-out l ok (is_whole w.state) (length out) _ (accepts-on l ok _ _ (allocated c.header c.slots) refl))
+    call-given (verdict_call out false remote credit) small =
+        let o = verdict_step l false (record { 0 = word_in remote.0 }) (word_in credit) in
+        heads-given _ _ (moves w (verdict_call out false remote credit)).heads (shrinks-out (is_whole w.state) (length out) o (tame-shrinks c.slots o.changes (reject-tame-on l ok (dropped c.header) _ Done)))
 
     after-given : (x : Call) → g + given_by x (seen_of (event x)) < 2 ^ 32 → Given (g + given_by x (seen_of (event x))) (state_of (after w x).state)
     after-given x small = subst (Given (g + given_by x (seen_of (event x)))) (sym (state-after m r rx store w h x)) (call-given x small)

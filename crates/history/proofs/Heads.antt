@@ -15,8 +15,9 @@ use Rattle.protocol.specs.Packet.{payload_limit}
 use Rattle.protocol.specs.Command.{is_ready, is_close, is_write}
 use Rattle.slot.specs.declared.ids.RemoteId.{RemoteId}
 use Rattle.slot.specs.declared.ChannelSlot.{ChannelSlot}
+use Rattle.slot.specs.declared.Spending.{Spending}
 use Rattle.slot.specs.Ids.{closed_by}
-use Rattle.slot.specs.Slot.{is_closed, taken_of, budget_of, spent_of, ready_of}
+use Rattle.slot.specs.Slot.{is_closed, taken_of, leave_of, spent_of, ready_of}
 use Rattle.slot.proofs.Kept.{pick}
 use Rattle.state.specs.declared.Header.{Header}
 use Rattle.state.specs.declared.QueuedOpen.{QueuedOpen}
@@ -33,9 +34,9 @@ use Rattle.connection.specs.declared.Answer.TheVariants.{Numbers as NumbersAre, 
 use Rattle.connection.specs.declared.Refusal.{Refusal}
 use Rattle.connection.specs.declared.Refusal.TheVariants.{StoreShort, OutShort, NoFreeChannels, PayloadTooLarge, BrokenState}
 use Rattle.connection.specs.Act.{Acted, pushed_by, acted_by, table_of, act_on}
-use Rattle.connection.specs.Calls.{looked, numbers_for, numbers_outcome, Lent, Outcome, Work, begun, then, then_acted, storing, ends, untouched, checked, checked_out, open_outcome, dispatch_outcome, settle_outcome, take_outcome, read_outcome, write_outcome, close_outcome, take_front_outcome, accept_outcome, reject_outcome, let_go_outcome, dropped, pending_for, policy, body_of, frame_len, ids_in, is_there, slot_for, received_of, unless_fault, still_pending, dispatch_by, dispatch_step, settled_as, settle_step, taken_by, take_step, reread, read_settled, read_acted, is_direct, read_direct, read_by, read_taken, read_first, read_step, send_some, send_by, send_again, write_readied, write_acted, write_act, write_by, write_first, write_on, write_step, close_step, take_front_by, take_front_step, open_on, open_readied, open_acted, open_by, open_step, offer_in, is_offered, reject_on, accept_on, accept_step, reject_step, let_go_step}
+use Rattle.connection.specs.Calls.{looked, numbers_for, numbers_outcome, Lent, Outcome, Work, begun, then, then_acted, storing, ends, untouched, checked, checked_out, open_outcome, dispatch_outcome, settle_outcome, take_outcome, read_outcome, write_outcome, close_outcome, take_front_outcome, accept_outcome, reject_outcome, let_go_outcome, verdict_outcome, dropped, pending_for, policy, body_of, frame_len, ids_in, is_there, slot_for, received_of, unless_fault, still_pending, dispatch_by, dispatch_step, settled_as, settle_step, taken_by, take_step, reread, read_settled, read_acted, is_direct, read_direct, read_by, read_taken, read_first, read_step, send_some, send_by, send_again, write_readied, write_acted, write_act, write_by, write_first, write_on, write_step, close_step, take_front_by, take_front_step, open_on, open_readied, open_acted, open_by, open_step, offer_in, is_offered, reject_on, accept_on, accept_step, reject_step, let_go_step, verdict_step}
 use Rattle.connection.specs.Frames.{Frame, open_frame, write_frame, frames_bytes}
-use Rattle.history.specs.Run.{look_outcome, bytes_in, Call, open_call, dispatch_call, settle_call, take_call, read_call, write_call, close_call, front_taken, look_call, numbers_look, accept_call, reject_call, let_go_call, World, lent, outcome}
+use Rattle.history.specs.Run.{look_outcome, bytes_in, Call, open_call, dispatch_call, settle_call, take_call, read_call, write_call, close_call, front_taken, look_call, numbers_look, accept_call, reject_call, let_go_call, verdict_call, World, lent, outcome}
 use Rattle.history.proofs.Heard.{open_in}
 use Rattle.history.proofs.Steps.{ends-header}
 use Rattle.incoming.proofs.QueueLaws.{ours-alone}
@@ -231,6 +232,14 @@ module _ (l : Lent) where
       pick Grants (is_offered l) (λ t. grants-on (offer_in l).remote (offer_in l).credit (allocated l.state.header l.state.slots) refl)
       (λ t. declines (off (begun h0 l) Nothing 0 [] ((refl, refl), refl)))
 
+  pub taken-grants : (remote : RemoteId) (credit : ℕ) → Grants (verdict_step l true remote credit)
+  unfolding verdict_step
+  taken-grants remote credit = grants-on remote credit (allocated l.state.header l.state.slots) refl
+
+  pub refused-heads : (remote : RemoteId) (credit : ℕ) → Quits (verdict_step l false remote credit)
+  unfolding verdict_step
+  refused-heads remote credit = reject-heads-on remote Done
+
   -- ---- read
 
   reread-heads : (ch : ChannelId) (cap used : ℕ) (fault : Option SlotFault) (w : Work) (s : ChannelSlot) (y : Result (Option (ChannelSlot × ℕ)) ChannelError) → Clear w.header → Quits (reread ch cap used fault w s y)
@@ -266,7 +275,7 @@ module _ (l : Lent) where
 
   -- ---- write
 
-  module _ (ch : ChannelId) (out : ℕ) (bytes : List ℕ) (used : ℕ) where
+  module _ (spending : Spending) (ch : ChannelId) (out : ℕ) (bytes : List ℕ) (used : ℕ) where
     some-heads : (w : Work) (s : ChannelSlot) (n : ℕ) → Clear w.header → Quits (send_some l ch out bytes used w s n)
     unfolding send_some
     some-heads w s n e =
@@ -278,40 +287,40 @@ module _ (l : Lent) where
     send-heads w s (Some most) e = some-heads w s _ e
     send-heads w s None e = off (then w (slot_to ch.slot s ∷ []) []) _ used [] e
 
-    again-heads : (w : Work) (s : ChannelSlot) → Clear w.header → Quits (send_again l ch out bytes used w s)
+    again-heads : (w : Work) (s : ChannelSlot) → Clear w.header → Quits (send_again spending l ch out bytes used w s)
     unfolding send_again
-    again-heads w s e = pick Quits (is_closed s.state) (λ t. off (then w (slot_to ch.slot s ∷ []) []) _ used [] e) (λ t. send-heads w s (budget_of s (policy l)) e)
+    again-heads w s e = pick Quits (is_closed s.state) (λ t. off (then w (slot_to ch.slot s ∷ []) []) _ used [] e) (λ t. send-heads w s (leave_of spending s (policy l)) e)
 
-    readied-heads : (s : ChannelSlot) (r : Result ChannelSlot CreditFault) → Quits (write_readied l ch out bytes used (begun h0 l) s r)
+    readied-heads : (s : ChannelSlot) (r : Result ChannelSlot CreditFault) → Quits (write_readied spending l ch out bytes used (begun h0 l) s r)
     unfolding write_readied
     readied-heads s (Ok t) = again-heads (begun h0 l) t ((refl, refl), refl)
     readied-heads s (Err b) = off (begun h0 l) _ used [] ((refl, refl), refl)
 
-    write-acted-heads : (b : Acted) (f : Option SlotFault) → Clear b.header → Quits (write_acted l ch out bytes used (begun h0 l) b f)
+    write-acted-heads : (b : Acted) (f : Option SlotFault) → Clear b.header → Quits (write_acted spending l ch out bytes used (begun h0 l) b f)
     unfolding write_acted
     write-acted-heads b (Some f) e = off (then_acted (begun h0 l) b) _ used [] e
     write-acted-heads b None e = again-heads (then_acted (begun h0 l) b) _ e
 
-  write-received-heads : (ch : ChannelId) (out : ℕ) (bytes : List ℕ) (s : ChannelSlot) (received : List ℕ) (r : Result Packet (Answer × ℕ)) → Quits (write_by l ch out bytes (begun h0 l) s received r)
+  write-received-heads : (spending : Spending) (ch : ChannelId) (out : ℕ) (bytes : List ℕ) (s : ChannelSlot) (received : List ℕ) (r : Result Packet (Answer × ℕ)) → Quits (write_by spending l ch out bytes (begun h0 l) s received r)
   unfolding write_by write_act
-  write-received-heads ch out bytes s received (Err (n, used)) = off (begun h0 l) n used [] ((refl, refl), refl)
-  write-received-heads ch out bytes s received (Ok k) =
-      pick Quits (is_ready k.command && eqb k.arg1 s.local.0) (λ t. readied-heads ch out bytes (frame_len k) s (ready_of s (body_of received k) (policy l)))
+  write-received-heads spending ch out bytes s received (Err (n, used)) = off (begun h0 l) n used [] ((refl, refl), refl)
+  write-received-heads spending ch out bytes s received (Ok k) =
+      pick Quits (is_ready k.command && eqb k.arg1 s.local.0) (λ t. readied-heads spending ch out bytes (frame_len k) s (ready_of s (body_of received k) (policy l)))
       (λ t. pick Quits (closed_by (ids_in s) k) (λ u. off _ _ (frame_len k) [] ((refl, refl), refl))
-      (λ u. write-acted-heads ch out bytes (frame_len k) (act_on h0 l.state.slots l.state.queue l.rx l.store k (body_of received k)) _ (act-off l.state.slots k (body_of received k))))
+      (λ u. write-acted-heads spending ch out bytes (frame_len k) (act_on h0 l.state.slots l.state.queue l.rx l.store k (body_of received k)) _ (act-off l.state.slots k (body_of received k))))
 
-  write-first-heads : (ch : ChannelId) (out : ℕ) (bytes : List ℕ) (s : ChannelSlot) (received : List ℕ) (x : Option ℕ) → Quits (write_first l ch out bytes received (begun h0 l) s x)
+  write-first-heads : (spending : Spending) (ch : ChannelId) (out : ℕ) (bytes : List ℕ) (s : ChannelSlot) (received : List ℕ) (x : Option ℕ) → Quits (write_first spending l ch out bytes received (begun h0 l) s x)
   unfolding write_first
-  write-first-heads ch out bytes s received (Some most) = some-heads ch out bytes 0 (begun h0 l) s _ ((refl, refl), refl)
-  write-first-heads ch out bytes s received None =
-      pick Quits s.has_remote (λ t. write-received-heads ch out bytes s received (received_of l received)) (λ t. off (begun h0 l) _ 0 [] ((refl, refl), refl))
+  write-first-heads spending ch out bytes s received (Some most) = some-heads spending ch out bytes 0 (begun h0 l) s _ ((refl, refl), refl)
+  write-first-heads spending ch out bytes s received None =
+      pick Quits s.has_remote (λ t. write-received-heads spending ch out bytes s received (received_of l received)) (λ t. off (begun h0 l) _ 0 [] ((refl, refl), refl))
 
-  pub write-heads : (ch : ChannelId) (out : ℕ) (bytes received : List ℕ) → Quits (write_step l ch out bytes received)
+  pub write-heads : (spending : Spending) (ch : ChannelId) (out : ℕ) (bytes received : List ℕ) → Quits (write_step spending l ch out bytes received)
   unfolding write_step write_on
-  write-heads ch out bytes received =
+  write-heads spending ch out bytes received =
       pick Quits (eqb (length bytes) 0) (λ z. off (begun h0 l) _ 0 [] ((refl, refl), refl))
       (λ z. pick Quits (is_there l ch)
-      (λ t. pick Quits (is_closed (slot_for l ch).state) (λ c. off (begun h0 l) _ 0 [] ((refl, refl), refl)) (λ c. write-first-heads ch out bytes (slot_for l ch) received (budget_of (slot_for l ch) (policy l))))
+      (λ t. pick Quits (is_closed (slot_for l ch).state) (λ c. off (begun h0 l) _ 0 [] ((refl, refl), refl)) (λ c. write-first-heads spending ch out bytes (slot_for l ch) received (leave_of spending (slot_for l ch) (policy l))))
       (λ t. off (begun h0 l) _ 0 [] ((refl, refl), refl)))
 
   -- ---- open
@@ -442,27 +451,31 @@ Moves w (dispatch_call out received) = Quits (lent w) (outcome w (dispatch_call 
 Moves w (settle_call out ch want) = Quits (lent w) (outcome w (settle_call out ch want))
 Moves w (take_call ch buf) = Quits (lent w) (outcome w (take_call ch buf))
 Moves w (read_call out ch buf received) = Quits (lent w) (outcome w (read_call out ch buf received))
-Moves w (write_call out ch bytes received) = Quits (lent w) (outcome w (write_call out ch bytes received))
+Moves w (write_call spending out ch bytes received) = Quits (lent w) (outcome w (write_call spending out ch bytes received))
 Moves w (close_call out ch) = Quits (lent w) (outcome w (close_call out ch))
 Moves w front_taken = Heads (lent w) (outcome w front_taken)
 Moves w (look_call x) = Quits (lent w) (outcome w (look_call x))
 Moves w (accept_call out) = Grants (lent w) (outcome w (accept_call out))
 Moves w (reject_call out) = Quits (lent w) (outcome w (reject_call out))
 Moves w let_go_call = Quits (lent w) (outcome w let_go_call)
+Moves w (verdict_call out true remote credit) = Grants (lent w) (outcome w (verdict_call out true remote credit))
+Moves w (verdict_call out false remote credit) = Quits (lent w) (outcome w (verdict_call out false remote credit))
 
 pub moves : (w : World) (c : Call) → Moves w c
-unfolding outcome open_outcome dispatch_outcome settle_outcome take_outcome read_outcome write_outcome close_outcome take_front_outcome look_outcome numbers_outcome accept_outcome reject_outcome let_go_outcome
+unfolding outcome open_outcome dispatch_outcome settle_outcome take_outcome read_outcome write_outcome close_outcome take_front_outcome look_outcome numbers_outcome accept_outcome reject_outcome let_go_outcome verdict_outcome
 moves w (open_call out destination received) = numbers-out (lent w) (bytes_in destination) (is_whole w.state) (length out) _ (open-numbers (lent w) (length out) (bytes_in destination) (bytes_in received))
 moves w (dispatch_call out received) = heads-out (lent w) (is_whole w.state) (length out) _ (dispatch-heads (lent w) (bytes_in received))
 moves w (settle_call out ch want) = heads-out (lent w) (is_whole w.state) (length out) _ (settle-heads (lent w) ch want)
 moves w (take_call ch buf) = heads-checked (lent w) (is_whole w.state) _ (take-heads (lent w) ch (length buf))
 moves w (read_call out ch buf received) = heads-out (lent w) (is_whole w.state) (length out) _ (read-heads (lent w) ch (length buf) (bytes_in received))
-moves w (write_call out ch bytes received) = heads-out (lent w) (is_whole w.state) (length out) _ (write-heads (lent w) ch (length out) (bytes_in bytes) (bytes_in received))
+moves w (write_call spending out ch bytes received) = heads-out (lent w) (is_whole w.state) (length out) _ (write-heads (lent w) spending ch (length out) (bytes_in bytes) (bytes_in received))
 moves w (close_call out ch) = heads-out (lent w) (is_whole w.state) (length out) _ (close-heads (lent w) ch)
 moves w front_taken = front-checked (lent w) (is_whole w.state) _ (front-heads (lent w))
 moves w (accept_call out) = grants-out (lent w) (is_whole w.state) (length out) _ (accept-grants (lent w))
 moves w (reject_call out) = heads-out (lent w) (is_whole w.state) (length out) _ (reject-heads (lent w))
 moves w let_go_call = heads-checked (lent w) (is_whole w.state) _ (let-go-heads (lent w))
+moves w (verdict_call out true remote credit) = grants-out (lent w) (is_whole w.state) (length out) _ (taken-grants (lent w) _ _)
+moves w (verdict_call out false remote credit) = heads-out (lent w) (is_whole w.state) (length out) _ (refused-heads (lent w) _ _)
 moves w (look_call (numbers_look ch)) = heads-checked (lent w) (is_whole w.state) _ (looked-heads (lent w) (numbers_for (lent w) ch))
 
 -- the credit in the last OPEN written, where an open is pending: that of the one that was before, or ours
@@ -488,13 +501,15 @@ module _ (w : World) (a credit : ℕ) (is : credit ≡ offered_credit (lent w).s
   moves-asked (settle_call out ch want) m = heads-asked _ m.heads
   moves-asked (take_call ch buf) m = heads-asked _ m.heads
   moves-asked (read_call out ch buf received) m = heads-asked _ m.heads
-  moves-asked (write_call out ch bytes received) m = heads-asked _ m.heads
+  moves-asked (write_call spending out ch bytes received) m = heads-asked _ m.heads
   moves-asked (close_call out ch) m = heads-asked _ m.heads
   moves-asked front_taken m = heads-asked _ m
   moves-asked (look_call x) m = heads-asked _ m.heads
   moves-asked (accept_call out) m = grants-asked _ m
   moves-asked (reject_call out) m = heads-asked _ m.heads
   moves-asked let_go_call m = heads-asked _ m.heads
+  moves-asked (verdict_call out true remote credit) m = grants-asked _ m
+  moves-asked (verdict_call out false remote credit) m = heads-asked _ m.heads
 
   pub call-asked : (c : Call) → Asked (outcome w c)
   call-asked c = moves-asked c (moves w c)
@@ -520,13 +535,15 @@ module _ (w : World) where
   moves-offer (settle_call out ch want) n m = m.gone
   moves-offer (take_call ch buf) n m = m.gone
   moves-offer (read_call out ch buf received) n m = m.gone
-  moves-offer (write_call out ch bytes received) n m = m.gone
+  moves-offer (write_call spending out ch bytes received) n m = m.gone
   moves-offer (close_call out ch) n m = m.gone
   moves-offer front_taken n m = absurd n
   moves-offer (look_call x) n m = m.gone
   moves-offer (accept_call out) n m = grants-offer _ m
   moves-offer (reject_call out) n m = m.gone
   moves-offer let_go_call n m = m.gone
+  moves-offer (verdict_call out true remote credit) n m = grants-offer _ m
+  moves-offer (verdict_call out false remote credit) n m = m.gone
 
   pub call-offer : (c : Call) → NotFront c → LeavesOffer (outcome w c)
   call-offer c n = moves-offer c n (moves w c)

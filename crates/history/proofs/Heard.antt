@@ -33,7 +33,7 @@ use Rattle.connection.specs.Calls.{Lent, Outcome, written_by, untouched}
 use Rattle.connection.specs.Frames.{Frame, okay_frame, close_frame, open_frame, write_frame, frame_bytes, frames_bytes, Sent}
 use Rattle.connection.proofs.Sending.{sent_of, SentFits, FrameFits}
 use Rattle.history.specs.Book.{credit_in, acks_of, last_open}
-use Rattle.history.specs.Run.{Call, open_call, dispatch_call, settle_call, take_call, read_call, write_call, close_call, front_taken, look_call, accept_call, reject_call, let_go_call, out_of, buf_of}
+use Rattle.history.specs.Run.{Call, open_call, dispatch_call, settle_call, take_call, read_call, write_call, close_call, front_taken, look_call, accept_call, reject_call, let_go_call, verdict_call, out_of, buf_of}
 use Rattle.history.specs.Seen.{held_by, said_by, count_of, Seen, Event, seen_of, sent_by, sent_in, seen_in}
 use Rattle.history.proofs.Acts.{acks_in}
 use Rattle.history.proofs.Steps.{saw_of}
@@ -168,13 +168,14 @@ count-eight (dispatch_call out received) = refl
 count-eight (settle_call out ch want) = refl
 count-eight (take_call ch buf) = refl
 count-eight (read_call out ch buf received) = refl
-count-eight (write_call out ch bytes received) = refl
+count-eight (write_call spending out ch bytes received) = refl
 count-eight (close_call out ch) = refl
 count-eight front_taken = refl
 count-eight (look_call x) = refl
 count-eight (accept_call out) = refl
 count-eight (reject_call out) = refl
 count-eight let_go_call = refl
+count-eight (verdict_call out take remote credit) = refl
 
 -- what is seen of one: nothing
 abbrev pub nothing8 : Seen

@@ -13,7 +13,9 @@ use Rattle.le.proofs.Parts.{by-test}
 use Rattle.config.specs.declared.negotiated.RxPolicy.{RxPolicy}
 use Rattle.config.proofs.Laws.{and-true}
 use Rattle.incoming.specs.Incoming.{popped}
+use Rattle.slot.specs.declared.ids.RemoteId.{RemoteId}
 use Rattle.slot.specs.declared.ChannelSlot.{ChannelSlot}
+use Rattle.slot.specs.declared.Spending.{Spending}
 use Rattle.slot.specs.Slot.{empty_slot, emptied_slot, taken_of, accepted_slot}
 use Rattle.slot.proofs.Kept.{pick}
 use Rattle.slot.proofs.Laws.{cond-true, cond-false}
@@ -24,26 +26,26 @@ use Rattle.table.specs.declared.ChannelId.{ChannelId}
 use Rattle.table.specs.Table.{slot_in, allocated}
 use Rattle.rx_store.specs.RxStore.{share_of}
 use Rattle.connection.specs.declared.Answer.{Answer}
-use Rattle.connection.specs.declared.Answer.TheVariants.{Opened, Refused}
+use Rattle.connection.specs.declared.Answer.TheVariants.{Done, Opened, Refused}
 use Rattle.connection.specs.declared.Refusal.{Refusal}
 use Rattle.connection.specs.Answer.{refusal_number, answer_number, answer_values}
-use Rattle.connection.specs.Calls.{looked, Lent, Outcome, begun, dropped, ends, untouched, policy, body_of, is_there, slot_for, dispatch_step, settle_step, taken_by, take_step, read_step, write_step, close_step, take_front_by, take_front_step, open_step, is_offered, reject_on, accept_step, reject_step, let_go_step}
+use Rattle.connection.specs.Calls.{looked, Lent, Outcome, begun, dropped, ends, untouched, policy, body_of, is_there, slot_for, dispatch_step, settle_step, taken_by, take_step, read_step, write_step, close_step, take_front_by, take_front_step, open_step, is_offered, reject_on, accept_step, reject_step, let_go_step, verdict_step}
 use Rattle.connection.specs.Frames.{Sent, okay_frame}
-use Rattle.history.specs.Run.{Call, open_call, dispatch_call, settle_call, take_call, read_call, write_call, close_call, front_taken, look_call, Look, accept_call, reject_call, let_go_call, bytes_in}
+use Rattle.history.specs.Run.{Call, open_call, dispatch_call, settle_call, take_call, read_call, write_call, close_call, front_taken, look_call, Look, accept_call, reject_call, let_go_call, verdict_call, bytes_in}
 use Rattle.history.specs.Seen.{Seen}
-use Rattle.history.specs.Book.{header_at, new_book, Book, no_book, gone_book, is_on, is_early, is_refused, settle_b, acked_b, read_b, write_b, packet_b, acks_of, acks_b, entry_on, opened_b, book_after, acking, okay_remote, okay_credit}
+use Rattle.history.specs.Book.{granted_b, header_at, new_book, Book, no_book, gone_book, is_on, is_early, is_refused, settle_b, acked_b, read_b, write_b, packet_b, acks_of, acks_b, entry_on, opened_b, book_after, acking, okay_remote, okay_credit}
 use Rattle.history.specs.Demand3.{run_of}
 use Rattle.history.specs.NoLeak.{NoTake}
 use Rattle.history.proofs.Acts.{acks_in, good-by}
-use Rattle.history.proofs.Entries.{on, dispatch-good, settle-call, take-call, read-call, write-call, close-this, close-else, front-call, reject-call, let-go-call}
-use Rattle.history.proofs.Marks.{there-filled, Mark, Tame, tame-at, dispatch-tame, settle-tame, take-tame, read-tame, write-tame, front-tame, reject-tame, let-go-tame}
+use Rattle.history.proofs.Entries.{on, dispatch-good, settle-call, take-call, read-call, write-call, close-this, close-else, front-call, reject-on, reject-call, let-go-call}
+use Rattle.history.proofs.Marks.{there-filled, Mark, Tame, tame-at, dispatch-tame, settle-tame, take-tame, read-tame, write-tame, front-tame, reject-tame-on, reject-tame, let-go-tame}
 use Rattle.history.proofs.Good.{Terms, Tally, Good, Limits, Leaves, new-good, acked-none, handed-none}
 use Rattle.history.proofs.Packets.{Marked, reads-arg0}
 use Rattle.connection.proofs.Slots.{slots_by, slot-set-same, slot-set-other}
 use Rattle.history.proofs.Places.{TableOk}
 use Rattle.history.proofs.Opens.{and-false, refused-is, refused-some, open-call, Opens, fills, leaves, opens}
 use Rattle.history.proofs.Steps.{saw, saw_of, Fine}
-use Rattle.history.proofs.Accepts.{Accepts, takes, declines, taken_ids, allocated-below, accepts, accepted-good, heard-remote, heard-credit}
+use Rattle.history.proofs.Accepts.{Accepts, takes, declines, taken_ids, allocated-below, accepts-on, accepts, accepted-good, heard-remote, heard-credit}
 use Rattle.config.specs.Negotiated.{offered_credit}
 use Rattle.connection.proofs.Sending.{sent_of}
 use Rattle.slot.specs.declared.ChannelError.{ChannelError}
@@ -112,13 +114,14 @@ acking-none (dispatch_call out received) fs n e = e
 acking-none (settle_call out ch want) fs n e = e
 acking-none (take_call ch buf) fs n e = e
 acking-none (read_call out ch buf received) fs n e = e
-acking-none (write_call out ch bytes received) fs n e = e
+acking-none (write_call spending out ch bytes received) fs n e = e
 acking-none (close_call out ch) fs n e = e
 acking-none front_taken fs n e = e
 acking-none (look_call x) fs n e = e
 acking-none (accept_call out) fs n e = refl
 acking-none (reject_call out) fs n e = e
 acking-none let_go_call fs n e = e
+acking-none (verdict_call out take remote credit) fs n e = pick (λ (gs : List Sent). acks_of n gs ≡ 0) take (λ t. refl) (λ t. e)
 
 module _ (p : RxPolicy) (credit : Terms) (i : ℕ) (ss : List ChannelSlot) (rx : List ℕ) (books : List Book) (asked : ℕ) (b : Book) (k : KeptAt p credit i ss rx b) where
   abbrev here : Book → Type 0
@@ -166,7 +169,7 @@ module _ (p : RxPolicy) (credit : Terms) (i : ℕ) (ss : List ChannelSlot) (rx :
   early-good (take_call ch buf) r fs e g = pick here (is_on i b ch) (λ t. handed-none p credit _ _ b g) (λ t. g)
   early-good (read_call out ch buf received) r fs e g =
       pick here (is_on i b ch) (λ t. good-by p credit _ _ _ _ b _ refl refl (cond-true (is_early (refusal_number r)) _ _ e) g) (λ t. g)
-  early-good (write_call out ch bytes received) r fs e g = pick here (is_on i b ch) (λ t. g) (λ t. g)
+  early-good (write_call spending out ch bytes received) r fs e g = pick here (is_on i b ch) (λ t. g) (λ t. g)
   early-good (close_call out ch) r fs e g =
       good-by p credit _ _ _ _ b _ refl refl (ap (λ (t : Bool). cond (is_on i b ch && not t) (gone_book b) b) (refused-is r) ∙ ap (λ (t : Bool). cond t (gone_book b) b) (and-false (is_on i b ch))) g
   early-good front_taken r fs e g = g
@@ -174,6 +177,11 @@ module _ (p : RxPolicy) (credit : Terms) (i : ℕ) (ss : List ChannelSlot) (rx :
   early-good (accept_call out) r fs e g = g
   early-good (reject_call out) r fs e g = g
   early-good let_go_call r fs e g = g
+  early-good (verdict_call out take remote credit) r fs e g = g
+
+  refused-granted : (r : Refusal) (fs : List Sent) (c : Book) → granted_b i (saw (Refused r) 0 fs []) c ≡ c
+  unfolding answer_number
+  refused-granted r fs c = cond-false _ _ c (ap (λ (t : Bool). t && eqb (get_or (answer_values (Refused r)) 0 0) i) (refused-some r))
 
   refused-opened : (call : Call) (r : Refusal) (fs : List Sent) (c : Book) → opened_b i asked call (saw (Refused r) 0 fs []) c ≡ c
   unfolding opened_b answer_number
@@ -183,14 +191,14 @@ module _ (p : RxPolicy) (credit : Terms) (i : ℕ) (ss : List ChannelSlot) (rx :
   refused-opened (settle_call out ch want) r fs c = refl
   refused-opened (take_call ch buf) r fs c = refl
   refused-opened (read_call out ch buf received) r fs c = refl
-  refused-opened (write_call out ch bytes received) r fs c = refl
+  refused-opened (write_call spending out ch bytes received) r fs c = refl
   refused-opened (close_call out ch) r fs c = refl
   refused-opened front_taken r fs c = refl
   refused-opened (look_call y) r fs c = refl
-  refused-opened (accept_call out) r fs c =
-      cond-false _ _ c (ap (λ (t : Bool). t && eqb (get_or (answer_values (Refused r)) 0 0) i) (refused-some r))
+  refused-opened (accept_call out) r fs c = refused-granted r fs c
   refused-opened (reject_call out) r fs c = refl
   refused-opened let_go_call r fs c = refl
+  refused-opened (verdict_call out take remote credit) r fs c = pick (λ (x : Book). x ≡ c) take (λ t. refused-granted r fs c) (λ t. refl)
 
   pub early-kept : (call : Call) (l : Lent) (r : Refusal) (fs : List Sent) → l.rx ≡ rx → is_early (answer_number (Refused r)) ≡ true → ((n : ℕ) → acks_of n fs ≡ 0)
       → KeptBy p credit i ss (untouched l r) (book_after p books asked call (saw_of (untouched l r) fs) i b)
@@ -262,11 +270,11 @@ module _ (credit : Terms) (l : Lent) (ok : TableOk (policy l) l.state.header.neg
       plain-kept p credit i ws l.rx books asked b k (read_call out ch buf received) (read_step l ch (length buf) (bytes_in received)) fs (read-tame l ok ch (length buf) (bytes_in received)) (λ c. refl)
       (λ g f. read-call l credit ok lim i f b g books mk (length buf) (bytes_in received) fs ch (hs.acks b.local))
 
-  pub write-follows : (out : List ℕ) (ch : ChannelId) (bytes received : List ℕ) → Follows (write_call out ch bytes received) (write_step l ch (length out) (bytes_in bytes) (bytes_in received))
+  pub write-follows : (spending : Spending) (out : List ℕ) (ch : ChannelId) (bytes received : List ℕ) → Follows (write_call spending out ch bytes received) (write_step spending l ch (length out) (bytes_in bytes) (bytes_in received))
   unfolding opened_b entry_on
-  write-follows out ch bytes received fs hs =
-      plain-kept p credit i ws l.rx books asked b k (write_call out ch bytes received) (write_step l ch (length out) (bytes_in bytes) (bytes_in received)) fs (write-tame l ok ch (length out) (bytes_in bytes) (bytes_in received)) (λ c. refl)
-      (λ g f. write-call l credit ok lim i f b g books mk ch (length out) (bytes_in bytes) (bytes_in received) fs (hs.acks b.local))
+  write-follows spending out ch bytes received fs hs =
+      plain-kept p credit i ws l.rx books asked b k (write_call spending out ch bytes received) (write_step spending l ch (length out) (bytes_in bytes) (bytes_in received)) fs (write-tame l ok spending ch (length out) (bytes_in bytes) (bytes_in received)) (λ c. refl)
+      (λ g f. write-call l credit ok lim i f b g books mk spending ch (length out) (bytes_in bytes) (bytes_in received) fs (hs.acks b.local))
 
   front-silent : (n : ℕ) (h : Header) (xs : List Change) (f : Option (QueuedOpen × Header)) → acks_in p n (take_front_by l h xs f).frames ≡ 0
   unfolding take_front_by ends
@@ -291,6 +299,17 @@ module _ (credit : Terms) (l : Lent) (ok : TableOk (policy l) l.state.header.neg
   reject-follows out fs hs =
       plain-kept p credit i ws l.rx books asked b k (reject_call out) (reject_step l) fs (reject-tame l ok) (λ c. refl)
       (λ g f. acked-none p credit _ _ _ (reject-call l credit ok lim i f b g books mk) (acks_of b.local fs) (hs.acks b.local ∙ reject-silent b.local))
+
+  -- an open that is refused at once
+  refused-silent : (n : ℕ) (remote : RemoteId) (given : ℕ) → acks_in p n (verdict_step l false remote given).frames ≡ 0
+  unfolding verdict_step reject_on ends
+  refused-silent n remote given = refl
+
+  refused-follows : (out : List ℕ) (remote : RemoteId) (given : ℕ) (r : RemoteId) (g : ℕ) → Follows (verdict_call out false remote given) (verdict_step l false r g)
+  unfolding opened_b entry_on verdict_step
+  refused-follows out remote given r n fs hs =
+      plain-kept p credit i ws l.rx books asked b k (verdict_call out false remote given) (verdict_step l false r n) fs (reject-tame-on l ok (dropped l.state.header) r Done) (λ c. refl)
+      (λ g f. acked-none p credit _ _ _ (reject-on l credit ok lim i f b g books mk r Done) (acks_of b.local fs) (hs.acks b.local ∙ refused-silent b.local r n))
 
   let-go-silent : (n : ℕ) → acks_in p n (let_go_step l).frames ≡ 0
   unfolding let_go_step ends
@@ -383,6 +402,13 @@ module _ (credit : Terms) (l : Lent) (ok : TableOk (policy l) l.state.header.neg
 
   pub accept-follows : offered_credit l.state.header.negotiated ≡ credit.credit → offered_credit l.state.header.negotiated < 2 ^ 31 → (out : List ℕ) → Follows (accept_call out) (accept_step l)
   accept-follows offered small out fs hs = accept-by offered small out fs (accept_step l) (accepts l ok) hs
+
+  -- a verdict at once: one that takes is to a book what an accept is. asked for, what the call says; r, n: its numbers of 32 bits
+  pub verdict-follows : offered_credit l.state.header.negotiated ≡ credit.credit → offered_credit l.state.header.negotiated < 2 ^ 31
+      → (out : List ℕ) (take : Bool) (remote : RemoteId) (given : ℕ) (r : RemoteId) (n : ℕ) → Follows (verdict_call out take remote given) (verdict_step l take r n)
+  unfolding book_after opened_b entry_on verdict_step
+  verdict-follows offered small out true remote given r n fs hs = accept-by offered small out fs _ (accepts-on l ok r n (allocated l.state.header ws) refl) hs
+  verdict-follows offered small out false remote given r n fs hs = refused-follows out remote given r n fs hs
 
   -- a call that only looks
   pub look-follows : (x : Look) (a : Answer) → Follows (look_call x) (looked l a)

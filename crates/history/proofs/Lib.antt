@@ -1,7 +1,9 @@
 pub mod Accepts
 pub mod Acts
+pub mod Budgets
 pub mod Bytes
 pub mod Entries
+pub mod Floor
 pub mod Given
 pub mod Good
 pub mod Heads
@@ -16,6 +18,7 @@ pub mod Packets
 pub mod Places
 pub mod Queue
 pub mod Runs
+pub mod Spending
 pub mod Steps
 pub mod Theorem
 pub mod Told

@@ -18,9 +18,10 @@ use Rattle.protocol.specs.Command.{is_ready}
 use Rattle.slot.specs.declared.ids.LocalId.{LocalId}
 use Rattle.slot.specs.declared.ids.RemoteId.{RemoteId}
 use Rattle.slot.specs.declared.ChannelSlot.{ChannelSlot}
+use Rattle.slot.specs.declared.Spending.{Spending}
 use Rattle.slot.specs.declared.Settled.{Settled}
 use Rattle.slot.specs.Ids.{closed_by}
-use Rattle.slot.specs.Slot.{empty_slot, is_opening, is_failed, is_closed, has_data, settled_of, taken_of, took_of, take_len, delivered_of, closed_slot, spent_of, budget_of, ready_of, wrote_of}
+use Rattle.slot.specs.Slot.{empty_slot, is_opening, is_failed, is_closed, has_data, settled_of, taken_of, took_of, take_len, delivered_of, closed_slot, spent_of, leave_of, ready_of, wrote_of}
 use Rattle.slot.proofs.Stays.{ReadiedStays, Stays, closed-stays, delivered-stays, ready-stays, settled-stays, spent-stays, took-stays, wrote-stays}
 use Rattle.slot.proofs.Kept.{pick, settled-sound}
 use Rattle.slot.proofs.Laws.{cond-false}
@@ -371,7 +372,7 @@ module _ (l : Lent) (ok : TableOk (policy l) l.state.header.negotiated.config.ch
 
   -- ---- write
 
-  module _ (ch : ChannelId) (out : ℕ) (bytes received : List ℕ) (fill : (slot_in ss ch.slot).filled ≡ true) where
+  module _ (spending : Spending) (ch : ChannelId) (out : ℕ) (bytes received : List ℕ) (fill : (slot_in ss ch.slot).filled ≡ true) where
     abbrev jw : ℕ
     jw = ch.slot
 
@@ -387,10 +388,10 @@ module _ (l : Lent) (ok : TableOk (policy l) l.state.header.negotiated.config.ch
     by-tame used w s (Some most) t e = some-tame used w s _ t e
     by-tame used w s None t e = tame-ends ss (then w (slot_to jw s ∷ []) []) _ used [] (tame-then ss w jw s [] t e)
 
-    again-tame : (used : ℕ) (w : Work) (s : ChannelSlot) → Tame ss w.changes → mark_of s ≡ mark_of (slot_in (slots_by ss w.changes) jw) → tame (send_again l ch out bytes used w s)
+    again-tame : (used : ℕ) (w : Work) (s : ChannelSlot) → Tame ss w.changes → mark_of s ≡ mark_of (slot_in (slots_by ss w.changes) jw) → tame (send_again spending l ch out bytes used w s)
     unfolding send_again
     again-tame used w s t e =
-        pick tame (is_closed s.state) (λ c. tame-ends ss (then w (slot_to jw s ∷ []) []) _ used [] (tame-then ss w jw s [] t e)) (λ c. by-tame used w s (budget_of s p) t e)
+        pick tame (is_closed s.state) (λ c. tame-ends ss (then w (slot_to jw s ∷ []) []) _ used [] (tame-then ss w jw s [] t e)) (λ c. by-tame used w s (leave_of spending s p) t e)
 
     abbrev w0 : Work
     w0 = begun h0 l
@@ -398,19 +399,19 @@ module _ (l : Lent) (ok : TableOk (policy l) l.state.header.negotiated.config.ch
     abbrev s0 : ChannelSlot
     s0 = slot_in ss jw
 
-    readied-tame : (used : ℕ) (r : Result ChannelSlot CreditFault) → ReadiedStays s0 r → tame (write_readied l ch out bytes used w0 s0 r)
+    readied-tame : (used : ℕ) (r : Result ChannelSlot CreditFault) → ReadiedStays s0 r → tame (write_readied spending l ch out bytes used w0 s0 r)
     unfolding write_readied
     readied-tame used (Ok t) x = again-tame used w0 t tt (stays-mark s0 t x)
     readied-tame used (Err b) x = tame-plain h0 _ used []
 
-    fault-tame : (used : ℕ) (k : Packet) (f : Option SlotFault) → tame (write_acted l ch out bytes used w0 (act_on h0 ss l.state.queue l.rx l.store k (body_of received k)) f)
+    fault-tame : (used : ℕ) (k : Packet) (f : Option SlotFault) → tame (write_acted spending l ch out bytes used w0 (act_on h0 ss l.state.queue l.rx l.store k (body_of received k)) f)
     unfolding write_acted
     fault-tame used k (Some f) = tame-ends ss (then_acted w0 (act_on h0 ss l.state.queue l.rx l.store k (body_of received k))) _ used [] (tame-act h0 ss l.state.queue l.rx l.store k (body_of received k) ok)
     fault-tame used k None =
         let a = act_on h0 ss l.state.queue l.rx l.store k (body_of received k) in
         again-tame used (then_acted w0 a) _ (tame-act h0 ss l.state.queue l.rx l.store k (body_of received k) ok) (ap (λ (x : List ChannelSlot). mark_of (slot_in x jw)) (slots-by l.state a.changes))
 
-    write-received-tame : (r : Result Packet (Answer × ℕ)) → tame (write_by l ch out bytes w0 s0 received r)
+    write-received-tame : (r : Result Packet (Answer × ℕ)) → tame (write_by spending l ch out bytes w0 s0 received r)
     unfolding write_by write_act
     write-received-tame (Err (a, used)) = tame-plain h0 a used []
     write-received-tame (Ok k) =
@@ -419,15 +420,15 @@ module _ (l : Lent) (ok : TableOk (policy l) l.state.header.negotiated.config.ch
         (λ u. tame-ends ss (then w0 (slot_to jw (closed_slot s0) ∷ []) []) _ (frame_len k) [] (stays-mark s0 (closed_slot s0) (closed-stays s0), tt))
         (λ u. fault-tame (frame_len k) k (act_on h0 ss l.state.queue l.rx l.store k (body_of received k)).fault))
 
-    first-tame : (x : Option ℕ) → tame (write_first l ch out bytes received w0 s0 x)
+    first-tame : (x : Option ℕ) → tame (write_first spending l ch out bytes received w0 s0 x)
     unfolding write_first
     first-tame (Some most) = some-tame 0 w0 s0 _ tt refl
     first-tame None = pick tame s0.has_remote (λ t. write-received-tame (received_of l received)) (λ t. tame-plain h0 _ 0 [])
 
-  pub write-tame : (ch : ChannelId) (out : ℕ) (bytes received : List ℕ) → tame (write_step l ch out bytes received)
+  pub write-tame : (spending : Spending) (ch : ChannelId) (out : ℕ) (bytes received : List ℕ) → tame (write_step spending l ch out bytes received)
   unfolding write_step write_on slot_for
-  write-tame ch out bytes received =
+  write-tame spending ch out bytes received =
       pick tame (eqb (length bytes) 0) (λ z. tame-plain h0 _ 0 [])
       (λ z. pick tame (is_there l ch)
-      (λ t. pick tame (is_closed (slot_in ss ch.slot).state) (λ c. tame-plain h0 _ 0 []) (λ c. first-tame ch out bytes received (there-filled ch t) (budget_of (slot_in ss ch.slot) p)))
+      (λ t. pick tame (is_closed (slot_in ss ch.slot).state) (λ c. tame-plain h0 _ 0 []) (λ c. first-tame spending ch out bytes received (there-filled ch t) (leave_of spending (slot_in ss ch.slot) p)))
       (λ t. tame-plain h0 _ 0 []))

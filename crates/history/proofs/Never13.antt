@@ -12,6 +12,7 @@ use Rattle.config.specs.Config.{within_limits, stores_fit}
 use Rattle.config.specs.Negotiated.{negotiated_of}
 use Rattle.config.proofs.Laws.{and-true, within}
 use Rattle.state.specs.State.{none_queued, state_len, Connection, layout, state_of, is_state}
+use Rattle.slot.specs.declared.ids.RemoteId.{RemoteId}
 use Rattle.slot.specs.Slot.{empty_slot}
 use Rattle.slot.proofs.Laws.{cond-true, cond-false}
 use Rattle.state.specs.Change.{changed_all, put_all}
@@ -21,20 +22,20 @@ use Rattle.state.proofs.StateLaws.{OpenFits, state-split, state-forth, state-fit
 use Rattle.state.proofs.ChangeLaws.{changes-layout}
 use Rattle.connection.specs.declared.Refusal.TheVariants.{StoreShort}
 use Rattle.connection.specs.Answer.{answer_number}
-use Rattle.connection.specs.Calls.{looked, numbers_for, numbers_outcome, Outcome, untouched, checked, checked_out, open_outcome, dispatch_outcome, settle_outcome, take_outcome, read_outcome, write_outcome, close_outcome, take_front_outcome, accept_outcome, reject_outcome, let_go_outcome, open_step, dispatch_step, settle_step, take_step, read_step, write_step, close_step, take_front_step, accept_step, reject_step, let_go_step, fresh, Made, make_of}
-use Rattle.history.specs.Run.{look_outcome, bytes_in, Call, open_call, dispatch_call, settle_call, take_call, read_call, write_call, close_call, front_taken, look_call, numbers_look, accept_call, reject_call, let_go_call, World, lent, outcome, after, after_all, made, Start, begins, agreed_in}
+use Rattle.connection.specs.Calls.{looked, numbers_for, numbers_outcome, Outcome, untouched, checked, checked_out, open_outcome, dispatch_outcome, settle_outcome, take_outcome, read_outcome, write_outcome, close_outcome, take_front_outcome, accept_outcome, reject_outcome, let_go_outcome, verdict_outcome, open_step, dispatch_step, settle_step, take_step, read_step, write_step, close_step, take_front_step, accept_step, reject_step, let_go_step, verdict_step, fresh, Made, make_of}
+use Rattle.history.specs.Run.{look_outcome, bytes_in, Call, open_call, dispatch_call, settle_call, take_call, read_call, write_call, close_call, front_taken, look_call, numbers_look, word_in, accept_call, reject_call, let_go_call, verdict_call, World, lent, outcome, after, after_all, made, Start, begins, agreed_in}
 use Rattle.history.specs.Never13.{Unbroken, Never13, StaysWhole, Always8}
 use Rattle.state_whole.proofs.WholeLaws.{length-layout, Bounds, SlotWhole, Whole, whole-own, whole-true, whole-full, whole-fits, empty-whole, whole-facts}
-use Rattle.history.proofs.Bytes.{bytes-in}
+use Rattle.history.proofs.Bytes.{bytes-in, word-in}
 use Rattle.connection.proofs.WholeWork.{negotiated, Kept, checked-kept, checked-out-kept, long}
-use Rattle.connection.proofs.WholeCalls.{settle-kept, take-kept, close-kept, front_kept, numbers-kept, accept-kept, reject-kept, let-go-kept, dispatch-kept, read_kept, write_kept, open_kept}
+use Rattle.connection.proofs.WholeCalls.{settle-kept, take-kept, close-kept, front_kept, numbers-kept, accept-kept, reject-kept, let-go-kept, verdict-kept, dispatch-kept, read_kept, write_kept, open_kept}
 
 -- ---- one call
 
 module _ (w : World) (is : is_whole w.state ≡ true)
     (g : Whole (negotiated (lent w)) (lent w).state.header (lent w).state.slots (lent w).state.queue) where
   pub call_kept : (x : Call) → Kept (lent w) (outcome w x)
-  unfolding outcome open_outcome dispatch_outcome settle_outcome take_outcome read_outcome write_outcome close_outcome take_front_outcome look_outcome numbers_outcome accept_outcome reject_outcome let_go_outcome
+  unfolding outcome open_outcome dispatch_outcome settle_outcome take_outcome read_outcome write_outcome close_outcome take_front_outcome look_outcome numbers_outcome accept_outcome reject_outcome let_go_outcome verdict_outcome
   call_kept (open_call out destination received) =
       subst (λ (t : Bool). Kept (lent w) (checked_out t (lent w) (length out) (open_step (lent w) (length out) (bytes_in destination) (bytes_in received)))) (sym is)
       (checked-out-kept (lent w) g (length out) _
@@ -51,10 +52,10 @@ module _ (w : World) (is : is_whole w.state ≡ true)
   call_kept (read_call out ch buf received) =
       subst (λ (t : Bool). Kept (lent w) (checked_out t (lent w) (length out) (read_step (lent w) ch (length buf) (bytes_in received)))) (sym is)
       (checked-out-kept (lent w) g (length out) _ (λ t. read_kept (lent w) g (long _ _ _ t) (bytes_in received) ch (length buf) (bytes-in received)))
-  call_kept (write_call out ch bytes received) =
-      subst (λ (t : Bool). Kept (lent w) (checked_out t (lent w) (length out) (write_step (lent w) ch (length out) (bytes_in bytes) (bytes_in received)))) (sym is)
+  call_kept (write_call spending out ch bytes received) =
+      subst (λ (t : Bool). Kept (lent w) (checked_out t (lent w) (length out) (write_step spending (lent w) ch (length out) (bytes_in bytes) (bytes_in received)))) (sym is)
       (checked-out-kept (lent w) g (length out) _
-      (λ t. write_kept (lent w) g (long _ _ _ t) (bytes_in received) ch (length out) (bytes_in bytes) (bytes-in received)))
+      (λ t. write_kept (lent w) g (long _ _ _ t) (bytes_in received) spending ch (length out) (bytes_in bytes) (bytes-in received)))
   call_kept (close_call out ch) =
       subst (λ (t : Bool). Kept (lent w) (checked_out t (lent w) (length out) (close_step (lent w) ch))) (sym is)
       (checked-out-kept (lent w) g (length out) _ (λ t. close-kept (lent w) g ch))
@@ -68,6 +69,10 @@ module _ (w : World) (is : is_whole w.state ≡ true)
       subst (λ (t : Bool). Kept (lent w) (checked_out t (lent w) (length out) (reject_step (lent w)))) (sym is) (checked-out-kept (lent w) g (length out) _ (λ t. reject-kept (lent w) g))
   call_kept let_go_call =
       subst (λ (t : Bool). Kept (lent w) (checked t (lent w) (let_go_step (lent w)))) (sym is) (checked-kept (lent w) g _ (λ t. let-go-kept (lent w) g))
+  call_kept (verdict_call out take remote credit) =
+      let r : RemoteId = record { 0 = word_in remote.0 } in
+      subst (λ (t : Bool). Kept (lent w) (checked_out t (lent w) (length out) (verdict_step (lent w) take r (word_in credit)))) (sym is)
+      (checked-out-kept (lent w) g (length out) _ (λ t. verdict-kept (lent w) g take r (word_in credit) (word-in remote.0) (word-in credit)))
 
 -- ---- a list of calls
 
@@ -136,7 +141,7 @@ in-replicate zero i a = refl
 in-replicate (suc k) zero a = refl
 in-replicate (suc k) (suc i) a = in-replicate k i a
 
-every-replicate : {A : Type 0} (P : A → Type 0) (k : ℕ) (a : A) → P a → Every P (replicate k a)
+pub every-replicate : {A : Type 0} (P : A → Type 0) (k : ℕ) (a : A) → P a → Every P (replicate k a)
 every-replicate P zero a p = tt
 every-replicate P (suc k) a p = (p, every-replicate P k a p)
 
@@ -249,19 +254,20 @@ module _ (w : World) (is : is_whole w.state ≡ true)
   checked-8 t o e = cond-true t _ _ e ∙ cond-false (stores_fit (negotiated (lent w)).config (length w.rx) (length w.store)) o _ short
 
   call-8 : (x : Call) → outcome w x ≡ untouched (lent w) StoreShort
-  unfolding outcome open_outcome dispatch_outcome settle_outcome take_outcome read_outcome write_outcome close_outcome take_front_outcome look_outcome numbers_outcome accept_outcome reject_outcome let_go_outcome checked_out
+  unfolding outcome open_outcome dispatch_outcome settle_outcome take_outcome read_outcome write_outcome close_outcome take_front_outcome look_outcome numbers_outcome accept_outcome reject_outcome let_go_outcome verdict_outcome checked_out
   call-8 (open_call out destination received) = checked-8 (is_whole w.state) _ is
   call-8 (dispatch_call out received) = checked-8 (is_whole w.state) _ is
   call-8 (settle_call out ch want) = checked-8 (is_whole w.state) _ is
   call-8 (take_call ch buf) = checked-8 (is_whole w.state) _ is
   call-8 (read_call out ch buf received) = checked-8 (is_whole w.state) _ is
-  call-8 (write_call out ch bytes received) = checked-8 (is_whole w.state) _ is
+  call-8 (write_call spending out ch bytes received) = checked-8 (is_whole w.state) _ is
   call-8 (close_call out ch) = checked-8 (is_whole w.state) _ is
   call-8 front_taken = checked-8 (is_whole w.state) _ is
   call-8 (look_call (numbers_look ch)) = checked-8 (is_whole w.state) _ is
   call-8 (accept_call out) = checked-8 (is_whole w.state) _ is
   call-8 (reject_call out) = checked-8 (is_whole w.state) _ is
   call-8 let_go_call = checked-8 (is_whole w.state) _ is
+  call-8 (verdict_call out take remote credit) = checked-8 (is_whole w.state) _ is
 
   after-8 : (x : Call) → after w x ≡ w
   unfolding after

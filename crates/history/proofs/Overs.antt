@@ -21,10 +21,11 @@ use Rattle.credit.proofs.CreditLaws.{by_number}
 use Rattle.credit.specs.declared.CreditFault.{CreditFault}
 use Rattle.slot.specs.declared.ChannelFault.TheVariants.{RxOverflow, BadCredit, UnexpectedCommand as WriteEarly}
 use Rattle.slot.specs.declared.ChannelSlot.{ChannelSlot}
+use Rattle.slot.specs.declared.Spending.{Spending}
 use Rattle.slot.specs.declared.ids.LocalId.{LocalId}
 use Rattle.slot.specs.declared.ids.RemoteId.{RemoteId}
 use Rattle.slot.specs.Ids.{closed_by}
-use Rattle.slot.specs.Slot.{is_failed, is_closed, error_of, has_data, take_len, took_of, taken_of, settled_of, budget_of, spent_of, ready_of, opening_slot, opened_of}
+use Rattle.slot.specs.Slot.{is_failed, is_closed, error_of, has_data, take_len, took_of, taken_of, settled_of, leave_of, spent_of, ready_of, opening_slot, opened_of}
 use Rattle.slot.proofs.Kept.{pick, settled-sound}
 use Rattle.slot.proofs.Stays.{settled-stays}
 use Rattle.state.specs.declared.Header.{Header}
@@ -42,7 +43,7 @@ use Rattle.connection.specs.declared.Answer.TheVariants.{Done, Waiting, Opened, 
 use Rattle.connection.specs.declared.Refusal.TheVariants.{ChannelClosed, NoFreeChannels, PayloadTooLarge, BadCredit as CreditRefused, UnexpectedCommand}
 use Rattle.connection.specs.Act.{Acted, table_of, act_on}
 use Rattle.connection.specs.Answer.{answer_number}
-use Rattle.connection.specs.Calls.{looked, numbers_for, numbers_in, Lent, Outcome, Work, begun, then, then_acted, ends, dropped, pending_for, policy, ids_in, is_there, slot_for, error_refusal, unless_fault, received_of, body_of, frame_len, is_direct, dispatch_by, dispatch_step, settled_as, settle_step, taken_by, take_step, reread, read_settled, read_acted, read_direct, read_by, read_taken, read_first, read_step, send_some, send_by, send_again, write_readied, write_acted, write_act, write_by, write_first, write_on, write_step, close_step, take_front_by, take_front_step, open_on, still_pending, open_readied, open_acted, open_by, open_step, offer_in, is_offered, reject_on, accept_on, accept_step, reject_step, let_go_step}
+use Rattle.connection.specs.Calls.{looked, numbers_for, numbers_in, Lent, Outcome, Work, begun, then, then_acted, ends, dropped, pending_for, policy, ids_in, is_there, slot_for, error_refusal, unless_fault, received_of, body_of, frame_len, is_direct, dispatch_by, dispatch_step, settled_as, settle_step, taken_by, take_step, reread, read_settled, read_acted, read_direct, read_by, read_taken, read_first, read_step, send_some, send_by, send_again, write_readied, write_acted, write_act, write_by, write_first, write_on, write_step, close_step, take_front_by, take_front_step, open_on, still_pending, open_readied, open_acted, open_by, open_step, offer_in, is_offered, reject_on, accept_on, accept_step, reject_step, let_go_step, verdict_step}
 use Rattle.connection.specs.Frames.{open_frame, write_frame, frames_bytes}
 use Rattle.connection.proofs.Slots.{slots_by, slots-by, slot-set-same}
 use Rattle.history.proofs.Acts.{acted-fault, acted-at, at_named}
@@ -215,6 +216,14 @@ module _ (l : Lent) (ok : TableOk (policy l) l.state.header.negotiated.config.ch
   unfolding accept_step ends answer_number
   accept-never = pick Never (is_offered l) (λ t. accept-on (offer_in l).remote (offer_in l).credit (allocated l.state.header ss)) (λ t e. omega arith)
 
+  reject-on : (remote : RemoteId) (a : Answer) → Other a → Never (reject_on l h0 remote a)
+  unfolding reject_on ends
+  reject-on remote a f = f
+
+  pub verdict-never : (take : Bool) (remote : RemoteId) (credit : ℕ) → Never (verdict_step l take remote credit)
+  unfolding verdict_step answer_number
+  verdict-never take remote credit = pick Never take (λ t. accept-on remote credit (allocated l.state.header ss)) (λ t. reject-on remote Done (λ e. omega arith))
+
   -- ---- calls that are handed received bytes
 
   module _ (received : List ℕ) where
@@ -336,7 +345,7 @@ module _ (l : Lent) (ok : TableOk (policy l) l.state.header.negotiated.config.ch
 
     -- ---- write
 
-    module _ (ch : ChannelId) (out : ℕ) (bytes : List ℕ) where
+    module _ (spending : Spending) (ch : ChannelId) (out : ℕ) (bytes : List ℕ) where
       some-notes : (used : ℕ) (w : Work) (s : ChannelSlot) (n : ℕ) → E (send_some l ch out bytes used w s n)
       unfolding send_some answer_number
       some-notes used w s n =
@@ -348,22 +357,22 @@ module _ (l : Lent) (ok : TableOk (policy l) l.state.header.negotiated.config.ch
       send-notes used w s (Some most) = some-notes used w s _
       send-notes used w s None = other (then w (slot_to ch.slot s ∷ []) []) Waiting used [] (λ e. omega arith)
 
-      again-notes : (used : ℕ) (w : Work) (s : ChannelSlot) → E (send_again l ch out bytes used w s)
+      again-notes : (used : ℕ) (w : Work) (s : ChannelSlot) → E (send_again spending l ch out bytes used w s)
       unfolding send_again answer_number
       again-notes used w s =
-          pick E (is_closed s.state) (λ t. other (then w (slot_to ch.slot s ∷ []) []) (Refused ChannelClosed) used [] (λ e. omega arith)) (λ t. send-notes used w s (budget_of s p))
+          pick E (is_closed s.state) (λ t. other (then w (slot_to ch.slot s ∷ []) []) (Refused ChannelClosed) used [] (λ e. omega arith)) (λ t. send-notes used w s (leave_of spending s p))
 
-      readied-notes : (used : ℕ) (w : Work) (s : ChannelSlot) (r : Result ChannelSlot CreditFault) → E (write_readied l ch out bytes used w s r)
+      readied-notes : (used : ℕ) (w : Work) (s : ChannelSlot) (r : Result ChannelSlot CreditFault) → E (write_readied spending l ch out bytes used w s r)
       unfolding write_readied answer_number
       readied-notes used w s (Ok t) = again-notes used w t
       readied-notes used w s (Err b) = other w (Refused (CreditRefused b)) used [] (bad-other b)
 
-      fault-notes : (k : Packet) → Says received limit k → (w : Work) (a : Acted) (f : Option ChannelFault) → (over_in f ≡ true → Over ss k.command k.arg1) → E (write_acted l ch out bytes (frame_len k) w a f)
+      fault-notes : (k : Packet) → Says received limit k → (w : Work) (a : Acted) (f : Option ChannelFault) → (over_in f ≡ true → Over ss k.command k.arg1) → E (write_acted spending l ch out bytes (frame_len k) w a f)
       unfolding write_acted unless_fault answer_number
       fault-notes k s w a (Some f) v = acted (then_acted w a) (Some f) Waiting k [] s (λ e. omega arith) v
       fault-notes k s w a None v = again-notes (frame_len k) (then_acted w a) _
 
-      write-received-notes : (s : ChannelSlot) (r : Result Packet (Answer × ℕ)) → Got received limit r → E (write_by l ch out bytes (begun h0 l) s received r)
+      write-received-notes : (s : ChannelSlot) (r : Result Packet (Answer × ℕ)) → Got received limit r → E (write_by spending l ch out bytes (begun h0 l) s received r)
       unfolding write_by write_act answer_number
       write-received-notes s r (stopped a used st) = other (begun h0 l) a used [] st.under
       write-received-notes s r (packet k sy) =
@@ -371,18 +380,18 @@ module _ (l : Lent) (ok : TableOk (policy l) l.state.header.negotiated.config.ch
           (λ t. pick E (closed_by (ids_in s) k) (λ u. other _ (Refused ChannelClosed) (frame_len k) [] (λ e. omega arith))
           (λ u. fault-notes k sy (begun h0 l) (act_on h0 ss l.state.queue l.rx l.store k (body_of received k)) _ (over-act h0 ss l k (body_of received k) ok)))
 
-      first-notes : (s : ChannelSlot) (x : Option ℕ) → E (write_first l ch out bytes received (begun h0 l) s x)
+      first-notes : (s : ChannelSlot) (x : Option ℕ) → E (write_first spending l ch out bytes received (begun h0 l) s x)
       unfolding write_first answer_number
       first-notes s (Some most) = some-notes 0 (begun h0 l) s _
       first-notes s None =
           pick E s.has_remote (λ t. write-received-notes s (received_of l received) (got l received)) (λ t. other (begun h0 l) (Refused ChannelClosed) 0 [] (λ e. omega arith))
 
-      pub write-notes : E (write_step l ch out bytes received)
+      pub write-notes : E (write_step spending l ch out bytes received)
       unfolding write_step write_on answer_number
       write-notes =
           pick E (eqb (length bytes) 0) (λ z. other (begun h0 l) (Written 0) 0 [] (λ e. omega arith))
           (λ z. pick E (is_there l ch)
-          (λ t. pick E (is_closed (slot_for l ch).state) (λ c. other (begun h0 l) (Refused ChannelClosed) 0 [] (λ e. omega arith)) (λ c. first-notes (slot_for l ch) (budget_of (slot_for l ch) p)))
+          (λ t. pick E (is_closed (slot_for l ch).state) (λ c. other (begun h0 l) (Refused ChannelClosed) 0 [] (λ e. omega arith)) (λ c. first-notes (slot_for l ch) (leave_of spending (slot_for l ch) p)))
           (λ t. other (begun h0 l) (Refused ChannelClosed) 0 [] (λ e. omega arith)))
 
     -- ---- open

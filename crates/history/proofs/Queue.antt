@@ -23,8 +23,9 @@ use Rattle.protocol.specs.declared.packet.Packet.{Packet}
 use Rattle.protocol.specs.Packet.{payload_limit}
 use Rattle.protocol.specs.Command.{is_ready, is_close, is_write}
 use Rattle.slot.specs.declared.ChannelSlot.{ChannelSlot}
+use Rattle.slot.specs.declared.Spending.{Spending}
 use Rattle.slot.specs.Ids.{closed_by}
-use Rattle.slot.specs.Slot.{empty_slot, is_closed, is_failed, settled_of, spent_of, budget_of}
+use Rattle.slot.specs.Slot.{empty_slot, is_closed, is_failed, settled_of, spent_of, leave_of}
 use Rattle.slot.specs.declared.ids.LocalId.{LocalId}
 use Rattle.slot.specs.declared.ids.RemoteId.{RemoteId}
 use Rattle.slot.proofs.Kept.{pick}
@@ -53,10 +54,10 @@ use Rattle.connection.specs.declared.Answer.TheVariants.{Numbers as NumbersAre, 
 use Rattle.connection.specs.declared.Refusal.{Refusal}
 use Rattle.connection.specs.Frames.{Frame, frames_bytes}
 use Rattle.connection.specs.declared.Refusal.TheVariants.{StoreShort, OutShort, ChannelClosed, BrokenState}
-use Rattle.connection.specs.Calls.{looked, numbers_for, numbers_outcome, Lent, Outcome, Work, begun, then, then_acted, ends, dropped, untouched, checked, checked_out, policy, ids_in, is_there, slot_for, ack_frames, unless_fault, received_of, body_of, frame_len, dispatch_by, dispatch_step, settled_as, settle_step, taken_by, take_step, reread, read_settled, read_acted, is_direct, read_direct, read_by, read_taken, read_first, read_step, send_len, send_some, send_by, send_again, write_readied, write_acted, write_act, write_by, write_first, write_on, write_step, close_step, take_front_by, take_front_step, open_on, still_pending, open_readied, open_acted, open_by, open_step, fresh, open_outcome, dispatch_outcome, settle_outcome, take_outcome, read_outcome, write_outcome, close_outcome, take_front_outcome, accept_outcome, reject_outcome, let_go_outcome, offer_in, is_offered, reject_on, accept_on, accept_step, reject_step, let_go_step}
+use Rattle.connection.specs.Calls.{looked, numbers_for, numbers_outcome, Lent, Outcome, Work, begun, then, then_acted, ends, dropped, untouched, checked, checked_out, policy, ids_in, is_there, slot_for, ack_frames, unless_fault, received_of, body_of, frame_len, dispatch_by, dispatch_step, settled_as, settle_step, taken_by, take_step, reread, read_settled, read_acted, is_direct, read_direct, read_by, read_taken, read_first, read_step, send_len, send_some, send_by, send_again, write_readied, write_acted, write_act, write_by, write_first, write_on, write_step, close_step, take_front_by, take_front_step, open_on, still_pending, open_readied, open_acted, open_by, open_step, fresh, open_outcome, dispatch_outcome, settle_outcome, take_outcome, read_outcome, write_outcome, close_outcome, take_front_outcome, accept_outcome, reject_outcome, let_go_outcome, verdict_outcome, offer_in, is_offered, reject_on, accept_on, accept_step, reject_step, let_go_step, verdict_step}
 use Rattle.connection.specs.Act.{Acted, pushed_by, acted_by, table_of, act_on, PacketFits}
 use Rattle.history.specs.Queue.{QueueMove, stays, pushes, withdraws, pops, moved, command_move, used_move, queue_of, packet_move, Hands, takes_none, open_takes, read_takes, write_takes, move_of, queue_in, Queues, QueueIsRusts, back_move, offer_of, offered_in}
-use Rattle.history.specs.Run.{look_outcome, bytes_in, Call, open_call, dispatch_call, settle_call, take_call, read_call, write_call, close_call, front_taken, look_call, numbers_look, accept_call, reject_call, let_go_call, World, lent, outcome, after, after_all, Start, begins, agreed_in}
+use Rattle.history.specs.Run.{look_outcome, bytes_in, Call, open_call, dispatch_call, settle_call, take_call, read_call, write_call, close_call, front_taken, look_call, numbers_look, accept_call, reject_call, let_go_call, verdict_call, World, lent, outcome, after, after_all, Start, begins, agreed_in}
 use Rattle.connection.proofs.WholeWork.{negotiated, At, at-frames, at_slot, there-live, there-at, Long, long, drop-whole}
 use Rattle.history.proofs.Bytes.{bytes-in}
 use Rattle.connection.proofs.Decoding.{ReceivedFits, received-fits}
@@ -402,6 +403,10 @@ module _ (l : Lent) (g : Whole (negotiated l) l.state.header l.state.slots l.sta
   unfolding accept_step
   accept-moves m = pick (Moves l m) (is_offered l) (λ t. accept-on m (offer_in l).remote (offer_in l).credit (allocated l.state.header l.state.slots)) (λ t. none_moves m)
 
+  verdict-moves : (m : QueueMove) (take : Bool) (remote : RemoteId) (credit : ℕ) → Moves l m (verdict_step l take remote credit)
+  unfolding verdict_step
+  verdict-moves m take remote credit = pick (Moves l m) take (λ t. accept-on m remote credit (allocated l.state.header l.state.slots)) (λ t. reject-on m remote Done)
+
   -- ---- let go puts what is offered back
 
   let-go-moves : queue_o l (let_go_step l) ≡ moved (negotiated l).config.channels (back_move (offer_of l)) (queue_of l)
@@ -550,7 +555,7 @@ module _ (l : Lent) (g : Whole (negotiated l) l.state.header l.state.slots l.sta
 
     -- ---- write
 
-    module _ (ch : ChannelId) (out : ℕ) (bytes : List ℕ) where
+    module _ (spending : Spending) (ch : ChannelId) (out : ℕ) (bytes : List ℕ) where
       module _ (m : QueueMove) where
         send-some : (used : ℕ) (w : Work) (s : ChannelSlot) (n : ℕ) → Left l m used w → Moves l m (send_some l ch out bytes used w s n)
         unfolding send_some
@@ -563,17 +568,17 @@ module _ (l : Lent) (g : Whole (negotiated l) l.state.header l.state.slots l.sta
         send-by used w s k (Some most) = send-some used w s (send_len l bytes most) k
         send-by used w s k None = ends-left l m _ _ used [] (queue-slot l w ch.slot s ∙ k)
 
-        send-again : (used : ℕ) (w : Work) (s : ChannelSlot) → Left l m used w → Moves l m (send_again l ch out bytes used w s)
+        send-again : (used : ℕ) (w : Work) (s : ChannelSlot) → Left l m used w → Moves l m (send_again spending l ch out bytes used w s)
         unfolding send_again
         send-again used w s k =
-            pick (Moves l m) (is_closed s.state) (λ t. ends-left l m _ _ used [] (queue-slot l w ch.slot s ∙ k)) (λ t. send-by used w s k (budget_of s (policy l)))
+            pick (Moves l m) (is_closed s.state) (λ t. ends-left l m _ _ used [] (queue-slot l w ch.slot s ∙ k)) (λ t. send-by used w s k (leave_of spending s (policy l)))
 
-        write-readied : (used : ℕ) (w : Work) (s : ChannelSlot) → Left l m used w → (r : Result ChannelSlot CreditFault) → Moves l m (write_readied l ch out bytes used w s r)
+        write-readied : (used : ℕ) (w : Work) (s : ChannelSlot) → Left l m used w → (r : Result ChannelSlot CreditFault) → Moves l m (write_readied spending l ch out bytes used w s r)
         unfolding write_readied
         write-readied used w s k (Ok t) = send-again used w t k
         write-readied used w s k (Err b) = ends-left l m w _ used [] k
 
-        write-acted : (used : ℕ) (w : Work) (a : Acted) → Left l m used (then_acted w a) → (f : Option SlotFault) → Moves l m (write_acted l ch out bytes used w a f)
+        write-acted : (used : ℕ) (w : Work) (a : Acted) → Left l m used (then_acted w a) → (f : Option SlotFault) → Moves l m (write_acted spending l ch out bytes used w a f)
         unfolding write_acted
         write-acted used w a k (Some f) = ends-left l m _ _ used [] k
         write-acted used w a k None = send-again used (then_acted w a) _ k
@@ -581,7 +586,7 @@ module _ (l : Lent) (g : Whole (negotiated l) l.state.header l.state.slots l.sta
       abbrev write-move : Result Packet (Answer × ℕ) → QueueMove
       write-move r = lent_move (write_takes l ch) r
 
-      write-by : (r : Result Packet (Answer × ℕ)) → ReceivedFits (negotiated l) received r → Moves l (write-move r) (write_by l ch out bytes b0 (slot_for l ch) received r)
+      write-by : (r : Result Packet (Answer × ℕ)) → ReceivedFits (negotiated l) received r → Moves l (write-move r) (write_by spending l ch out bytes b0 (slot_for l ch) received r)
       unfolding write_by write_act write_takes
       write-by (Err (a, used)) k = ends-left l _ b0 a used [] (left-own l _ used b0 still0 (stop-stays (write_takes l ch) a used))
       write-by (Ok p) k =
@@ -592,19 +597,19 @@ module _ (l : Lent) (g : Whole (negotiated l) l.state.header l.state.slots l.sta
           (λ u. ends-left l _ _ _ (frame_len p) [] (left-own l _ (frame_len p) b0 still0 (own-stays (write_takes l ch) p (or_right mine _ t ∙ u))))
           (λ u. write-acted _ (frame_len p) b0 (act_d p) (left-moved l _ p (then_acted b0 (act_d p)) (acted-dropped (write_takes l ch) p k (or_right mine _ t ∙ u))) _))
 
-      write-first : Bytes received → (b : Option ℕ) → Moves l (write-move (received_of l received)) (write_first l ch out bytes received b0 (slot_for l ch) b)
+      write-first : Bytes received → (b : Option ℕ) → Moves l (write-move (received_of l received)) (write_first spending l ch out bytes received b0 (slot_for l ch) b)
       unfolding write_first
       write-first y (Some most) = send-some _ 0 b0 (slot_for l ch) (send_len l bytes most) (left-none l _ b0 still0)
       write-first y None =
           pick (Moves l (write-move (received_of l received))) (slot_for l ch).has_remote (λ t. write-by (received_of l received) (received-fits l received y)) (λ t. gone-moves _)
 
-      write_moves : Bytes received → Moves l (write-move (received_of l received)) (write_step l ch out bytes received)
+      write_moves : Bytes received → Moves l (write-move (received_of l received)) (write_step spending l ch out bytes received)
       unfolding write_step write_on
       write_moves y =
           let P = Moves l (write-move (received_of l received)) in
           pick P (eqb (length bytes) 0) (λ z. ends-left l _ b0 _ 0 [] (left-none l _ b0 still0))
           (λ z. pick P (is_there l ch)
-          (λ t. pick P (is_closed (slot_for l ch).state) (λ u. gone-moves _) (λ u. write-first y (budget_of (slot_for l ch) (policy l))))
+          (λ t. pick P (is_closed (slot_for l ch).state) (λ u. gone-moves _) (λ u. write-first y (leave_of spending (slot_for l ch) (policy l))))
           (λ t. gone-moves _))
 
     -- ---- open
@@ -820,7 +825,7 @@ module _ (w : World) (is : is_whole w.state ≡ true) (fit : stores_fit (negotia
   leaves o k = k ∙ ap (λ (m : QueueMove). moved (negotiated (lent w)).config.channels m (queue_in w)) (used-stays (lent w) o.used)
 
   front-is : outcome w front_taken ≡ take_front_step (lent w)
-  unfolding outcome take_front_outcome look_outcome numbers_outcome accept_outcome reject_outcome let_go_outcome checked
+  unfolding outcome take_front_outcome look_outcome numbers_outcome accept_outcome reject_outcome let_go_outcome verdict_outcome checked
   front-is = cond-true (is_whole w.state) _ _ is ∙ cond-true (stores_fit (negotiated (lent w)).config (length w.rx) (length w.store)) _ _ fit
 
   let-go-is : outcome w let_go_call ≡ let_go_step (lent w)
@@ -832,7 +837,7 @@ module _ (w : World) (is : is_whole w.state ≡ true) (fit : stores_fit (negotia
   front-taken = front-moves (lent w) g
 
   call-moves : (x : Call) → queue_o (lent w) (outcome w x) ≡ moved (negotiated (lent w)).config.channels (move_of w x) (queue_in w)
-  unfolding outcome open_outcome dispatch_outcome settle_outcome take_outcome read_outcome write_outcome close_outcome look_outcome numbers_outcome accept_outcome reject_outcome move_of
+  unfolding outcome open_outcome dispatch_outcome settle_outcome take_outcome read_outcome write_outcome close_outcome look_outcome numbers_outcome accept_outcome reject_outcome verdict_outcome move_of
   call-moves (open_call out destination received) =
       out-moves (lent w) _ (is_whole w.state) (length out) _ (open-moves (lent w) g far (bytes_in received) (length out) (bytes_in destination) (bytes-in received))
   call-moves (dispatch_call out received) = out-moves (lent w) _ (is_whole w.state) (length out) _ (dispatch-moves (lent w) g far (bytes_in received) (bytes-in received))
@@ -840,8 +845,8 @@ module _ (w : World) (is : is_whole w.state ≡ true) (fit : stores_fit (negotia
   call-moves (take_call ch buf) = leaves (outcome w (take_call ch buf)) (checked-moves (lent w) stays (is_whole w.state) (take_step (lent w) ch (length buf)) (take-moves (lent w) g stays ch (length buf)))
   call-moves (read_call out ch buf received) =
       out-moves (lent w) _ (is_whole w.state) (length out) _ (read-moves (lent w) g far (bytes_in received) ch (length buf) (bytes-in received))
-  call-moves (write_call out ch bytes received) =
-      out-moves (lent w) _ (is_whole w.state) (length out) _ (write_moves (lent w) g far (bytes_in received) ch (length out) (bytes_in bytes) (bytes-in received))
+  call-moves (write_call spending out ch bytes received) =
+      out-moves (lent w) _ (is_whole w.state) (length out) _ (write_moves (lent w) g far (bytes_in received) spending ch (length out) (bytes_in bytes) (bytes-in received))
   call-moves (close_call out ch) = leaves (outcome w (close_call out ch)) (out-moves (lent w) stays (is_whole w.state) (length out) (close_step (lent w) ch) (close-moves (lent w) g stays ch))
   call-moves front_taken = ap (queue_o (lent w)) front-is ∙ front-taken
   call-moves (look_call (numbers_look ch)) =
@@ -849,6 +854,8 @@ module _ (w : World) (is : is_whole w.state ≡ true) (fit : stores_fit (negotia
   call-moves (accept_call out) = leaves (outcome w (accept_call out)) (out-moves (lent w) stays (is_whole w.state) (length out) (accept_step (lent w)) (accept-moves (lent w) g stays))
   call-moves (reject_call out) = leaves (outcome w (reject_call out)) (out-moves (lent w) stays (is_whole w.state) (length out) (reject_step (lent w)) (reject-moves (lent w) g stays))
   call-moves let_go_call = ap (queue_o (lent w)) let-go-is ∙ let-go-moves (lent w) g
+  call-moves (verdict_call out take remote credit) =
+      leaves (outcome w (verdict_call out take remote credit)) (out-moves (lent w) stays (is_whole w.state) (length out) _ (verdict-moves (lent w) g stays take _ _))
 
 -- what is offered in a state, with a store
 abbrev offer_in-store : List ℕ → Connection → List Incoming

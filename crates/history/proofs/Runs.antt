@@ -1,12 +1,14 @@
 -- The books of two short runs, one in each mode, computed. What each call is said to give, and each slot after the last one, was
--- recorded from libadb's core (commit 39d2221f4e) on the same bytes (oracle/scripts/ledger.txt). Assumes nothing.
+-- recorded from libadb's core (commit 39d2221f4e) on the same bytes (oracle/scripts/ledger.txt). Two more, of what
+-- writes take off a budget, are not from there. Assumes nothing.
 use Prim.Native.Nat.{ℕ, zero, suc, ◌^◌, ◌≤◌, ◌<◌}
 use native.Mathlib.Nat.{le_refl}
 use native.Mathlib.Omega.{arith}
 use mathlib.Core.Path.{◌≡◌, refl, ap}
 use mathlib.Core.Bool.{Bool, true, false}
 use mathlib.Core.List.{List, [], ◌∷◌, ◌++◌, map}
-use lib.ListN.{length, take, set, replicate}
+use lib.IntN.{ℤ, pos, negsuc}
+use lib.ListN.{length, take, set, get_or, replicate}
 use Rattle.config.specs.declared.ConnectionConfig.{ConnectionConfig}
 use Rattle.config.specs.declared.negotiated.RxPolicy.{RxPolicy}
 use Rattle.table.specs.declared.ChannelId.{ChannelId}
@@ -21,7 +23,9 @@ use Rattle.protocol.specs.Message.{message_of, header_bytes}
 use Rattle.protocol.specs.Packet.{payload_of, check_passes, packet_of, known_of, named_of, decode_of, used_of, message_for, packet_bytes as frame_bytes-protocol}
 use Rattle.slot.specs.Ids.{named_by, closed_by}
 use Rattle.credit.specs.Credit.{credit_of, at_least_zero}
-use Rattle.slot.specs.Slot.{emptied_slot, total_with, opening_slot, empty_slot, is_opening, is_closed, is_failed, opened_by, opened_of, ready_of, held_of as held_of-slot, acks_now, buffered_with, wrote_of, some_len, delivered_of, ack_len_of, has_data, settled_by, settled_some, settled_of, take_len, took_of, taken_of, budget_of, spent_of, closed_slot, slot_ok}
+use Rattle.slot.specs.declared.Spending.{Spending}
+use Rattle.slot.specs.declared.Spending.TheVariants.{Within, Beyond}
+use Rattle.slot.specs.Slot.{emptied_slot, total_with, opening_slot, empty_slot, is_opening, is_closed, is_failed, opened_by, opened_of, ready_of, held_of as held_of-slot, acks_now, buffered_with, wrote_of, some_len, delivered_of, ack_len_of, has_data, settled_by, settled_some, settled_of, take_len, took_of, taken_of, budget_of, leave_by, leave_of, spent_of, closed_slot, slot_ok}
 use Rattle.wire.specs.Wire.{credit_bytes, okay_bytes, close_bytes}
 use Rattle.le.specs.Rows.{flat, rows, all_is}
 use Rattle.state.specs.State.{state_len, slot_numbers, slot_counts, tag_of, slot_bytes, slot_of, is_tag, is_slot, queued_bytes, header_sizes, header_words, header_tags, state_header as header_bytes-state, header_of, layout, state_of, is_state, put_slot, put_header}
@@ -32,7 +36,7 @@ use Rattle.connection.specs.Frames.{frame_bytes, frames_bytes}
 use Rattle.connection.specs.Act.{acted_by, table_of, act_on}
 use Rattle.connection.specs.Answer.{answer_number, ack_length, refusal_word, answer_values}
 use Rattle.connection.proofs.RunFrames.{OPEN, OKAY, WRTE, CLSE}
-use Rattle.connection.specs.Calls.{written_by, ends, checked, checked_out, is_there, slot_for, ack_frames, unless_fault, received_by, received_of, fresh, make_of, dispatch_by, dispatch_step, settled_as, settle_step, taken_by, take_step, reread, read_settled, read_acted, is_direct, read_direct, read_by, read_taken, read_first, read_step, send_len, send_some, send_by, send_again, write_readied, write_acted, write_act, write_by, write_first, write_on, write_step, close_step, open_on, still_pending, open_readied, open_acted, open_by, open_step, open_outcome, dispatch_outcome, settle_outcome, take_outcome, read_outcome, write_outcome, close_outcome}
+use Rattle.connection.specs.Calls.{Outcome, written_by, ends, checked, checked_out, is_there, slot_for, ack_frames, unless_fault, received_by, received_of, fresh, make_of, dispatch_by, dispatch_step, settled_as, settle_step, taken_by, take_step, reread, read_settled, read_acted, is_direct, read_direct, read_by, read_taken, read_first, read_step, send_len, send_some, send_by, send_again, write_readied, write_acted, write_act, write_by, write_first, write_on, write_step, close_step, open_on, still_pending, open_readied, open_acted, open_by, open_step, open_outcome, dispatch_outcome, settle_outcome, take_outcome, read_outcome, write_outcome, close_outcome}
 use Rattle.history.specs.Run.{World, Call, open_call, dispatch_call, settle_call, take_call, read_call, write_call, close_call, Start, begins, policy_in, bytes_in, out_of, buf_of, outcome, after, after_all, made}
 use Rattle.history.specs.Seen.{Event, seen_of, held_of, said_by, count_of, sent_by, sent_in, seen_in, events_of}
 use Rattle.history.specs.Book.{Book, Ledger, no_book, clean, book_at, book_slot, new_aside, credit_in, acks_of, last_open, frame_b, damaged_b, packet_b, read_used_b, read_b, write_b, entry_on, opened_b, acks_b, book_after, each_place, entry, ledger_of}
@@ -141,7 +145,7 @@ abbrev reads : ℕ → ℕ → ℕ → List ℕ → Call
 reads i n room received = read_call (some 56) (channel i n) (some room) received
 
 abbrev writes : ℕ → ℕ → List ℕ → List ℕ → Call
-writes i n bytes received = write_call (some 56) (channel i n) bytes received
+writes i n bytes received = write_call Within (some 56) (channel i n) bytes received
 
 abbrev closes : ℕ → ℕ → Call
 closes i n = close_call (some 56) (channel i n)
@@ -264,8 +268,8 @@ plain_book =
 -- ---- what is computed is what was recorded
 
 -- to unfold this is to unfold all that a run computes with
-computing : ℕ
-unfolding num_of bytes_of signed unsigned part put clamp sat_sum positive_part slid fits_behind appended_head appended taken_head within_limits cap_of ceiling_of watermark_of opening_credit rx_store_len open_store_len stores_fit both negotiated_of policy_of credit_of-config total sum_of policy_for check_for letters_of word_of magic_of commands among_of command_of message_of header_bytes payload_of check_passes packet_of known_of named_of decode_of used_of message_for frame_bytes-protocol is_close named_by closed_by credit_of at_least_zero opening_slot empty_slot emptied_slot total_with is_opening is_closed is_failed opened_by opened_of ready_of held_of-slot acks_now buffered_with wrote_of some_len delivered_of ack_len_of has_data settled_by settled_some settled_of take_len took_of taken_of budget_of spent_of closed_slot slot_ok credit_bytes okay_bytes close_bytes flat rows all_is slot_numbers slot_counts tag_of slot_bytes slot_of is_tag is_slot queued_bytes header_sizes header_words header_tags header_bytes-state header_of layout state_of is_state put_slot put_header filled_ok slot_fine slots_fine queue_fine pending_fine offer_fine opens_fine header_fine filled_at whole is_whole first wanted_by place_of next_local_id allocated slot_in named_place remote_place closed_at close_of share_of buffered_in wrote_by wrote_at write_of route_of dispatch_of frame_bytes frames_bytes acted_by table_of act_on answer_number ack_length refusal_word answer_values written_by ends checked checked_out is_there slot_for ack_frames unless_fault received_by received_of is_write is_ready fresh make_of dispatch_by dispatch_step settled_as settle_step front_of taken_by take_step reread read_settled read_acted is_direct read_direct read_by read_taken read_first read_step send_len send_some send_by send_again write_readied write_acted write_act write_by write_first write_on write_step close_step open_on still_pending open_readied open_acted open_by open_step open_outcome dispatch_outcome settle_outcome take_outcome read_outcome write_outcome close_outcome bytes_in out_of buf_of outcome after after_all made held_of said_by count_of sent_by sent_in seen_in events_of book_slot new_aside credit_in acks_of last_open frame_b damaged_b packet_b read_used_b read_b write_b entry_on opened_b acks_b book_after each_place entry ledger_of run_of opens_in given_by given_in is_the is_open
+unfoldable pub computing : ℕ
+unfolding num_of bytes_of signed unsigned part put clamp sat_sum positive_part slid fits_behind appended_head appended taken_head within_limits cap_of ceiling_of watermark_of opening_credit rx_store_len open_store_len stores_fit both negotiated_of policy_of credit_of-config total sum_of policy_for check_for letters_of word_of magic_of commands among_of command_of message_of header_bytes payload_of check_passes packet_of known_of named_of decode_of used_of message_for frame_bytes-protocol is_close named_by closed_by credit_of at_least_zero opening_slot empty_slot emptied_slot total_with is_opening is_closed is_failed opened_by opened_of ready_of held_of-slot acks_now buffered_with wrote_of some_len delivered_of ack_len_of has_data settled_by settled_some settled_of take_len took_of taken_of budget_of leave_by leave_of spent_of closed_slot slot_ok credit_bytes okay_bytes close_bytes flat rows all_is slot_numbers slot_counts tag_of slot_bytes slot_of is_tag is_slot queued_bytes header_sizes header_words header_tags header_bytes-state header_of layout state_of is_state put_slot put_header filled_ok slot_fine slots_fine queue_fine pending_fine offer_fine opens_fine header_fine filled_at whole is_whole first wanted_by place_of next_local_id allocated slot_in named_place remote_place closed_at close_of share_of buffered_in wrote_by wrote_at write_of route_of dispatch_of frame_bytes frames_bytes acted_by table_of act_on answer_number ack_length refusal_word answer_values written_by ends checked checked_out is_there slot_for ack_frames unless_fault received_by received_of is_write is_ready fresh make_of dispatch_by dispatch_step settled_as settle_step front_of taken_by take_step reread read_settled read_acted is_direct read_direct read_by read_taken read_first read_step send_len send_some send_by send_again write_readied write_acted write_act write_by write_first write_on write_step close_step open_on still_pending open_readied open_acted open_by open_step open_outcome dispatch_outcome settle_outcome take_outcome read_outcome write_outcome close_outcome bytes_in out_of buf_of outcome after after_all made held_of said_by count_of sent_by sent_in seen_in events_of book_slot new_aside credit_in acks_of last_open frame_b damaged_b packet_b read_used_b read_b write_b entry_on opened_b acks_b book_after each_place entry ledger_of run_of opens_in given_by given_in is_the is_open
 computing = 0
 
 -- handed over and buffered is accepted, and set aside is the slot's number; in delayed mode, where the channel is not closed,
@@ -311,3 +315,36 @@ delayed-few = two-few _ (ap (λ (g : Gives). g.given) delayed-run)
 
 pub plain-few : given_in (events_of (begins plain) (calls_in plain_steps)) < 2 ^ 32
 plain-few = two-few _ (ap (λ (g : Gives). g.given) plain-run)
+
+-- ---- spending: a channel with a budget of 5, a maximum of 4 and 12 bytes to write
+
+-- the numbers that the writes of what is left answer, the lengths that they send, and the budget after each
+pub record Spent : Type 0 where
+  pub numbers : List ℕ
+  pub lengths : List ℕ
+  pub budgets : List ℤ
+
+-- a call before the others
+abbrev spent_before : Outcome → ℤ → Spent → Spent
+spent_before o budget rest =
+    record { numbers = answer_number o.answer ∷ rest.numbers; lengths = get_or (answer_values o.answer) 0 0 ∷ rest.lengths; budgets = budget ∷ rest.budgets }
+
+abbrev spent_in : World → List Call → Spent
+spent_in w [] = record { numbers = []; lengths = []; budgets = [] }
+spent_in w (c ∷ cs) = spent_before (outcome w c) (place_slot (after w c) 0).send_budget (spent_in (after w c) cs)
+
+-- the channel is opened, then each write has as many bytes as are left
+abbrev spends : Spending → List ℕ → Spent
+spends spending left =
+    spent_in (after_all (begins delayed) (opens (97 ∷ []) [] ∷ opens [] (OKAY 7 1 (credit 5)) ∷ []))
+    (map (λ (k : ℕ). write_call spending (some 56) (channel 0 1) (from 1 k) []) left)
+
+-- no further than the budget: 4, then 1, then it waits
+pub within-run : spends Within (12 ∷ 8 ∷ 7 ∷ []) ≡ record { numbers = 0 ∷ 0 ∷ 100 ∷ []; lengths = 4 ∷ 1 ∷ 0 ∷ []; budgets = pos 1 ∷ pos 0 ∷ pos 0 ∷ [] }
+unfolding computing
+within-run = refl
+
+-- past it: 4, then 4, which leaves 3 below 0, then it waits
+pub beyond-run : spends Beyond (12 ∷ 8 ∷ 4 ∷ []) ≡ record { numbers = 0 ∷ 0 ∷ 100 ∷ []; lengths = 4 ∷ 4 ∷ 0 ∷ []; budgets = pos 1 ∷ negsuc 2 ∷ negsuc 2 ∷ [] }
+unfolding computing
+beyond-run = refl

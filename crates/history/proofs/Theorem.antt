@@ -24,9 +24,9 @@ use Rattle.state_whole.specs.Whole.{is_whole}
 use Rattle.table.specs.Table.{slot_in}
 use Rattle.connection.specs.declared.Refusal.TheVariants.{StoreShort, OutShort, BrokenState}
 use Rattle.connection.specs.Answer.{answer_number}
-use Rattle.connection.specs.Calls.{numbers_for, numbers_outcome, Lent, Outcome, checked, checked_out, fresh, open_outcome, dispatch_outcome, settle_outcome, take_outcome, read_outcome, write_outcome, close_outcome, take_front_outcome, accept_outcome, reject_outcome, let_go_outcome}
+use Rattle.connection.specs.Calls.{numbers_for, numbers_outcome, Lent, Outcome, checked, checked_out, fresh, open_outcome, dispatch_outcome, settle_outcome, take_outcome, read_outcome, write_outcome, close_outcome, take_front_outcome, accept_outcome, reject_outcome, let_go_outcome, verdict_outcome}
 use Rattle.connection.proofs.Slots.{slots-by}
-use Rattle.history.specs.Run.{look_outcome, Call, open_call, dispatch_call, settle_call, take_call, read_call, write_call, close_call, front_taken, look_call, numbers_look, accept_call, reject_call, let_go_call, received_in, bytes_in, World, lent, outcome, after, after_all, Start, begins, agreed_in, policy_in}
+use Rattle.history.specs.Run.{look_outcome, Call, open_call, dispatch_call, settle_call, take_call, read_call, write_call, close_call, front_taken, look_call, numbers_look, accept_call, reject_call, let_go_call, verdict_call, received_in, bytes_in, World, lent, outcome, after, after_all, Start, begins, agreed_in, policy_in}
 use Rattle.history.specs.Seen.{held_of, Seen, Event, seen_of, events_of}
 use Rattle.history.specs.Book.{Book, no_book, header_at, is_wrte, book_after, each_place, Ledger, clean, book_at, entry, ledger_of}
 use Rattle.history.specs.NoLeak.{NoTake, ReadOnly, NoLeak}
@@ -34,9 +34,9 @@ use Rattle.history.specs.Demand3.{place_slot, run_of, Distinct, Apart, Claim, Pl
 use Rattle.history.proofs.Good.{Terms, Good, Limits}
 use Rattle.history.proofs.Heads.{call-asked}
 use Rattle.history.proofs.Heard.{seen-eight}
-use Rattle.history.proofs.Joins.{Vacant, vacant-fresh, KeptAt, Follows, early-follows, dispatch-follows, settle-follows, take-follows, read-follows, write-follows, close_follows, front-follows, look-follows, open-follows, accept-follows, reject-follows, let-go-follows}
+use Rattle.history.proofs.Joins.{Vacant, vacant-fresh, KeptAt, Follows, early-follows, dispatch-follows, settle-follows, take-follows, read-follows, write-follows, close_follows, front-follows, look-follows, open-follows, accept-follows, reject-follows, let-go-follows, verdict-follows}
 use Rattle.history.proofs.Never13.{Holds, state-after, holds_after, made-state, starts, in-replicate, always-8}
-use Rattle.history.proofs.Overs.{Notes, dispatch-notes, settle-never, take-never, read-notes, write-notes, close_never, front-never, numbers-never, open-notes, accept-never, reject-never, let-go-never}
+use Rattle.history.proofs.Overs.{Notes, dispatch-notes, settle-never, take-never, read-notes, write-notes, close_never, front-never, numbers-never, open-notes, accept-never, reject-never, verdict-never, let-go-never}
 use Rattle.history.proofs.Packets.{Marked, reads-write, reads-arg1}
 use Rattle.history.proofs.Places.{TableOk}
 use Rattle.history.proofs.Steps.{saw_of}
@@ -75,16 +75,16 @@ book-size p c o y = each-length (book_after p y.books y.asked c o) 0 y.books
 -- ---- what is kept between calls
 
 -- reads: the places that are read by reads alone
-abbrev terms : Bool → Negotiated → Terms
+abbrev pub terms : Bool → Negotiated → Terms
 terms reads n = record { credit = offered_credit n; reads = reads }
 
-record Kept (reads : ℕ → Bool) (n : Negotiated) (w : World) (y : Ledger) : Type 0 where
-  size : length y.books ≡ 64
-  asks : is_ours (state_of w.state).header.pending.what ≡ true → y.asked ≡ offered_credit n
-  each : (i : ℕ) → KeptAt (policy_of n) (terms (reads i) n) i (state_of w.state).slots w.rx (book_at y i)
+pub record Kept (reads : ℕ → Bool) (n : Negotiated) (w : World) (y : Ledger) : Type 0 where
+  pub size : length y.books ≡ 64
+  pub asks : is_ours (state_of w.state).header.pending.what ≡ true → y.asked ≡ offered_credit n
+  pub each : (i : ℕ) → KeptAt (policy_of n) (terms (reads i) n) i (state_of w.state).slots w.rx (book_at y i)
 
 -- the books tell what the slots are
-marked : (reads : ℕ → Bool) (n : Negotiated) (w : World) (y : Ledger) → length (state_of w.state).slots ≡ 64 → Kept reads n w y → Marked y.books (state_of w.state).slots
+pub marked : (reads : ℕ → Bool) (n : Negotiated) (w : World) (y : Ledger) → length (state_of w.state).slots ≡ 64 → Kept reads n w y → Marked y.books (state_of w.state).slots
 marked reads n w y z k =
     record {
       size = k.size ∙ sym z;
@@ -173,7 +173,7 @@ module _ (reads : ℕ → Bool) (w : World) (r : List ℕ) (rx store : ℕ) wher
             (λ b. early-follows (terms (reads i) m) l table (limits (reads i)) empty placed y.books mark y.asked (λ t d. k.asks t) i (book_at y i) (k.each i) x OutShort refl) (λ b. f))
 
         call-follows : (x : Call) → (reads i ≡ true → NoTake i x) → follows x (outcome w x)
-        unfolding outcome open_outcome dispatch_outcome settle_outcome take_outcome read_outcome write_outcome close_outcome take_front_outcome look_outcome numbers_outcome accept_outcome reject_outcome let_go_outcome
+        unfolding outcome open_outcome dispatch_outcome settle_outcome take_outcome read_outcome write_outcome close_outcome take_front_outcome look_outcome numbers_outcome accept_outcome reject_outcome let_go_outcome verdict_outcome
         call-follows (open_call out destination received) only =
             follows-out (open_call out destination received) (is_whole w.state) (length out) _
             (open-follows (terms (reads i) m) l table (limits (reads i)) empty placed y.books mark y.asked (λ t d. k.asks t) i (book_at y i) (k.each i) out destination received)
@@ -189,9 +189,9 @@ module _ (reads : ℕ → Bool) (w : World) (r : List ℕ) (rx store : ℕ) wher
         call-follows (read_call out ch buf received) only =
             follows-out (read_call out ch buf received) (is_whole w.state) (length out) _
             (read-follows (terms (reads i) m) l table (limits (reads i)) empty placed y.books mark y.asked (λ t d. k.asks t) i (book_at y i) (k.each i) out ch buf received)
-        call-follows (write_call out ch bytes received) only =
-            follows-out (write_call out ch bytes received) (is_whole w.state) (length out) _
-            (write-follows (terms (reads i) m) l table (limits (reads i)) empty placed y.books mark y.asked (λ t d. k.asks t) i (book_at y i) (k.each i) out ch bytes received)
+        call-follows (write_call spending out ch bytes received) only =
+            follows-out (write_call spending out ch bytes received) (is_whole w.state) (length out) _
+            (write-follows (terms (reads i) m) l table (limits (reads i)) empty placed y.books mark y.asked (λ t d. k.asks t) i (book_at y i) (k.each i) spending out ch bytes received)
         call-follows (close_call out ch) only =
             follows-out (close_call out ch) (is_whole w.state) (length out) _
             (close_follows (terms (reads i) m) l table (limits (reads i)) empty placed y.books mark y.asked (λ t d. k.asks t) i (book_at y i) (k.each i) out ch)
@@ -210,6 +210,9 @@ module _ (reads : ℕ → Bool) (w : World) (r : List ℕ) (rx store : ℕ) wher
         call-follows let_go_call only =
             follows-checked let_go_call (is_whole w.state) _
             (let-go-follows (terms (reads i) m) l table (limits (reads i)) empty placed y.books mark y.asked (λ t d. k.asks t) i (book_at y i) (k.each i))
+        call-follows (verdict_call out take remote credit) only =
+            follows-out (verdict_call out take remote credit) (is_whole w.state) (length out) _
+            (verdict-follows (terms (reads i) m) l table (limits (reads i)) empty placed y.books mark y.asked (λ t d. k.asks t) i (book_at y i) (k.each i) refl small-credit out take remote credit _ _)
 
       -- what is seen of a call
       abbrev event : Call → Event
@@ -279,19 +282,20 @@ module _ (reads : ℕ → Bool) (w : World) (r : List ℕ) (rx store : ℕ) wher
           notes-checked received t _ (pick (λ (x : Outcome). answer_number x.answer ≡ 11 → Notes l table received x) (ltb out 56) (λ b e. absurd (omega arith)) (λ b. f))
 
       call-notes : (x : Call) → answer_number (outcome w x).answer ≡ 11 → Notes l table (received_in x) (outcome w x)
-      unfolding outcome received_in open_outcome dispatch_outcome settle_outcome take_outcome read_outcome write_outcome close_outcome take_front_outcome look_outcome numbers_outcome accept_outcome reject_outcome let_go_outcome
+      unfolding outcome received_in open_outcome dispatch_outcome settle_outcome take_outcome read_outcome write_outcome close_outcome take_front_outcome look_outcome numbers_outcome accept_outcome reject_outcome let_go_outcome verdict_outcome
       call-notes (open_call out destination received) = notes-out (bytes_in received) (is_whole w.state) (length out) _ (open-notes l table (bytes_in received) (length out) (bytes_in destination))
       call-notes (dispatch_call out received) = notes-out (bytes_in received) (is_whole w.state) (length out) _ (dispatch-notes l table (bytes_in received))
       call-notes (settle_call out ch want) = notes-out [] (is_whole w.state) (length out) _ (λ e. absurd (settle-never l table ch want e))
       call-notes (take_call ch buf) = notes-checked [] (is_whole w.state) _ (λ e. absurd (take-never l table ch (length buf) e))
       call-notes (read_call out ch buf received) = notes-out (bytes_in received) (is_whole w.state) (length out) _ (read-notes l table (bytes_in received) ch (length buf))
-      call-notes (write_call out ch bytes received) = notes-out (bytes_in received) (is_whole w.state) (length out) _ (write-notes l table (bytes_in received) ch (length out) (bytes_in bytes))
+      call-notes (write_call spending out ch bytes received) = notes-out (bytes_in received) (is_whole w.state) (length out) _ (write-notes l table (bytes_in received) spending ch (length out) (bytes_in bytes))
       call-notes (close_call out ch) = notes-out [] (is_whole w.state) (length out) _ (λ e. absurd (close_never l table ch e))
       call-notes front_taken = notes-checked [] (is_whole w.state) _ (λ e. absurd (front-never l table e))
       call-notes (look_call (numbers_look ch)) = notes-checked [] (is_whole w.state) _ (λ e. absurd (numbers-never l table ch e))
       call-notes (accept_call out) = notes-out [] (is_whole w.state) (length out) _ (λ e. absurd (accept-never l table e))
       call-notes (reject_call out) = notes-out [] (is_whole w.state) (length out) _ (λ e. absurd (reject-never l table e))
       call-notes let_go_call = notes-checked [] (is_whole w.state) _ (λ e. absurd (let-go-never l table e))
+      call-notes (verdict_call out take remote credit) = notes-out [] (is_whole w.state) (length out) _ (λ e. absurd (verdict-never l table take _ _ e))
 
       -- an 11 is in the book of a channel that is there
       noted : (x : Call) → ((i : ℕ) → reads i ≡ true → NoTake i x) → answer_number (outcome w x).answer ≡ 11 → Noted (policy_of m) y (entry (policy_of m) x (now x) y) (event x)
@@ -355,9 +359,9 @@ step reads n w r rx store h long far y k x only =
 
 -- ---- a list of calls
 
-record Ran (reads : ℕ → Bool) (n : Negotiated) (w : World) (y : Ledger) (es : List Event) : Type 0 where
-  kept : Kept reads n w (ledger_of (policy_of n) y es)
-  told : AllTold (policy_of n) y es
+pub record Ran (reads : ℕ → Bool) (n : Negotiated) (w : World) (y : Ledger) (es : List Event) : Type 0 where
+  pub kept : Kept reads n w (ledger_of (policy_of n) y es)
+  pub told : AllTold (policy_of n) y es
 
 module _ (reads : ℕ → Bool) (n : Negotiated) (r : List ℕ) (rx store : ℕ) (long : n.config.channels * (2 * cap_of n.config) ≤ rx) where
   runs : (w : World) (y : Ledger) → Holds n r rx store w → Distinct w → Kept reads n w y → (cs : List Call) → Apart w cs → ((i : ℕ) → reads i ≡ true → ReadOnly i cs) → Ran reads n (after_all w cs) y (events_of w cs)
@@ -399,7 +403,7 @@ pub fresh_start : (s : Start) → state_of (begins s).state ≡ fresh (agreed_in
 fresh_start s = made-state s.config s.version s.most s.host s.device s.state s.rx s.store s.within
 
 -- a list of calls from a start, with stores that fit
-ran : (reads : ℕ → Bool) (s : Start) → stores_fit s.config (length s.rx) (length s.store) ≡ true → (cs : List Call) → Apart (begins s) cs → ((i : ℕ) → reads i ≡ true → ReadOnly i cs)
+pub ran : (reads : ℕ → Bool) (s : Start) → stores_fit s.config (length s.rx) (length s.store) ≡ true → (cs : List Call) → Apart (begins s) cs → ((i : ℕ) → reads i ≡ true → ReadOnly i cs)
     → Ran reads (agreed_in s) (after_all (begins s) cs) clean (events_of (begins s) cs)
 ran reads s t cs apart only =
     let n = agreed_in s in

@@ -33,7 +33,7 @@ use Rattle.connection.specs.Answer.{answer_number}
 use Rattle.connection.specs.Calls.{Outcome, written_by}
 use Rattle.connection.specs.Frames.{Frame, okay_frame, close_frame, open_frame, write_frame, frame_bytes, frames_bytes, Sent}
 use Rattle.connection.proofs.Sending.{sent_of, FrameFits}
-use Rattle.history.specs.Run.{Call, open_call, dispatch_call, settle_call, take_call, read_call, write_call, close_call, front_taken, look_call, accept_call, reject_call, let_go_call, bytes_in, out_of, buf_of, received_in}
+use Rattle.history.specs.Run.{Call, open_call, dispatch_call, settle_call, take_call, read_call, write_call, close_call, front_taken, look_call, accept_call, reject_call, let_go_call, verdict_call, bytes_in, out_of, buf_of, received_in}
 use Rattle.history.specs.Seen.{Held, held_by, said_by, count_of, Seen, Event, seen_of}
 use Rattle.history.specs.Book.{Book, gone_book, credit_in, handed_b, acked_b, acks_of, last_open, header_at, payload_at, is_wrte, is_clse, own_end, frame_b, packet_b, settle_b, read_used_b, read_b, write_b, is_on, ends_open, ends_other, entry_on, opened_b, acking, acks_b, book_after, each_place, Ledger, entry}
 use Rattle.history.specs.Demand3.{size_of, Reads, AllRead, Noted, Told}
@@ -65,13 +65,14 @@ on-eight p d i (dispatch_call out received) b = refl
 on-eight p d i (settle_call out ch want) b = ap (λ (t : Bool). cond t (settle_b p want b) b) (and-false (is_on i b ch))
 on-eight p d i (take_call ch buf) b = both-same (is_on i b ch) (handed_b [] b) b (handed-same b)
 on-eight p d i (read_call out ch buf received) b = both-same (is_on i b ch) b b refl
-on-eight p d i (write_call out ch bytes received) b = both-same (is_on i b ch) b b refl
+on-eight p d i (write_call spending out ch bytes received) b = both-same (is_on i b ch) b b refl
 on-eight p d i (close_call out ch) b = ap (λ (t : Bool). cond t (gone_book b) b) (and-false (is_on i b ch))
 on-eight p d i front_taken b = refl
 on-eight p d i (look_call x) b = refl
 on-eight p d i (accept_call out) b = refl
 on-eight p d i (reject_call out) b = refl
 on-eight p d i let_go_call b = refl
+on-eight p d i (verdict_call out take remote credit) b = refl
 
 opened-eight : (i asked : ℕ) (c : Call) (b : Book) → opened_b i asked c nothing8 b ≡ b
 unfolding opened_b
@@ -80,13 +81,14 @@ opened-eight i asked (dispatch_call out received) b = refl
 opened-eight i asked (settle_call out ch want) b = refl
 opened-eight i asked (take_call ch buf) b = refl
 opened-eight i asked (read_call out ch buf received) b = refl
-opened-eight i asked (write_call out ch bytes received) b = refl
+opened-eight i asked (write_call spending out ch bytes received) b = refl
 opened-eight i asked (close_call out ch) b = refl
 opened-eight i asked front_taken b = refl
 opened-eight i asked (look_call x) b = refl
 opened-eight i asked (accept_call out) b = refl
 opened-eight i asked (reject_call out) b = refl
 opened-eight i asked let_go_call b = refl
+opened-eight i asked (verdict_call out take remote credit) b = both-same take b b refl
 
 acking-eight : (c : Call) → acking c [] ≡ []
 acking-eight (open_call out destination received) = refl
@@ -94,13 +96,14 @@ acking-eight (dispatch_call out received) = refl
 acking-eight (settle_call out ch want) = refl
 acking-eight (take_call ch buf) = refl
 acking-eight (read_call out ch buf received) = refl
-acking-eight (write_call out ch bytes received) = refl
+acking-eight (write_call spending out ch bytes received) = refl
 acking-eight (close_call out ch) = refl
 acking-eight front_taken = refl
 acking-eight (look_call x) = refl
 acking-eight (accept_call out) = refl
 acking-eight (reject_call out) = refl
 acking-eight let_go_call = refl
+acking-eight (verdict_call out take remote credit) = both-same take [] [] refl
 
 after-eight : (p : RxPolicy) (d : List Book) (asked : ℕ) (c : Call) (i : ℕ) (b : Book) → book_after p d asked c nothing8 i b ≡ b
 unfolding book_after acks_b acks_of
@@ -266,7 +269,7 @@ module _ (p : RxPolicy) (d : List Book) (i asked : ℕ) (values : List ℕ) (use
   entry-over (take_call ch buf) w e = absurd (none-write w)
   entry-over (read_call out ch buf received) w e =
       pick Has (is_on i b ch) (λ t. read-over (bytes_in received) w e (length buf)) (λ t. packet-over (bytes_in received) w e (ends_other d ch) (not_own (bytes_in received) w e _ _))
-  entry-over (write_call out ch bytes received) w e =
+  entry-over (write_call spending out ch bytes received) w e =
       pick Has (is_on i b ch) (λ t. write-over (bytes_in received) w e) (λ t. packet-over (bytes_in received) w e (ends_other d ch) (not_own (bytes_in received) w e _ _))
   entry-over (close_call out ch) w e = absurd (none-write w)
   entry-over front_taken w e = absurd (none-write w)
@@ -274,6 +277,7 @@ module _ (p : RxPolicy) (d : List Book) (i asked : ℕ) (values : List ℕ) (use
   entry-over (accept_call out) w e = absurd (none-write w)
   entry-over (reject_call out) w e = absurd (none-write w)
   entry-over let_go_call w e = absurd (none-write w)
+  entry-over (verdict_call out take remote credit) w e = absurd (none-write w)
 
   -- 11 fills no slot
   opened-over : (c : Call) (x : Book) → opened_b i asked c o x ≡ x
@@ -283,13 +287,14 @@ module _ (p : RxPolicy) (d : List Book) (i asked : ℕ) (values : List ℕ) (use
   opened-over (settle_call out ch want) x = refl
   opened-over (take_call ch buf) x = refl
   opened-over (read_call out ch buf received) x = refl
-  opened-over (write_call out ch bytes received) x = refl
+  opened-over (write_call spending out ch bytes received) x = refl
   opened-over (close_call out ch) x = refl
   opened-over front_taken x = refl
   opened-over (look_call y) x = refl
   opened-over (accept_call out) x = refl
   opened-over (reject_call out) x = refl
   opened-over let_go_call x = refl
+  opened-over (verdict_call out take remote credit) x = both-same take x x refl
 
   pub book-over : (c : Call) → is_wrte (header_at (received_in c)) ≡ true → (header_at (received_in c)).arg1 ≡ b.local
       → ((book_after p d asked c o i b).there ≡ true) × ((book_after p d asked c o i b).over ≡ true)

@@ -26,9 +26,10 @@ use Rattle.protocol.proofs.PacketLaws.{frame-length}
 use Rattle.protocol.proofs.RoundTrip.{Says}
 use Rattle.protocol.specs.Command.{is_ready, is_close, is_write}
 use Rattle.slot.specs.declared.ChannelSlot.{ChannelSlot}
+use Rattle.slot.specs.declared.Spending.{Spending}
 use Rattle.slot.specs.declared.ChannelError.{ChannelError}
 use Rattle.slot.specs.Ids.{closed_by}
-use Rattle.slot.specs.Slot.{empty_slot, is_opening, is_failed, slot_ok, is_closed, ready_of, delivered_of, settled_of, taken_of, budget_of, has_data, take_len, took_of, error_of, SlotOk}
+use Rattle.slot.specs.Slot.{empty_slot, is_opening, is_failed, slot_ok, is_closed, ready_of, delivered_of, settled_of, taken_of, leave_of, has_data, take_len, took_of, error_of, SlotOk}
 use Rattle.slot.proofs.Kept.{pick, sound, settled-sound}
 use Rattle.slot.proofs.Laws.{cond-true, cond-false, take-held}
 use Rattle.state.specs.declared.Header.{Header}
@@ -49,9 +50,9 @@ use Rattle.connection.specs.declared.Answer.TheVariants.{Waiting, Nothing, Read,
 use Rattle.connection.specs.declared.Refusal.TheVariants.{ChannelClosed}
 use Rattle.connection.specs.Answer.{answer_number, answer_values}
 use Rattle.connection.specs.Act.{Acted, act_on}
-use Rattle.connection.specs.Calls.{looked, numbers_for, numbers_outcome, Lent, Outcome, Work, begun, then, then_acted, storing, ends, checked, checked_out, dropped, pending_for, policy, ids_in, is_there, slot_for, ack_frames, received_of, error_refusal, fault_refusal, unless_fault, body_of, frame_len, dispatch_by, dispatch_step, settled_as, settle_step, taken_by, take_step, reread, read_settled, read_acted, is_direct, read_direct, read_by, read_taken, read_first, read_step, send_len, send_some, send_by, send_again, write_readied, write_acted, write_act, write_by, write_first, write_on, write_step, close_step, take_front_by, take_front_step, open_on, still_pending, open_readied, open_acted, open_by, open_step, open_outcome, dispatch_outcome, settle_outcome, take_outcome, read_outcome, write_outcome, close_outcome, take_front_outcome, accept_outcome, reject_outcome, let_go_outcome, offer_in, is_offered, reject_on, accept_on, accept_step, reject_step, let_go_step}
+use Rattle.connection.specs.Calls.{looked, numbers_for, numbers_outcome, Lent, Outcome, Work, begun, then, then_acted, storing, ends, checked, checked_out, dropped, pending_for, policy, ids_in, is_there, slot_for, ack_frames, received_of, error_refusal, fault_refusal, unless_fault, body_of, frame_len, dispatch_by, dispatch_step, settled_as, settle_step, taken_by, take_step, reread, read_settled, read_acted, is_direct, read_direct, read_by, read_taken, read_first, read_step, send_len, send_some, send_by, send_again, write_readied, write_acted, write_act, write_by, write_first, write_on, write_step, close_step, take_front_by, take_front_step, open_on, still_pending, open_readied, open_acted, open_by, open_step, open_outcome, dispatch_outcome, settle_outcome, take_outcome, read_outcome, write_outcome, close_outcome, take_front_outcome, accept_outcome, reject_outcome, let_go_outcome, verdict_outcome, offer_in, is_offered, reject_on, accept_on, accept_step, reject_step, let_go_step, verdict_step}
 use Rattle.connection.specs.Frames.{Frame, close_frame, open_frame, write_frame, frame_bytes, frames_bytes, okay_frame}
-use Rattle.history.specs.Run.{look_outcome, bytes_in, Call, open_call, dispatch_call, settle_call, take_call, read_call, write_call, close_call, front_taken, look_call, numbers_look, accept_call, reject_call, let_go_call, out_of, buf_of, World, lent, outcome}
+use Rattle.history.specs.Run.{look_outcome, bytes_in, Call, open_call, dispatch_call, settle_call, take_call, read_call, write_call, close_call, front_taken, look_call, numbers_look, accept_call, reject_call, let_go_call, verdict_call, out_of, buf_of, World, lent, outcome}
 use Rattle.history.specs.Seen.{count_of, held_of, Seen, seen_of}
 use Rattle.history.specs.Book.{acks_of, last_open}
 use Rattle.history.proofs.Acts.{acks_in}
@@ -60,7 +61,7 @@ use Rattle.history.proofs.Never13.{Holds, holds_kept}
 use Rattle.history.proofs.Opens.{refused-some}
 use Rattle.history.proofs.Packets.{Got, stopped, packet, got, reads-arg0, reads-arg1, body-length}
 use Rattle.connection.proofs.Slots.{slots-by, slot-set-same, slot-set-other}
-use Rattle.history.proofs.Bytes.{bytes-in}
+use Rattle.history.proofs.Bytes.{bytes-in, word-in}
 use Rattle.connection.proofs.Sending.{IdsFit, Few, bytes-append, bytes_one, few-none, few-join, few-close, few-ack, Rests, quiet, same, clear, Own, ReadiedIds, ready-ids, some, Acts, acts, settled-ids, settled-small, silent-clear, silent-again, Taking, took, nothing, shut, taking, no-data, delivered-ids, delivered-small, FrameFits, few-okay}
 use Rattle.slot.specs.declared.ids.RemoteId.{RemoteId}
 use Rattle.state.specs.declared.QueuedOpen.{QueuedOpen}
@@ -406,6 +407,11 @@ module _ (l : Lent) (able : Able l) (out room : ℕ) where
         (λ t. accept-on (offer_in l).remote (offer_in l).credit able.offered (allocated l.state.header l.state.slots) (allotted l.state.header l.state.slots able.next))
         (λ t. idle h₀ _ 0)
 
+    pub verdict-writes : (take : Bool) (remote : RemoteId) (credit : ℕ) → remote.0 < 2 ^ 32 → W (verdict_step l take remote credit)
+    unfolding verdict_step
+    verdict-writes take remote credit f =
+        pick W take (λ t. accept-on remote credit f (allocated l.state.header l.state.slots) (allotted l.state.header l.state.slots able.next)) (λ t. reject-on h₀ remote Done f)
+
     -- a packet that is dispatched, whatever it leaves
     acted-few : (h : Header) → h.negotiated ≡ n → (k : Packet) (payload : List ℕ) → Args k
         → Acts ⊥ h l.state.slots 0 (act_on h l.state.slots l.state.queue l.rx l.store k payload)
@@ -521,30 +527,30 @@ module _ (l : Lent) (able : Able l) (out room : ℕ) where
       send-by ch given used w s (Some most) f e i = send-some ch given used w s most f e i
       send-by ch given used w s None f e i = quit (then w _ []) _ used (few-join n 1 0 2 _ [] (omega arith) f (few-none n 0))
 
-      send-again : (ch : ChannelId) (given : List ℕ) (used : ℕ) (w : Work) (s : ChannelSlot) → Few n 1 w.frames → w.header.negotiated ≡ n → IdsFit (ids_in s)
-          → W (send_again l ch out given used w s)
+      send-again : (spending : Spending) (ch : ChannelId) (given : List ℕ) (used : ℕ) (w : Work) (s : ChannelSlot) → Few n 1 w.frames → w.header.negotiated ≡ n → IdsFit (ids_in s)
+          → W (send_again spending l ch out given used w s)
       unfolding send_again
-      send-again ch given used w s f e i =
+      send-again spending ch given used w s f e i =
           pick W (is_closed s.state) (λ t. quit (then w _ []) _ used (few-join n 1 0 2 _ [] (omega arith) f (few-none n 0)))
-          (λ t. send-by ch given used w s (budget_of s (policy l)) f e i)
+          (λ t. send-by ch given used w s (leave_of spending s (policy l)) f e i)
 
-      write-readied : (ch : ChannelId) (given : List ℕ) (used : ℕ) (s : ChannelSlot) (r : Result ChannelSlot CreditFault) → ReadiedIds r → W (write_readied l ch out given used (begun h₀ l) s r)
+      write-readied : (spending : Spending) (ch : ChannelId) (given : List ℕ) (used : ℕ) (s : ChannelSlot) (r : Result ChannelSlot CreditFault) → ReadiedIds r → W (write_readied spending l ch out given used (begun h₀ l) s r)
       unfolding write_readied
-      write-readied ch given used s (Ok t) i = send-again ch given used (begun h₀ l) t (few-none n 1) refl i
-      write-readied ch given used s (Err b) i = idle h₀ _ used
+      write-readied spending ch given used s (Ok t) i = send-again spending ch given used (begun h₀ l) t (few-none n 1) refl i
+      write-readied spending ch given used s (Err b) i = idle h₀ _ used
 
-      write-acted : (ch : ChannelId) (given : List ℕ) (used : ℕ) (a : Acted) (f : Option ChannelFault) → ch.slot < 64 → Acts ⊥ h₀ l.state.slots ch.slot a
-          → W (write_acted l ch out given used (begun h₀ l) a f)
+      write-acted : (spending : Spending) (ch : ChannelId) (given : List ℕ) (used : ℕ) (a : Acted) (f : Option ChannelFault) → ch.slot < 64 → Acts ⊥ h₀ l.state.slots ch.slot a
+          → W (write_acted spending l ch out given used (begun h₀ l) a f)
       unfolding write_acted
-      write-acted ch given used a (Some f) b x = quit (then_acted (begun h₀ l) a) _ used (few-up n 1 2 _ (omega arith) x.writes)
-      write-acted ch given used a None b x =
-          send-again ch given used (then_acted (begun h₀ l) a) _ x.writes x.agreed
+      write-acted spending ch given used a (Some f) b x = quit (then_acted (begun h₀ l) a) _ used (few-up n 1 2 _ (omega arith) x.writes)
+      write-acted spending ch given used a None b x =
+          send-again spending ch given used (then_acted (begun h₀ l) a) _ x.writes x.agreed
           (subst (λ (ss : List ChannelSlot). IdsFit (ids_in (slot_in ss ch.slot))) (sym (slots-by l.state a.changes)) x.own.ids)
 
-      write-by : (ch : ChannelId) → There ch → (given : List ℕ) (r : Result Packet (Answer × ℕ)) → Got received limit r → W (write_by l ch out given (begun h₀ l) (slot_for l ch) received r)
+      write-by : (spending : Spending) (ch : ChannelId) → There ch → (given : List ℕ) (r : Result Packet (Answer × ℕ)) → Got received limit r → W (write_by spending l ch out given (begun h₀ l) (slot_for l ch) received r)
       unfolding write_by write_act
-      write-by ch c given r (stopped a used s) = idle h₀ a used
-      write-by ch c given r (packet k s) =
+      write-by spending ch c given r (stopped a used s) = idle h₀ a used
+      write-by spending ch c given r (packet k s) =
           let g = args received limit k bytes s in
           let z = able.size in
           let b = c.below in
@@ -552,22 +558,22 @@ module _ (l : Lent) (able : Able l) (out room : ℕ) where
           let a = act_on h₀ l.state.slots l.state.queue l.rx l.store k (body_of received k) in
           let x = acts ⊥ h₀ l.state.slots l.state.queue l.rx l.store k (body_of received k) ch.slot able.ids (omega arith) (λ q. absurd q) g.arg0 g.arg1 in
           pick W (is_ready k.command && eqb k.arg1 t.local.0)
-          (λ u. write-readied ch given (frame_len k) t (ready_of t (body_of received k) (policy l)) (ready-ids t (body_of received k) (policy l) c.ids))
+          (λ u. write-readied spending ch given (frame_len k) t (ready_of t (body_of received k) (policy l)) (ready-ids t (body_of received k) (policy l) c.ids))
           (λ u. pick W (closed_by (ids_in t) k) (λ v. quit (then (begun h₀ l) _ []) _ (frame_len k) (few-none n 2))
-          (λ v. write-acted ch given (frame_len k) a a.fault b x))
+          (λ v. write-acted spending ch given (frame_len k) a a.fault b x))
 
-      write-first : (ch : ChannelId) → There ch → (given : List ℕ) (r : Option ℕ) → W (write_first l ch out given received (begun h₀ l) (slot_for l ch) r)
+      write-first : (spending : Spending) (ch : ChannelId) → There ch → (given : List ℕ) (r : Option ℕ) → W (write_first spending l ch out given received (begun h₀ l) (slot_for l ch) r)
       unfolding write_first
-      write-first ch c given (Some most) = send-some ch given 0 (begun h₀ l) (slot_for l ch) most (few-none n 1) refl c.ids
-      write-first ch c given None =
-          pick W (slot_for l ch).has_remote (λ t. write-by ch c given (received_of l received) (got l received)) (λ t. idle h₀ _ 0)
+      write-first spending ch c given (Some most) = send-some ch given 0 (begun h₀ l) (slot_for l ch) most (few-none n 1) refl c.ids
+      write-first spending ch c given None =
+          pick W (slot_for l ch).has_remote (λ t. write-by spending ch c given (received_of l received) (got l received)) (λ t. idle h₀ _ 0)
 
-      pub write-writes : (ch : ChannelId) (given : List ℕ) → W (write_step l ch out given received)
+      pub write-writes : (spending : Spending) (ch : ChannelId) (given : List ℕ) → W (write_step spending l ch out given received)
       unfolding write_step write_on
-      write-writes ch given =
+      write-writes spending ch given =
           pick W (eqb (length given) 0) (λ t. idle h₀ _ 0)
           (λ t. pick W (is_there l ch)
-          (λ u. pick W (is_closed (slot_for l ch).state) (λ v. idle h₀ _ 0) (λ v. write-first ch (there ch u) given (budget_of (slot_for l ch) (policy l))))
+          (λ u. pick W (is_closed (slot_for l ch).state) (λ v. idle h₀ _ 0) (λ v. write-first spending ch (there ch u) given (leave_of spending (slot_for l ch) (policy l))))
           (λ u. idle h₀ _ 0))
 
       -- ---- reading
@@ -737,7 +743,7 @@ module _ (l : Lent) (able : Able l) (out room : ℕ) where
 -- every call on a state that is able, where it is whole
 pub call-writes : (w : World) → (is_whole w.state ≡ true → Able (lent w)) → (c : Call)
     → Writes (lent w).state.header.negotiated (length (out_of c)) (length (buf_of c)) (outcome w c)
-unfolding outcome out_of buf_of open_outcome dispatch_outcome settle_outcome take_outcome read_outcome write_outcome close_outcome take_front_outcome look_outcome numbers_outcome accept_outcome reject_outcome let_go_outcome
+unfolding outcome out_of buf_of open_outcome dispatch_outcome settle_outcome take_outcome read_outcome write_outcome close_outcome take_front_outcome look_outcome numbers_outcome accept_outcome reject_outcome let_go_outcome verdict_outcome
 call-writes w f (open_call out destination received) =
     writes-checked-out (lent w) (length out) 0 (is_whole w.state) _
     (λ t big. open-writes (lent w) (f t) (length out) 0 big (bytes_in received) (bytes-in received) (bytes_in destination))
@@ -751,9 +757,9 @@ call-writes w f (take_call ch buf) =
 call-writes w f (read_call out ch buf received) =
     writes-checked-out (lent w) (length out) (length buf) (is_whole w.state) _
     (λ t big. read-writes (lent w) (f t) (length out) (length buf) big (bytes_in received) (bytes-in received) ch)
-call-writes w f (write_call out ch bytes received) =
+call-writes w f (write_call spending out ch bytes received) =
     writes-checked-out (lent w) (length out) 0 (is_whole w.state) _
-    (λ t big. write-writes (lent w) (f t) (length out) 0 big (bytes_in received) (bytes-in received) ch (bytes_in bytes))
+    (λ t big. write-writes (lent w) (f t) (length out) 0 big (bytes_in received) (bytes-in received) spending ch (bytes_in bytes))
 call-writes w f (close_call out ch) =
     writes-checked-out (lent w) (length out) 0 (is_whole w.state) _ (λ t big. close-writes (lent w) (f t) (length out) 0 big ch)
 call-writes w f front_taken =
@@ -766,6 +772,8 @@ call-writes w f (reject_call out) =
     writes-checked-out (lent w) (length out) 0 (is_whole w.state) _ (λ t big. reject-writes (lent w) (f t) (length out) 0 big)
 call-writes w f let_go_call =
     writes-checked (lent w) 0 0 (is_whole w.state) _ (λ t. let-go-writes (lent w) (f t) 0 0)
+call-writes w f (verdict_call out take remote credit) =
+    writes-checked-out (lent w) (length out) 0 (is_whole w.state) _ (λ t big. verdict-writes (lent w) (f t) (length out) 0 big take _ _ (word-in remote.0))
 
 take_counted : (w : World) → (is_whole w.state ≡ true → Able (lent w)) → (ch : ChannelId) (buf : List ℕ) → Counts (lent w) (outcome w (take_call ch buf))
 unfolding outcome take_outcome policy_of
@@ -789,13 +797,14 @@ call-counts w f (dispatch_call out received) e = none-handed _ _ _ (call-writes 
 call-counts w f (settle_call out ch want) e = none-handed _ _ _ (call-writes w f (settle_call out ch want))
 call-counts w f (take_call ch buf) e = take_counted w f ch buf e
 call-counts w f (read_call out ch buf received) e = read-counted w f out ch buf received e
-call-counts w f (write_call out ch bytes received) e = none-handed _ _ _ (call-writes w f (write_call out ch bytes received))
+call-counts w f (write_call spending out ch bytes received) e = none-handed _ _ _ (call-writes w f (write_call spending out ch bytes received))
 call-counts w f (close_call out ch) e = none-handed _ _ _ (call-writes w f (close_call out ch))
 call-counts w f front_taken e = none-handed _ _ _ (call-writes w f front_taken)
 call-counts w f (look_call x) e = none-handed _ _ _ (call-writes w f (look_call x))
 call-counts w f (accept_call out) e = none-handed _ _ _ (call-writes w f (accept_call out))
 call-counts w f (reject_call out) e = none-handed _ _ _ (call-writes w f (reject_call out))
 call-counts w f let_go_call e = none-handed _ _ _ (call-writes w f let_go_call)
+call-counts w f (verdict_call out take remote credit) e = none-handed _ _ _ (call-writes w f (verdict_call out take remote credit))
 
 -- what is seen of a call is what its outcome says, on a state that holds
 module _ (n : Negotiated) (r : List ℕ) (rx store : ℕ) (w : World) (k : Holds n r rx store w) (c : Call) where

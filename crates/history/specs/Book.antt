@@ -14,7 +14,7 @@ use Rattle.slot.specs.Slot.{empty_slot, with_remote, with_numbers, settled_of}
 use Rattle.table.specs.declared.ChannelId.{ChannelId}
 use Rattle.table.specs.Table.{first}
 use Rattle.connection.specs.Frames.{Sent}
-use Rattle.history.specs.Run.{Call, open_call, dispatch_call, settle_call, take_call, read_call, write_call, close_call, front_taken, look_call, accept_call, reject_call, let_go_call, bytes_in}
+use Rattle.history.specs.Run.{Call, open_call, dispatch_call, settle_call, take_call, read_call, write_call, close_call, front_taken, look_call, accept_call, reject_call, let_go_call, verdict_call, bytes_in}
 use Rattle.history.specs.Seen.{Seen, Event, seen_of}
 
 -- what is kept of one channel
@@ -288,7 +288,7 @@ entry_on p d i (settle_call out ch want) o b = cond (is_on i b ch && not (is_ear
 entry_on p d i (take_call ch buf) o b = cond (is_on i b ch) (handed_b o.got b) b
 entry_on p d i (read_call out ch buf received) o b =
     cond (is_on i b ch) (read_b p d i (length buf) (bytes_in received) o b) (packet_b d i (bytes_in received) (ends_other d ch) o b)
-entry_on p d i (write_call out ch bytes received) o b =
+entry_on p d i (write_call spending out ch bytes received) o b =
     cond (is_on i b ch) (write_b d i (bytes_in received) o b) (packet_b d i (bytes_in received) (ends_other d ch) o b)
 entry_on p d i (close_call out ch) o b = cond (is_on i b ch && not (is_refused o.number)) (gone_book b) b
 entry_on p d i front_taken o b = b
@@ -296,6 +296,7 @@ entry_on p d i (look_call x) o b = b
 entry_on p d i (accept_call out) o b = b
 entry_on p d i (reject_call out) o b = b
 entry_on p d i let_go_call o b = b
+entry_on p d i (verdict_call out take remote credit) o b = b
 
 -- the remote number in the OKAY by which a channel is accepted, and the credit that it carries; 0 where it carries none
 unfoldable pub okay_remote : List Sent → ℕ
@@ -306,8 +307,12 @@ unfoldable pub okay_credit : List Sent → ℕ
 okay_credit [] = 0
 okay_credit (f ∷ fs) = credit_in f.payload
 
+-- an accept that is done filled the slot that its answer names, with the numbers of the OKAY that it wrote
+abbrev pub granted_b : ℕ → Seen → Book → Book
+granted_b i o b = cond (eqb o.number 0 && eqb (get_or o.values 0 0) i) (new_book (get_or o.values 1 0) (okay_remote o.sent) (okay_credit o.sent)) b
+
 -- an open that is done filled the slot that its answer names, with that local number; the remote number is its OKAY's. So did an
--- accept, with the numbers of the OKAY that it wrote
+-- accept, and a verdict that takes
 unfoldable pub opened_b : ℕ → ℕ → Call → Seen → Book → Book
 opened_b i asked (open_call out destination received) o b =
     cond (eqb o.number 0 && eqb (get_or o.values 0 0) i) (new_book (get_or o.values 1 0) (header_at (bytes_in received)).arg0 asked) b
@@ -315,14 +320,14 @@ opened_b i asked (dispatch_call out received) o b = b
 opened_b i asked (settle_call out ch want) o b = b
 opened_b i asked (take_call ch buf) o b = b
 opened_b i asked (read_call out ch buf received) o b = b
-opened_b i asked (write_call out ch bytes received) o b = b
+opened_b i asked (write_call spending out ch bytes received) o b = b
 opened_b i asked (close_call out ch) o b = b
 opened_b i asked front_taken o b = b
 opened_b i asked (look_call x) o b = b
-opened_b i asked (accept_call out) o b =
-    cond (eqb o.number 0 && eqb (get_or o.values 0 0) i) (new_book (get_or o.values 1 0) (okay_remote o.sent) (okay_credit o.sent)) b
+opened_b i asked (accept_call out) o b = granted_b i o b
 opened_b i asked (reject_call out) o b = b
 opened_b i asked let_go_call o b = b
+opened_b i asked (verdict_call out take remote credit) o b = cond take (granted_b i o b) b
 
 -- the frames whose OKAYs acknowledge: all, but the one by which a channel is accepted
 abbrev pub acking : Call → List Sent → List Sent
@@ -331,13 +336,14 @@ acking (dispatch_call out received) fs = fs
 acking (settle_call out ch want) fs = fs
 acking (take_call ch buf) fs = fs
 acking (read_call out ch buf received) fs = fs
-acking (write_call out ch bytes received) fs = fs
+acking (write_call spending out ch bytes received) fs = fs
 acking (close_call out ch) fs = fs
 acking front_taken fs = fs
 acking (look_call x) fs = fs
 acking (accept_call out) fs = []
 acking (reject_call out) fs = fs
 acking let_go_call fs = fs
+acking (verdict_call out take remote credit) fs = cond take [] fs
 
 -- with the OKAYs written that have its local number in arg0, by a refused call too, after the call's other steps
 unfoldable pub acks_b : List Sent → Book → Book

@@ -7,3 +7,4 @@ pub mod Numbers
 pub mod Queue
 pub mod Run
 pub mod Seen
+pub mod Spending

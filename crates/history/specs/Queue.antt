@@ -16,7 +16,7 @@ use Rattle.table_dispatch.specs.Dispatch.{remote_place}
 use Rattle.connection.specs.declared.Answer.{Answer}
 use Rattle.connection.specs.declared.Answer.TheVariants.{Nothing, Front as FrontIs}
 use Rattle.connection.specs.Calls.{Lent, offer_in, is_offered, ids_in, slot_for, received_of, body_of, is_direct}
-use Rattle.history.specs.Run.{bytes_in, Call, open_call, dispatch_call, settle_call, take_call, read_call, write_call, close_call, front_taken, look_call, accept_call, reject_call, let_go_call, World, lent, outcome, after, after_all, Start, begins}
+use Rattle.history.specs.Run.{bytes_in, Call, open_call, dispatch_call, settle_call, take_call, read_call, write_call, close_call, front_taken, look_call, accept_call, reject_call, let_go_call, verdict_call, World, lent, outcome, after, after_all, Start, begins}
 
 -- what is queued, in order: remote number, credit and destination of each
 unfoldable pub queue_of : Lent → List Incoming
@@ -113,14 +113,15 @@ move_of w (take_call ch buf) = stays
 move_of w (read_call out ch buf received) =
     received_move (lent w) (read_takes (lent w) ch (length buf)) (bytes_in received)
     (outcome w (read_call out ch buf received)).used
-move_of w (write_call out ch bytes received) =
-    received_move (lent w) (write_takes (lent w) ch) (bytes_in received) (outcome w (write_call out ch bytes received)).used
+move_of w (write_call spending out ch bytes received) =
+    received_move (lent w) (write_takes (lent w) ch) (bytes_in received) (outcome w (write_call spending out ch bytes received)).used
 move_of w (close_call out ch) = stays
 move_of w front_taken = pops
 move_of w (look_call x) = stays
 move_of w (accept_call out) = stays
 move_of w (reject_call out) = stays
 move_of w let_go_call = back_move (offered_in w)
+move_of w (verdict_call out take remote credit) = stays
 
 -- ---- the claim
 
@@ -137,13 +138,14 @@ NotFront (dispatch_call out received) = Unit {0}
 NotFront (settle_call out ch want) = Unit {0}
 NotFront (take_call ch buf) = Unit {0}
 NotFront (read_call out ch buf received) = Unit {0}
-NotFront (write_call out ch bytes received) = Unit {0}
+NotFront (write_call spending out ch bytes received) = Unit {0}
 NotFront (close_call out ch) = Unit {0}
 NotFront front_taken = ⊥
 NotFront (look_call x) = Unit {0}
 NotFront (accept_call out) = Unit {0}
 NotFront (reject_call out) = Unit {0}
 NotFront let_go_call = Unit {0}
+NotFront (verdict_call out take remote credit) = Unit {0}
 
 -- what holds of the queue after a list of calls
 pub record Queues (channels : ℕ) (w : World) : Type 0 where

@@ -7,7 +7,7 @@ use Rattle.protocol.specs.Packet.{payload_limit, payload_of, decode_of, used_of}
 use Rattle.connection.specs.Answer.{answer_number, answer_values}
 use Rattle.connection.specs.Calls.{Outcome, written_by}
 use Rattle.connection.specs.Frames.{Sent, frames_bytes}
-use Rattle.history.specs.Run.{Call, open_call, dispatch_call, settle_call, take_call, read_call, write_call, close_call, front_taken, look_call, accept_call, reject_call, let_go_call, out_of, buf_of, World, lent, outcome, after}
+use Rattle.history.specs.Run.{Call, open_call, dispatch_call, settle_call, take_call, read_call, write_call, close_call, front_taken, look_call, accept_call, reject_call, let_go_call, verdict_call, out_of, buf_of, World, lent, outcome, after}
 use Rattle.protocol.specs.declared.packet.DecodeError.TheVariants.{InvalidCommand, InvalidMagic, PayloadTooLarge, InvalidChecksum}
 use Rattle.protocol.specs.declared.packet.Packet.{Packet}
 use Rattle.protocol.specs.declared.packet.DecodeError.{DecodeError}
@@ -51,13 +51,14 @@ count_of (dispatch_call out received) number values = 0
 count_of (settle_call out ch want) number values = 0
 count_of (take_call ch buf) number values = cond (eqb number 0) (get_or values 0 0) 0
 count_of (read_call out ch buf received) number values = cond (eqb number 0) (get_or values 0 0) 0
-count_of (write_call out ch bytes received) number values = 0
+count_of (write_call spending out ch bytes received) number values = 0
 count_of (close_call out ch) number values = 0
 count_of front_taken number values = 0
 count_of (look_call x) number values = 0
 count_of (accept_call out) number values = 0
 count_of (reject_call out) number values = 0
 count_of let_go_call number values = 0
+count_of (verdict_call out take remote credit) number values = 0
 
 -- what bytes begin with, before the frames behind it
 unfoldable pub sent_by : List ℕ → List Sent → Result (Option Packet) DecodeError → List Sent

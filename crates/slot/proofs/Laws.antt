@@ -1,7 +1,7 @@
 -- Laws of a slot's numbers. Assumes nothing.
 use mathlib.Core.Path.{◌≡◌, refl, sym, ap, ◌∙◌}
 use mathlib.Core.List.{List}
-use mathlib.Core.Bool.{Bool, true, false, cond}
+use mathlib.Core.Bool.{Bool, true, false, cond, true≢false}
 use Prim.Native.Nat.{ℕ, ◌+◌, ◌*◌, ◌≤◌, min}
 use native.Mathlib.Omega.{arith}
 use lib.Dec.{ltb, eqb}
@@ -18,7 +18,9 @@ use Rattle.saturate.proofs.Laws.{held_fits, zero-sub, neg-fits}
 use Rattle.slot.specs.declared.ids.RemoteId.{RemoteId}
 use Rattle.slot.specs.declared.ChannelSlot.{ChannelSlot}
 use Rattle.slot.specs.declared.ChannelState.TheVariants.{Open}
-use Rattle.slot.specs.Slot.{with_state, with_remote, with_sending, with_numbers, opened_by, opened_of, ready_by, ready_of, held_of, acks_now, acked, buffered_with, wrote_of, some_len, ack_len_of, take_len, spent_of, refunded_of, is_opening, is_ack}
+use Rattle.slot.specs.declared.Spending.{Spending}
+use Rattle.slot.specs.declared.Spending.TheVariants.{Within, Beyond}
+use Rattle.slot.specs.Slot.{with_state, with_remote, with_sending, with_numbers, opened_by, opened_of, ready_by, ready_of, held_of, acks_now, acked, buffered_with, wrote_of, some_len, ack_len_of, take_len, budget_of, leave_by, leave_of, spent_of, refunded_of, is_opening, is_ack}
 use Rattle.credit.specs.Credit.{credit_of}
 use Rattle.std.specs.Prelude.{Option, Some, None, Ok, Err, is_some}
 use Rattle.slot.specs.declared.ChannelFault.TheVariants.{RxOverflow, UnexpectedCommand}
@@ -141,3 +143,14 @@ pub is-ack : (ack : Option ℕ) → is_some ack ≡ is_ack ack
 unfolding is_ack
 is-ack (Some n) = refl
 is-ack None = refl
+
+-- nothing may be sent exactly where the budget is none, however it is spent
+leave-by : (spending : Spending) (most : Option ℕ) → (most ≡ None → leave_by spending most ≡ None) × (leave_by spending most ≡ None → most ≡ None)
+unfolding leave_by
+leave-by Within most = (λ e. e, λ e. e)
+leave-by Beyond None = (λ e. refl, λ e. refl)
+leave-by Beyond (Some n) = (λ e. absurd (true≢false (ap is_some e)), λ e. absurd (true≢false (ap is_some e)))
+
+pub leave-none : (spending : Spending) (s : ChannelSlot) (p : RxPolicy) → (budget_of s p ≡ None → leave_of spending s p ≡ None) × (leave_of spending s p ≡ None → budget_of s p ≡ None)
+unfolding leave_of
+leave-none spending s p = leave-by spending (budget_of s p)

@@ -15,6 +15,8 @@ use Rattle.slot.specs.declared.ChannelError.{ChannelError}
 use Rattle.slot.specs.declared.ChannelError.TheVariants.{Fault, Closed as ErrorClosed}
 use Rattle.slot.specs.declared.ChannelSlot.{ChannelSlot}
 use Rattle.slot.specs.declared.Settled.{Settled}
+use Rattle.slot.specs.declared.Spending.{Spending}
+use Rattle.slot.specs.declared.Spending.TheVariants.{Within, Beyond}
 use Rattle.credit.specs.declared.CreditFault.{CreditFault}
 use Rattle.slot.specs.declared.ChannelFault.TheVariants.{RxOverflow, UnexpectedCommand}
 
@@ -305,6 +307,16 @@ take_acks s p want =
 unfoldable pub budget_of : ChannelSlot → RxPolicy → Option ℕ
 budget_of s p =
     cond p.delayed (some_len (positive_part s.send_budget)) (cond s.wrte_acked (Some 0xffff_ffff_ffff_ffff) None)
+
+-- once the budget is known: no more than it, or, where there is one, any length
+unfoldable pub leave_by : Spending → Option ℕ → Option ℕ
+leave_by Within most = most
+leave_by Beyond (Some n) = Some 0xffff_ffff_ffff_ffff
+leave_by Beyond None = None
+
+-- how many bytes a WRTE may have now
+unfoldable pub leave_of : Spending → ChannelSlot → RxPolicy → Option ℕ
+leave_of spending s p = leave_by spending (budget_of s p)
 
 -- `spend`
 unfoldable pub spent_of : ChannelSlot → RxPolicy → ℕ → ChannelSlot

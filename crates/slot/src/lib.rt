@@ -75,6 +75,13 @@ pub struct Settled {
     pub ack: Option<usize>,
 }
 
+// How far a WRTE may go where the budget is above 0: to its end, or past it, so that the budget may fall below 0.
+#[derive(Clone, Copy, Debug, PartialEq, Eq)]
+pub enum Spending {
+    Within,
+    Beyond,
+}
+
 // What a read finds buffered: the slot as it leaves it and how many bytes it takes from the front of the run, nothing, or why
 // there will be nothing more.
 pub type Taken = Result<Option<(ChannelSlot, usize)>, ChannelError>;

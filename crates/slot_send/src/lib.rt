@@ -3,12 +3,12 @@
 #![tactic(auto)]
 
 ghost use Rattle.std.specs.Prelude.{◌≡◌, min, pos};
-ghost use Rattle.slot.specs.Slot.{opened_of, ready_of, budget_of, spent_of, refunded_of, reserved_of};
+ghost use Rattle.slot.specs.Slot.{opened_of, ready_of, budget_of, leave_of, spent_of, refunded_of, reserved_of};
 
 use config::negotiated::RxPolicy;
 use credit::{CreditFault, parse_ready_credit};
 use slot::ids::RemoteId;
-use slot::{ChannelSlot, ChannelState};
+use slot::{ChannelSlot, ChannelState, Spending};
 
 // The OKAY that answers our OPEN.
 pub fn accept_open_ready(
@@ -56,6 +56,18 @@ pub fn budget(slot: ChannelSlot, policy: RxPolicy) -> Option<usize>
         return (n != 0).then_some(n);
     }
     slot.wrte_acked.then_some(usize::MAX)
+}
+
+// How many bytes a WRTE may have now: no more than the budget, or, where there is one, any number.
+#[tactic(auto, unfolding(slot::specs::Slot::leave_of, slot::specs::Slot::leave_by))]
+pub fn leave(slot: ChannelSlot, policy: RxPolicy, spending: Spending) -> Option<usize>
+    ensures { result ≡ leave_of spending slot policy }
+{
+    let most = budget(slot, policy)?;
+    match spending {
+        Spending::Within => Some(most),
+        Spending::Beyond => Some(usize::MAX),
+    }
 }
 
 // n bytes were sent.

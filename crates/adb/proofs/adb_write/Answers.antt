@@ -2,6 +2,7 @@ use Rattle.adb.proofs.ExportLaws.{does-short, does_call, long-answer, write-is}
 use Rattle.adb.specs.Export.{world_of}
 use Rattle.adb.specs.Promise.{channel_of}
 use Rattle.history.specs.Run.{write_call}
+use Rattle.slot.specs.declared.Spending.TheVariants.{Within}
 use mathlib.Core.List.{[]}
 use mathlib.Core.Path.{sym, ◌∙◌}
 use Rattle.adb.proofs.adb_write.Goals as goal
@@ -9,7 +10,7 @@ use Rattle.adb.proofs.adb_write.Goals as goal
 pub returns-then-is_short : goal.returns-then-is_short
 returns-then-is_short c =
     does-short (world_of c.args.state.now c.args.rx.now c.args.opens.now)
-    (write_call c.args.out.now (channel_of c.args.slot c.args.local) c.args.bytes.now
+    (write_call Within c.args.out.now (channel_of c.args.slot c.args.local) c.args.bytes.now
     c.args.received.now) c.args.out.now [] c.args.answer.now (sym c.is_short.ensures ∙ c.if-is_short.true)
 
 pub answered-requires : goal.answered-requires
@@ -18,7 +19,7 @@ answered-requires c = (long-answer _ _ (sym c.is_short.ensures ∙ c.if-is_short
 pub returns : goal.returns
 returns c =
     does_call (world_of c.args.state.now c.args.rx.now c.args.opens.now)
-    (write_call c.args.out.now (channel_of c.args.slot c.args.local) c.args.bytes.now
+    (write_call Within c.args.out.now (channel_of c.args.slot c.args.local) c.args.bytes.now
     c.args.received.now) c.args.out.now [] c.args.answer.now _ c.write-reply.result _ _ _ _ _ _ _
     (sym c.is_short.ensures ∙ c.if-is_short.false)
     (write-is c.args.state.now c.args.rx.now c.args.opens.now c.args.out.now

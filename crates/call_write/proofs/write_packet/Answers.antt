@@ -26,7 +26,7 @@ pub returns-then-is_own : goal.returns-then-is_own
 returns-then-is_own c =
     packet-ready c.args.state.now c.args.rx.now c.args.store.now c.args.out.now c.args.received.now
     c.args.bytes.now c.args.ch c.args.h c.args.s c.args.packet c.requires.0 c.requires.1
-    c.is_own.result (own_is _ _ _ c.args.packet.arg1 c.args.s.local.0 c.is_ready.ensures
+    c.args.spending c.is_own.result (own_is _ _ _ c.args.packet.arg1 c.args.s.local.0 c.is_ready.ensures
     c.is_own.ensures) c.payload_in-payload.result.now _ _ _ c.if-is_own.true c.payload_in-payload.ensures
     (rw c.frame_len-used.ensures at (c.write_ready.ensures c.args.rx.now c.args.store.now))
 
@@ -41,7 +41,7 @@ pub returns-then-closed_by : goal.returns-then-closed_by
 returns-then-closed_by c =
     packet-closes c.args.state.now c.args.rx.now c.args.store.now c.args.out.now c.args.received.now
     c.args.bytes.now c.args.ch c.args.h c.args.s c.args.packet c.requires.0 c.requires.1
-    c.is_own.result (own_is _ _ _ c.args.packet.arg1 c.args.s.local.0 c.is_ready.ensures
+    c.args.spending c.is_own.result (own_is _ _ _ c.args.packet.arg1 c.args.s.local.0 c.is_ready.ensures
     c.is_own.ensures) c.if-is_own.false c.ids_in.result c.closed_by.result c.ids_in.ensures
     c.closed_by.ensures c.apply_close.result _ _ c.if-closed_by.true c.apply_close.ensures
     c.ends_with.ensures.0 (c.ends_with.ensures.1 ∙ ap (λ (x : ℕ). record { answer = Refused ChannelClosed; used = x; written = 0 })
@@ -62,7 +62,7 @@ pub returns : goal.returns
 returns c =
     packet-acts c.args.state.now c.args.rx.now c.args.store.now c.args.out.now c.args.received.now
     c.args.bytes.now c.args.ch c.args.h c.args.s c.args.packet c.requires.0 c.requires.1
-    c.is_own.result (own_is _ _ _ c.args.packet.arg1 c.args.s.local.0 c.is_ready.ensures
+    c.args.spending c.is_own.result (own_is _ _ _ c.args.packet.arg1 c.args.s.local.0 c.is_ready.ensures
     c.is_own.ensures) c.if-is_own.false c.ids_in.result c.closed_by.result c.ids_in.ensures
     c.closed_by.ensures c.if-closed_by.false (λ j. (c.type_inv.received j).fits)
     c.payload_in-payload.result.now c.act_on-acted.result c.unless_fault-answer.result _ _ _ _ _ _ c.payload_in-payload.ensures

@@ -2,7 +2,8 @@ use mathlib.Core.Path.{◌≡◌, sym, ◌∙◌}
 use borrow.Author.Rules.{rules}
 use lib.ListN.{length}
 use native.Mathlib.Omega.{arith}
-use Rattle.adb.proofs.ExportLaws.{long-answer, said-six}
+use Rattle.adb.proofs.ExportLaws.{long-answer}
+use Rattle.call_answer.proofs.AnswerLaws.{said-six}
 use Rattle.adb.proofs.StretchLaws.{stretch-short, stretch-called}
 use Rattle.adb.proofs.shortest.adb_stretch.Goals as goal
 

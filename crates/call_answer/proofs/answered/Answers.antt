@@ -1,9 +1,9 @@
 use mathlib.Core.Path.{◌≡◌, ◌∙◌}
 use lib.ListN.{length}
 use borrow.Author.Rules.{rules}
-use Rattle.adb.specs.Export.{answer_bytes}
-use Rattle.adb.proofs.ExportLaws.{said-six}
-use Rattle.adb.proofs.answered.Goals as goal
+use Rattle.call_answer.specs.Answer.{answer_bytes}
+use Rattle.call_answer.proofs.AnswerLaws.{said-six}
+use Rattle.call_answer.proofs.answered.Goals as goal
 
 pub returns : goal.returns
 unfolding answer_bytes

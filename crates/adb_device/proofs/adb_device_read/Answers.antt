@@ -1,0 +1,19 @@
+use Rattle.std.proofs.Common.{sym, ◌∙◌, length}
+use Rattle.device_read.specs.Promise.{device_read}
+use Rattle.adb_device.specs.Export.{channel_of}
+use Rattle.adb_device.proofs.ExportLaws.{does-short, does_call, long-answer}
+use Rattle.adb_device.proofs.adb_device_read.Goals as goal
+
+pub returns-then-is_short : goal.returns-then-is_short
+returns-then-is_short c =
+    does-short c.args.state.now c.args.rx.now c.args.opens.now c.args.out.now c.args.buf.now c.args.answer.now _ (sym c.is_short.ensures ∙ c.if-is_short.true)
+
+pub answered-requires : goal.answered-requires
+answered-requires c = (long-answer _ _ (sym c.is_short.ensures ∙ c.if-is_short.false)).1
+
+pub returns : goal.returns
+returns c =
+    does_call c.args.state.now c.args.rx.now c.args.opens.now c.args.out.now c.args.buf.now c.args.answer.now
+    (device_read c.args.state.now c.args.rx.now c.args.opens.now (length c.args.out.now) c.args.names.now (channel_of c.args.slot c.args.local) (length c.args.buf.now) c.args.received.now)
+    c.read-reply.result _ _ _ _ _ _ _ (sym c.is_short.ensures ∙ c.if-is_short.false)
+    (rw c.channel_of-ch.ensures at c.read-reply.ensures) c.answered.ensures.0 c.answered.ensures.1 c.answered.ensures.2

@@ -1,0 +1,5 @@
+pub mod HeadLaws
+pub mod JudgeLaws
+pub mod CalledLaws
+pub mod MeetLaws
+pub mod HostLaws

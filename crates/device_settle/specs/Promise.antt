@@ -1,0 +1,19 @@
+-- What settling at a device's end gives, and promises. Assumes nothing.
+use Rattle.std.specs.Prelude.{ℕ, List, [], length}
+use Rattle.state_whole.specs.Whole.{is_whole}
+use Rattle.table.specs.declared.ChannelId.{ChannelId}
+use Rattle.connection.specs.Calls.{settle_outcome}
+use Rattle.call.specs.Promise.{lent_of}
+use Rattle.device.specs.declared.DeviceReply.{DeviceReply}
+use Rattle.device.specs.Device.{inner_of, Gives, host_gives}
+use Rattle.device.specs.Promise.{DeviceLeaves}
+
+-- 13 for the bytes ahead of the connection; else the host's call on the connection's. out: the outgoing buffer's length
+unfoldable pub device_settle : List ℕ → List ℕ → List ℕ → ℕ → ChannelId → ℕ → Gives
+device_settle b rx store out ch want =
+    host_gives b rx store (settle_outcome (is_whole (inner_of b)) (lent_of (inner_of b) rx store) out ch want)
+
+-- what `settle` promises
+abbrev pub DeviceSettleLeaves : List ℕ → List ℕ → List ℕ → ChannelId → ℕ → List ℕ → DeviceReply → List ℕ → List ℕ → Type 0
+DeviceSettleLeaves b rx store ch want out r b' out' =
+    DeviceLeaves (device_settle b rx store (length out) ch want) out [] r b' rx store out' []
