@@ -16,3 +16,4 @@ pub mod FreeLaws
 pub mod Runs
 pub mod Never11
 pub mod Spending
+pub mod Stays

@@ -4,3 +4,4 @@ pub mod Owner
 pub mod Run
 pub mod Trace
 pub mod Spending
+pub mod Stays
