@@ -8,7 +8,7 @@ use lib.Dec.{eqb, leb, ltb, lt→ltb}
 use lib.IntN.{ℤ, pos, negsuc, neg_ℤ, ◌+ℤ◌, ◌-ℤ◌}
 use lib.ListN.{length, set}
 use lib.Signed.{◌<ℤ◌}
-use borrow.Author.Tests.{eqb-true, eqb-false, eq-eqb, ltb-true}
+use borrow.Author.Tests.{eqb-true, eqb-false, eq-eqb, ltb-true, ltb-false}
 use Rattle.config.specs.declared.negotiated.RxPolicy.{RxPolicy}
 use Rattle.credit.specs.Credit.{credit_of, at_least_zero}
 use Rattle.credit.specs.declared.CreditFault.{CreditFault}
@@ -72,17 +72,65 @@ above-less m b (suc x) h k =
 pub above-spent : (m b n : ℕ) → 0 < b → n ≤ m → Above m (clamp (pos b -ℤ pos (min n 9223372036854775807)))
 above-spent m b n h k = above-less m b (min n 9223372036854775807) h (omega arith)
 
--- what is spent of a budget of 64 bits is exact
-exact-less : (b x : ℕ) → b < 2 ^ 63 → x < 2 ^ 63 → clamp (pos b -ℤ pos x) ≡ pos b -ℤ pos x
-unfolding clamp
-exact-less b zero h k = ap pos (omega arith)
-exact-less b (suc x) h k =
-    pick (λ (y : ℤ). clamp y ≡ y) (ltb b (suc x)) (λ t. ap negsuc (omega arith)) (λ t. ap pos (omega arith))
+diff-pos : (a s : ℕ) → s ≤ a → pos a -ℤ pos s ≡ pos (a - s)
+diff-pos a zero h = ap pos (omega arith)
+diff-pos a (suc s) h =
+    pick (λ (y : ℤ). y ≡ pos (a - suc s)) (ltb a (suc s)) (λ t. let z = ltb-true a (suc s) t in absurd (omega arith)) (λ t. ap pos (omega arith))
 
+diff-neg : (a s : ℕ) → a < s → pos a -ℤ pos s ≡ negsuc (s - suc a)
+diff-neg a zero h = absurd (omega arith)
+diff-neg a (suc s) h =
+    pick (λ (y : ℤ). y ≡ negsuc (suc s - suc a)) (ltb a (suc s)) (λ t. ap negsuc (omega arith)) (λ t. let z = ltb-false a (suc s) t in absurd (omega arith))
+
+-- credit is added exactly
+more-above : (a s c : ℕ) → s ≤ a → a + c < 2 ^ 63 → clamp (pos (a - s) +ℤ pos c) ≡ pos (a + c) -ℤ pos s
+unfolding clamp
+more-above a s c h k = ap pos (omega arith) ∙ sym (diff-pos (a + c) s (omega arith))
+
+more-below : (a s c : ℕ) → a < s → s < 2 ^ 63 → a + c < 2 ^ 63 → clamp (negsuc (s - suc a) +ℤ pos c) ≡ pos (a + c) -ℤ pos s
+unfolding clamp
+more-below a s c h m k =
+    pick (λ (y : ℤ). clamp y ≡ pos (a + c) -ℤ pos s) (ltb c (suc (s - suc a)))
+    (λ t. let z = ltb-true c (suc (s - suc a)) t in ap negsuc (omega arith) ∙ sym (diff-neg (a + c) s (omega arith)))
+    (λ t. let z = ltb-false c (suc (s - suc a)) t in ap pos (omega arith) ∙ sym (diff-pos (a + c) s (omega arith)))
+
+pub exact-more : (z : ℤ) (a s c : ℕ) → a + c < 2 ^ 63 → s < 2 ^ 63 → z ≡ pos a -ℤ pos s → clamp (z +ℤ pos c) ≡ pos (a + c) -ℤ pos s
+exact-more z a s c h k e =
+    by-test (ltb a s)
+    (λ t. let u = ltb-true a s t in ap (λ (y : ℤ). clamp (y +ℤ pos c)) (e ∙ diff-neg a s u) ∙ more-below a s c u k h)
+    (λ t. let u = ltb-false a s t in ap (λ (y : ℤ). clamp (y +ℤ pos c)) (e ∙ diff-pos a s u) ∙ more-above a s c u h)
+
+-- so is what is sent taken off
+less-above : (a s n : ℕ) → s ≤ a → a < 2 ^ 63 → s + n < 2 ^ 63 → clamp (pos (a - s) -ℤ pos n) ≡ pos a -ℤ pos (s + n)
+unfolding clamp
+less-above a s zero h k m = ap pos (omega arith) ∙ sym (diff-pos a (s + 0) (omega arith))
+less-above a s (suc x) h k m =
+    pick (λ (y : ℤ). clamp y ≡ pos a -ℤ pos (s + suc x)) (ltb (a - s) (suc x))
+    (λ t. let z = ltb-true (a - s) (suc x) t in ap negsuc (omega arith) ∙ sym (diff-neg a (s + suc x) (omega arith)))
+    (λ t. let z = ltb-false (a - s) (suc x) t in ap pos (omega arith) ∙ sym (diff-pos a (s + suc x) (omega arith)))
+
+less-below : (a s n : ℕ) → a < s → s + n < 2 ^ 63 → clamp (negsuc (s - suc a) -ℤ pos n) ≡ pos a -ℤ pos (s + n)
+unfolding clamp
+less-below a s zero h m =
+    pick (λ (y : ℤ). clamp y ≡ pos a -ℤ pos (s + 0)) (ltb 0 (suc (s - suc a)))
+    (λ t. ap negsuc (omega arith) ∙ sym (diff-neg a (s + 0) (omega arith)))
+    (λ t. let z = ltb-false 0 (suc (s - suc a)) t in absurd (omega arith))
+less-below a s (suc x) h m = ap negsuc (omega arith) ∙ sym (diff-neg a (s + suc x) (omega arith))
+
+pub exact-less : (z : ℤ) (a s n : ℕ) → a < 2 ^ 63 → s + n < 2 ^ 63 → z ≡ pos a -ℤ pos s → clamp (z -ℤ pos (min n 9223372036854775807)) ≡ pos a -ℤ pos (s + n)
+exact-less z a s n h k e =
+    let m : min n 9223372036854775807 ≡ n = omega arith in
+    ap (λ (x : ℕ). clamp (z -ℤ pos x)) m ∙
+    by-test (ltb a s)
+    (λ t. let u = ltb-true a s t in ap (λ (y : ℤ). clamp (y -ℤ pos n)) (e ∙ diff-neg a s u) ∙ less-below a s n u k)
+    (λ t. let u = ltb-false a s t in ap (λ (y : ℤ). clamp (y -ℤ pos n)) (e ∙ diff-pos a s u) ∙ less-above a s n u h k)
+
+-- what is spent of a budget of 64 bits is exact
 pub exact-spent : (b n : ℕ) → b < 2 ^ 63 → n < 2 ^ 63 → clamp (pos b -ℤ pos (min n 9223372036854775807)) ≡ pos b -ℤ pos n
 exact-spent b n h k =
-    let e : min n 9223372036854775807 ≡ n = omega arith in
-    ap (λ (x : ℕ). clamp (pos b -ℤ pos x)) e ∙ exact-less b n h k
+    let e : b ≡ b + 0 = omega arith in
+    let f : 0 + n ≡ n = omega arith in
+    exact-less (pos b) b 0 n h (omega arith) (ap pos e) ∙ ap (λ (x : ℕ). pos b -ℤ pos x) f
 
 -- a credit is at least 0
 abbrev pub AtLeast0 : Result ℤ CreditFault → Type 0

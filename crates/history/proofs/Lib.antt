@@ -1,6 +1,8 @@
 pub mod Accepts
 pub mod Acts
 pub mod Budgets
+pub mod Credited
+pub mod Credits
 pub mod Bytes
 pub mod Entries
 pub mod Floor

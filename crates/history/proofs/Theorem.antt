@@ -141,11 +141,11 @@ module _ (reads : ℕ → Bool) (w : World) (r : List ℕ) (rx store : ℕ) wher
     unfolding offered_credit opening_credit
     small-credit = let w = h.facts.limits.within.most-credit in pick (λ (x : ℕ). x < 2 ^ 31) m.delayed_ack (λ d. omega arith) (λ d. omega arith)
 
-    empty : is_ours c.header.pending.what ≡ true → (slot_in c.slots c.header.pending.slot).filled ≡ false
+    pub empty : is_ours c.header.pending.what ≡ true → (slot_in c.slots c.header.pending.slot).filled ≡ false
     unfolding slot_in
     empty t = (h.facts.pending-open t).empty
 
-    placed : is_ours c.header.pending.what ≡ true → c.header.pending.slot < 64
+    pub placed : is_ours c.header.pending.what ≡ true → c.header.pending.slot < 64
     placed t = let a = (h.facts.pending-open t).place in let b = h.facts.limits.within.most-channels in omega arith
 
     module _ (y : Ledger) (k : Kept reads m w y) where
@@ -342,11 +342,11 @@ module _ (reads : ℕ → Bool) (w : World) (r : List ℕ) (rx store : ℕ) wher
           told-by (policy_of m) y m x (outcome w x) refl (writes m r rx store w h x) (counts m r rx store w h x) (seen-is m r rx store w h x) (noted x only)
 
 -- the same where what was negotiated is known by another name
-record Stepped (reads : ℕ → Bool) (n : Negotiated) (w : World) (y : Ledger) (x : Call) : Type 0 where
-  kept : Kept reads n (after w x) (entry (policy_of n) x (seen_of (record { call = x; held = held_of w x })) y)
-  told : Told (policy_of n) y (record { call = x; held = held_of w x })
+pub record Stepped (reads : ℕ → Bool) (n : Negotiated) (w : World) (y : Ledger) (x : Call) : Type 0 where
+  pub kept : Kept reads n (after w x) (entry (policy_of n) x (seen_of (record { call = x; held = held_of w x })) y)
+  pub told : Told (policy_of n) y (record { call = x; held = held_of w x })
 
-step : (reads : ℕ → Bool) (n : Negotiated) (w : World) (r : List ℕ) (rx store : ℕ) → Holds n r rx store w → n.config.channels * (2 * cap_of n.config) ≤ rx → Distinct w → (y : Ledger) → Kept reads n w y
+pub step : (reads : ℕ → Bool) (n : Negotiated) (w : World) (r : List ℕ) (rx store : ℕ) → Holds n r rx store w → n.config.channels * (2 * cap_of n.config) ≤ rx → Distinct w → (y : Ledger) → Kept reads n w y
     → (x : Call) → ((i : ℕ) → reads i ≡ true → NoTake i x) → Stepped reads n w y x
 step reads n w r rx store h long far y k x only =
     let m = (state_of w.state).header.negotiated in
@@ -390,7 +390,7 @@ module _ (n : Negotiated) (w : World) (e : state_of w.state ≡ fresh n) where
   pub fresh-far : Distinct w
   fresh-far i j f g q = absurd (true≢false (sym f ∙ no_slot i))
 
-  fresh_kept : (reads : ℕ → Bool) → Kept reads n w clean
+  pub fresh_kept : (reads : ℕ → Bool) → Kept reads n w clean
   unfolding fresh
   fresh_kept reads =
       record {

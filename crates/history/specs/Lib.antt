@@ -1,4 +1,5 @@
 pub mod Book
+pub mod Credits
 pub mod Demand3
 pub mod LiveClose
 pub mod Never13
