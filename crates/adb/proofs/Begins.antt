@@ -4,11 +4,12 @@ use Prim.Native.Nat.{ℕ}
 use mathlib.Core.Path.{◌≡◌}
 use mathlib.Core.Bool.{Bool}
 use mathlib.Core.List.{List}
+use Rattle.call_answer.specs.Export.{MakesState, limits_of}
 use Rattle.features.specs.Features.{has_feature}
 use Rattle.call_make.specs.Make.{make_in, delayed_ack_name}
-use Rattle.adb.specs.Export.{is_yes, MakesState}
+use Rattle.adb.specs.Export.{is_yes}
 use Rattle.adb.specs.Linked.{Making}
-use Rattle.adb.specs.Promise.{limits_of, AdbMakeDoes, AdbMakeFromCnxnDoes}
+use Rattle.adb.specs.Promise.{AdbMakeDoes, AdbMakeFromCnxnDoes}
 
 module _ (state left rx store : List ℕ) (channels payload most-rx acked version most host r : ℕ) (done : r ≡ 0) where
   begun : (device : Bool) → MakesState (make_in (limits_of channels payload most-rx acked) version most (is_yes host) device state) r left → Making

@@ -8,6 +8,7 @@ use native.Mathlib.Omega.{arith}
 use lib.Dec.{ltb}
 use lib.ListN.{length}
 use borrow.Author.Tests.{ltb-false}
+use Rattle.call_answer.specs.Export.{Does, Exported, MakesState}
 use Rattle.le.specs.Le.{num_of, put, Bytes}
 use Rattle.config.specs.declared.ConnectionConfig.{ConnectionConfig}
 use Rattle.slot.proofs.Laws.{cond-true, cond-false}
@@ -26,7 +27,7 @@ use Rattle.refusal.specs.Refusal.{number_of as number_by}
 use Rattle.std.specs.Prelude.{Result, Ok, Err}
 use Rattle.history.specs.Run.{bytes_in, Call, open_call, dispatch_call, settle_call, take_call, read_call, write_call, close_call, front_taken, look_call, numbers_look, look_outcome, accept_call, reject_call, let_go_call, World, outcome, after}
 use Rattle.call_answer.specs.Answer.{numbers_of, answer_bytes, said_in}
-use Rattle.adb.specs.Export.{world_of, is_short, Exported, called, exported, Does, is_yes, MakesState}
+use Rattle.adb.specs.Export.{world_of, is_short, called, exported, is_yes}
 use Rattle.state.specs.State.{state_len}
 
 -- ---- bytes

@@ -9,6 +9,7 @@ use lib.IntN.{pos, neg_ℤ}
 use lib.ListN.{length, drop, get_or}
 use lib.Signed.{◌<ℤ◌}
 use borrow.Author.Tests.{ltb-false}
+use Rattle.call_answer.specs.Export.{Does, Exported}
 use Rattle.le.proofs.Parts.{by-test}
 use Rattle.config.specs.declared.negotiated.Negotiated.{Negotiated}
 use Rattle.config.specs.declared.negotiated.RxPolicy.{RxPolicy}
@@ -34,7 +35,7 @@ use Rattle.history.proofs.Queue.{queue-is-rusts}
 use Rattle.history.proofs.Theorem.{demand-3, no-leak}
 use Rattle.history.proofs.Told.{entry-eight, told-eight}
 use Rattle.call_answer.specs.Answer.{said_in}
-use Rattle.adb.specs.Export.{world_of, is_short, Exported, called, exported, Does, is_yes}
+use Rattle.adb.specs.Export.{world_of, is_short, called, exported, is_yes}
 use Rattle.adb.specs.Linked.{Step, left_in, held_in, event_in, Ran, Runs, leaves, events, ApartIn, None13, ReadsAt, Making, lends_by, agreed_by, policy_by, LinkedDemand3, LinkedFree, LinkedNever13, LinkedQueue, LinkedNoLeak, LinkedFloor}
 use Rattle.state.specs.State.{state_len}
 

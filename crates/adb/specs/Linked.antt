@@ -1,6 +1,7 @@
 -- Lists of calls through the exported functions, and what the theorems say of them: whatever a C program can do with them after
 -- an adb_make or adb_make_from_cnxn that answered 0, short answers included, with the state and both stores lent whole as the
 -- last call left them. Assumes nothing.
+use Rattle.call_answer.specs.Export.{Does, MakesState}
 use Rattle.std.specs.Prelude.{ℕ, ◌<◌, ◌^◌, ◌≡◌, Bool, true, List, [], ◌∷◌, map, pos, neg_ℤ, ◌<ℤ◌, length, drop, get_or}
 use Rattle.config.specs.declared.ConnectionConfig.{ConnectionConfig}
 use Rattle.config.specs.declared.negotiated.Negotiated.{Negotiated}
@@ -18,7 +19,7 @@ use Rattle.history.specs.Run.{Call, out_of, buf_of, World}
 use Rattle.history.specs.Seen.{Held, Event}
 use Rattle.history.specs.Spending.{longest}
 use Rattle.call_answer.specs.Answer.{said_in}
-use Rattle.adb.specs.Export.{world_of, exported, Does, is_yes, MakesState}
+use Rattle.adb.specs.Export.{world_of, exported, is_yes}
 
 -- ---- one call
 

@@ -1,20 +1,10 @@
 -- What each exported function promises, in the terms of `exported` and of `make_in`. Assumes nothing.
+use Rattle.call_answer.specs.Export.{Does, MakesState, channel_of, limits_of}
 use Rattle.std.specs.Prelude.{List, [], ℕ}
-use Rattle.config.specs.declared.ConnectionConfig.{ConnectionConfig}
 use Rattle.slot.specs.declared.Spending.TheVariants.{Within}
-use Rattle.table.specs.declared.ChannelId.{ChannelId}
 use Rattle.call_make.specs.Make.{make_in, make_from}
 use Rattle.history.specs.Run.{open_call, dispatch_call, settle_call, take_call, read_call, write_call, close_call, front_taken, look_call, numbers_look, accept_call, reject_call, let_go_call}
-use Rattle.adb.specs.Export.{world_of, exported, Does, is_yes, MakesState}
-
--- a channel, by its slot and its local number
-abbrev pub channel_of : ℕ → ℕ → ChannelId
-channel_of slot local = record { slot = slot; local = record { 0 = local } }
-
--- the limits, as a make gets them
-abbrev pub limits_of : ℕ → ℕ → ℕ → ℕ → ConnectionConfig
-limits_of channels payload rx acked =
-    record { channels = channels; max_payload = payload; max_rx_per_channel = rx; initial_ack_bytes = acked }
+use Rattle.adb.specs.Export.{world_of, exported, is_yes}
 
 -- what `adb_open` promises
 abbrev pub AdbOpenDoes : List ℕ → List ℕ → List ℕ → List ℕ → List ℕ → List ℕ → List ℕ → ℕ → List ℕ → List ℕ → List ℕ → List ℕ → List ℕ → Type 0

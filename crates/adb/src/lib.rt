@@ -8,13 +8,13 @@ pub mod shortest;
 
 ghost use Rattle.std.specs.Prelude.{◌≡◌, ◌≤◌, length};
 ghost use Rattle.adb.specs.Export.{is_short, is_yes};
-ghost use Rattle.adb.specs.Promise.{channel_of, limits_of, AdbMakeFromCnxnDoes};
+ghost use Rattle.adb.specs.Promise.{AdbMakeFromCnxnDoes};
 ghost use Rattle.adb.specs.Promise.{AdbCloseDoes, AdbDispatchDoes, AdbMakeDoes, AdbOpenDoes, AdbReadDoes, AdbSettleDoes, AdbTakeDoes};
 ghost use Rattle.adb.specs.Promise.{AdbTakeFrontDoes, AdbNumbersDoes, AdbWriteDoes, AdbAcceptDoes, AdbRejectDoes, AdbLetGoDoes};
 
 use c_answer::ANSWER_SHORT;
 use call_accept::accept;
-use call_answer::answered;
+use call_answer::{answered, channel_of, limits_of};
 use call_close::close;
 use call_dispatch::dispatch;
 use call_let_go::let_go;
@@ -27,28 +27,15 @@ use call_settle::settle;
 use call_take::take;
 use call_take_front::take_front;
 use call_write::write;
-use config::ConnectionConfig;
 use connection::Refusal;
 use refusal::number_of;
-use slot::ids::LocalId;
 use state::STATE_LEN;
-use table::ChannelId;
 
 #[tactic(auto, unfolding(crate::specs::Export::is_short))]
 fn is_short(state: usize, answer: usize) -> bool
     ensures { result ≡ is_short state answer }
 {
     state < STATE_LEN || answer < 48
-}
-
-// The channel that C names by its slot and its local number.
-fn channel_of(slot: usize, local: u32) -> ChannelId
-    ensures { result ≡ channel_of slot local }
-{
-    ChannelId {
-        slot,
-        local: LocalId(local),
-    }
 }
 
 // Opens a channel, or goes on with the pending open.
@@ -305,23 +292,6 @@ fn is_yes(flag: u8) -> bool
     ensures { result ≡ is_yes flag }
 {
     flag > 0
-}
-
-// The limits, as C gives them.
-fn limits_of(
-    channels: usize,
-    max_payload: u32,
-    max_rx_per_channel: usize,
-    initial_ack_bytes: u32,
-) -> ConnectionConfig
-    ensures { result ≡ limits_of channels max_payload max_rx_per_channel initial_ack_bytes }
-{
-    ConnectionConfig {
-        channels,
-        max_payload,
-        max_rx_per_channel,
-        initial_ack_bytes,
-    }
 }
 
 // A fresh connection in the state's first bytes. The device's version and maximum payload are its CNXN's; a flag is no where

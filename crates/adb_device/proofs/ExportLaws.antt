@@ -1,4 +1,5 @@
 -- What the exported functions of a device's end cite. Assumes nothing.
+use Rattle.call_answer.specs.Export.{Does, MakesState}
 use Rattle.std.proofs.Common.{◌≡◌, refl, ap, ◌∙◌, Bool, true, false, ◌||◌, List, ℕ, ◌≤◌, ltb, length, Result, Ok, Err}
 use mathlib.Core.Bool.{true≢false}
 use borrow.Author.Tests.{ltb-false}
@@ -13,7 +14,7 @@ use Rattle.device.specs.declared.DeviceReply.{DeviceReply}
 use Rattle.device.specs.Device.{device_len, Gives}
 use Rattle.device.specs.Promise.{DeviceLeaves}
 use Rattle.device.specs.Answer.{device_number}
-use Rattle.adb_device.specs.Export.{device_numbers, device_bytes, is_short, left_by_call, exported, Does, MakesState}
+use Rattle.adb_device.specs.Export.{device_numbers, device_bytes, is_short, left_by_call, exported}
 
 pub long-answer : (s a : ℕ) → is_short s a ≡ false → (device_len ≤ s) × (48 ≤ a)
 unfolding is_short

@@ -1,4 +1,5 @@
 -- What each exported function promises, in the terms of `exported`. Assumes nothing.
+use Rattle.call_answer.specs.Export.{Does, MakesState, channel_of, limits_of}
 use Rattle.std.specs.Prelude.{ℕ, List, [], length}
 use Rattle.device_dispatch.specs.Promise.{device_dispatch}
 use Rattle.device_read.specs.Promise.{device_read}
@@ -7,7 +8,7 @@ use Rattle.device_make.specs.Make.{device_made}
 use Rattle.device_settle.specs.Promise.{device_settle}
 use Rattle.device_take.specs.Promise.{device_take}
 use Rattle.device_close.specs.Promise.{device_close}
-use Rattle.adb_device.specs.Export.{channel_of, limits_of, exported, Does, MakesState}
+use Rattle.adb_device.specs.Export.{exported}
 
 -- what `adb_device_dispatch` promises
 abbrev pub AdbDeviceDispatchDoes : List ℕ → List ℕ → List ℕ → List ℕ → List ℕ → List ℕ → List ℕ → ℕ → List ℕ → List ℕ → List ℕ → List ℕ → List ℕ → Type 0

@@ -7,14 +7,13 @@ ghost use Rattle.std.specs.Prelude.{◌≡◌, ◌≤◌, length};
 ghost use Rattle.le.specs.Le.{put};
 ghost use Rattle.call_answer.specs.Answer.{said_in};
 ghost use Rattle.device.specs.Answer.{device_number, device_values};
-ghost use Rattle.adb_device.specs.Export.{device_numbers, device_bytes, is_short, channel_of, limits_of};
+ghost use Rattle.adb_device.specs.Export.{device_numbers, device_bytes, is_short};
 ghost use Rattle.adb_device.specs.Promise.{AdbDeviceDispatchDoes, AdbDeviceReadDoes, AdbDeviceWriteDoes};
 ghost use Rattle.adb_device.specs.Promise.{AdbDeviceMakeDoes, AdbDeviceSettleDoes, AdbDeviceTakeDoes, AdbDeviceCloseDoes};
 
 use c_answer::ANSWER_SHORT;
 use call::Reply;
-use call_answer::numbers_of;
-use config::ConnectionConfig;
+use call_answer::{channel_of, limits_of, numbers_of};
 use device::head::DEVICE_LEN;
 use device::{DeviceAnswer, DeviceReply};
 use device_close::close;
@@ -25,8 +24,6 @@ use device_settle::settle;
 use device_take::take;
 use device_write::write;
 use refusal::Numbered;
-use slot::ids::LocalId;
-use table::ChannelId;
 
 // An answer's number: as at the host's end; 103 for an OPEN that was taken, 104 for the host's CNXN that was answered.
 #[tactic(auto, unfolding(device::specs::Answer::device_number))]
@@ -88,16 +85,6 @@ fn is_short(state: usize, answer: usize) -> bool
     ensures { result ≡ is_short state answer }
 {
     state < DEVICE_LEN || answer < 48
-}
-
-// The stream that C names by its slot and its local number.
-fn channel_of(slot: usize, local: u32) -> ChannelId
-    ensures { result ≡ channel_of slot local }
-{
-    ChannelId {
-        slot,
-        local: LocalId(local),
-    }
 }
 
 // Takes one packet: the host's CNXN, an OPEN, or what is for a stream.
@@ -238,23 +225,6 @@ pub extern "C" fn adb_device_close(
     let ch = channel_of(slot, local);
     let reply = close(state, rx, opens, ch, out);
     answered(answer, reply)
-}
-
-// The limits, as C gives them.
-fn limits_of(
-    channels: usize,
-    max_payload: u32,
-    max_rx_per_channel: usize,
-    initial_ack_bytes: u32,
-) -> ConnectionConfig
-    ensures { result ≡ limits_of channels max_payload max_rx_per_channel initial_ack_bytes }
-{
-    ConnectionConfig {
-        channels,
-        max_payload,
-        max_rx_per_channel,
-        initial_ack_bytes,
-    }
 }
 
 // A device's end that waits for the host's CNXN, in the state's first bytes. The text is the payload of the CNXN that will answer it.

@@ -1,4 +1,5 @@
-// What a call's answer says to C: six numbers of 64 bits, used, written, then the answer's four values.
+// What C hands to a call of either end, and what the call's answer says to it: six numbers of 64 bits, used, written, then the answer's
+// four values.
 // `as u64` widens a usize: std has no From for it.
 #![tactic(auto)]
 
@@ -6,10 +7,14 @@ ghost use Rattle.std.specs.Prelude.{◌≡◌, ◌≤◌, length};
 ghost use Rattle.le.specs.Le.{put};
 ghost use Rattle.connection.specs.Answer.{answer_number, ack_length, refusal_word};
 ghost use Rattle.call_answer.specs.Answer.{numbers_of, answer_bytes, said_in};
+ghost use Rattle.call_answer.specs.Export.{channel_of, limits_of};
 
 use call::Reply;
+use config::ConnectionConfig;
 use connection::{Answer, Refusal};
 use refusal::Numbered;
+use slot::ids::LocalId;
+use table::ChannelId;
 
 #[tactic(auto, unfolding(connection::specs::Answer::ack_length))]
 fn ack_length(ack: Option<usize>) -> u64
@@ -72,4 +77,31 @@ pub fn answered(answer: &mut [u8], reply: Reply) -> u32
 {
     c_answer::put(answer, &numbers_of(reply));
     reply.answer.number()
+}
+
+// The channel that C names by its slot and its local number.
+pub fn channel_of(slot: usize, local: u32) -> ChannelId
+    ensures { result ≡ channel_of slot local }
+{
+    ChannelId {
+        slot,
+        local: LocalId(local),
+    }
+}
+
+// The limits, as C gives them.
+pub fn limits_of(
+    channels: usize,
+    max_payload: u32,
+    max_rx_per_channel: usize,
+    initial_ack_bytes: u32,
+) -> ConnectionConfig
+    ensures { result ≡ limits_of channels max_payload max_rx_per_channel initial_ack_bytes }
+{
+    ConnectionConfig {
+        channels,
+        max_payload,
+        max_rx_per_channel,
+        initial_ack_bytes,
+    }
 }

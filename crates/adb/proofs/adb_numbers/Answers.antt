@@ -1,7 +1,6 @@
+use Rattle.call_answer.specs.Export.{channel_of}
 use Rattle.adb.proofs.ExportLaws.{does-short, does_call, long-answer, numbers-is}
 use Rattle.adb.specs.Export.{world_of}
-use Rattle.adb.specs.Promise.{channel_of}
-use Rattle.adb.specs.Promise.{channel_of}
 use Rattle.history.specs.Run.{look_call, numbers_look}
 use mathlib.Core.List.{[]}
 use mathlib.Core.Path.{sym, ◌∙◌}

@@ -1,6 +1,6 @@
+use Rattle.call_answer.specs.Export.{channel_of}
 use Rattle.adb.proofs.ExportLaws.{does-short, does_call, long-answer, take-is}
 use Rattle.adb.specs.Export.{world_of}
-use Rattle.adb.specs.Promise.{channel_of}
 use Rattle.history.specs.Run.{take_call}
 use mathlib.Core.List.{[]}
 use mathlib.Core.Path.{sym, ◌∙◌}

@@ -1,6 +1,6 @@
+use Rattle.call_answer.specs.Export.{channel_of}
 use Rattle.adb.proofs.ExportLaws.{does-short, does_call, long-answer, write-is}
 use Rattle.adb.specs.Export.{world_of}
-use Rattle.adb.specs.Promise.{channel_of}
 use Rattle.history.specs.Run.{write_call}
 use Rattle.slot.specs.declared.Spending.TheVariants.{Within}
 use mathlib.Core.List.{[]}

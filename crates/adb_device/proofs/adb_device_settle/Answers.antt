@@ -1,6 +1,6 @@
+use Rattle.call_answer.specs.Export.{channel_of}
 use Rattle.std.proofs.Common.{sym, ◌∙◌, [], length}
 use Rattle.device_settle.specs.Promise.{device_settle}
-use Rattle.adb_device.specs.Export.{channel_of}
 use Rattle.adb_device.proofs.ExportLaws.{does-short, does_call, long-answer}
 use Rattle.adb_device.proofs.adb_device_settle.Goals as goal
 
