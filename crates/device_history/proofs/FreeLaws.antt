@@ -79,7 +79,7 @@ unfolding given_by
 taken-given out remote credit u k e = ap (λ (m : ℕ). cond (eqb m 0) 1 0) e
 
 -- a number is 103
-abbrev is_taken : DeviceAnswer → ℕ
+abbrev pub is_taken : DeviceAnswer → ℕ
 is_taken a = cond (eqb (device_number a) 103) 1 0
 
 module _ (n : Negotiated) (r : List ℕ) (rx store : ℕ) (v : World) (h : Holds n r rx store v) (x : DeviceCall) (hand : List ℕ) where
@@ -149,12 +149,12 @@ module _ (n : Negotiated) (r : List ℕ) (rx store : ℕ) (v : World) (h : Holds
 
 -- ---- a list of calls
 
-given-append : (es fs : List Event) → given_in (es ++ fs) ≡ given_in es + given_in fs
+pub given-append : (es fs : List Event) → given_in (es ++ fs) ≡ given_in es + given_in fs
 unfolding given_in
 given-append [] fs = omega arith
 given-append (e ∷ es) fs = let i = given-append es fs in omega arith
 
-abbrev given_so : Story → ℕ
+abbrev pub given_so : Story → ℕ
 given_so s = given_in (events_of (begins_at s.from) s.calls)
 
 module _ (rx store : ℕ) where
@@ -176,7 +176,11 @@ module _ (rx store : ℕ) where
   part-given s w k x g stays d i = omega arith
   part-given s w k x g (anew j) d i = omega arith
 
-  list-given : (s : Story) (w : DeviceWorld) → Keeps rx store s w → (xs : List DeviceCall) → given_so (told_on s w xs) ≤ given_so s + taken_in (device_events w xs)
+  -- a call more
+  pub one-given : (s : Story) (w : DeviceWorld) → Keeps rx store s w → (x : DeviceCall) → given_so (joined s (connection w) (part_of w x)) ≤ given_so s + is_taken (gives w x).answer
+  one-given s w k x = part-given s w k x (gives w x) (part_of w x) (does w k.fine x) (hosts w x)
+
+  pub list-given : (s : Story) (w : DeviceWorld) → Keeps rx store s w → (xs : List DeviceCall) → given_so (told_on s w xs) ≤ given_so s + taken_in (device_events w xs)
   unfolding told_on device_events taken_in device_seen
   list-given s w k [] = omega arith
   list-given s w k (x ∷ xs) =

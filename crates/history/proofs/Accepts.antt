@@ -1,11 +1,13 @@
 -- The slot that an accept fills, beside its new book. Assumes nothing.
-use mathlib.Core.Path.{◌≡◌, refl, ap, subst, ◌∙◌}
-use mathlib.Core.Bool.{Bool, true, false, cond}
+use mathlib.Core.Path.{◌≡◌, refl, sym, ap, subst, ◌∙◌}
+use mathlib.Core.Bool.{Bool, true, false, cond, not, true≢false}
 use mathlib.Core.List.{List, [], ◌∷◌, map}
 use Prim.Native.Nat.{ℕ, ◌^◌, ◌<◌}
+use native.Mathlib.Omega.{arith}
 use lib.Dec.{eqb, ltb}
 use lib.ListN.{length, set}
 use borrow.Author.Tests.{ltb-true}
+use Rattle.le.proofs.Parts.{by-test}
 use Rattle.config.specs.declared.negotiated.Negotiated.{Negotiated}
 use Rattle.config.specs.declared.negotiated.RxPolicy.{RxPolicy}
 use Rattle.config.specs.Config.{stores_fit}
@@ -15,11 +17,13 @@ use Rattle.slot.specs.declared.ids.ChannelIds.{ChannelIds}
 use Rattle.slot.specs.declared.ids.RemoteId.{RemoteId}
 use Rattle.slot.specs.Slot.{accepted_slot, opening_slot, is_closed}
 use Rattle.slot.proofs.Kept.{pick}
+use Rattle.slot.proofs.Laws.{cond-true, cond-false}
+use Rattle.table_dispatch.proofs.KeepLaws.{place_found}
 use Rattle.state.specs.declared.Header.{Header}
 use Rattle.state.specs.Change.{changed_all}
 use Rattle.table.specs.declared.ChannelId.{ChannelId}
 use Rattle.table.specs.declared.Want.TheVariants.{Empty}
-use Rattle.table.specs.Table.{place_of, allocated, numbered}
+use Rattle.table.specs.Table.{place_of, slot_in, wanted_by, allocated, numbered}
 use Rattle.connection.specs.declared.Answer.TheVariants.{Opened}
 use Rattle.connection.specs.declared.Refusal.TheVariants.{StoreShort, OutShort, BrokenState}
 use Rattle.connection.specs.Answer.{answer_number}
@@ -52,6 +56,35 @@ allocated-below h ss ch e = (subst (Allotted h) e (allotted-by h ss)).0
 
 pub allocated-local : (h : Header) (ss : List ChannelSlot) (ch : ChannelId) → allocated h ss ≡ Ok ch → ch.local.0 ≡ h.next_local
 allocated-local h ss ch e = (subst (Allotted h) e (allotted-by h ss)).1
+
+-- so the place is one of the table's
+pub allocated-inside : (p : RxPolicy) (h : Header) (ss : List ChannelSlot) (rx : List ℕ) → TableOk p h.negotiated.config.channels ss rx → (ch : ChannelId)
+    → allocated h ss ≡ Ok ch → ch.slot < length ss
+allocated-inside p h ss rx ok ch e = let a = allocated-below h ss ch e in let m = ok.most in let z = ok.size in omega arith
+
+abbrev slot-named : Result ChannelId NoFreeChannels → ℕ
+slot-named (Ok ch) = ch.slot
+slot-named (Err e) = 0
+
+abbrev is-named : Result ChannelId NoFreeChannels → Bool
+is-named (Ok ch) = true
+is-named (Err e) = false
+
+-- and it is empty
+pub allocated-vacant : (p : RxPolicy) (h : Header) (ss : List ChannelSlot) (rx : List ℕ) → TableOk p h.negotiated.config.channels ss rx → (ch : ChannelId)
+    → allocated h ss ≡ Ok ch → (slot_in ss ch.slot).filled ≡ false
+unfolding allocated wanted_by
+allocated-vacant p h ss rx ok ch e =
+    let n = h.negotiated.config.channels in
+    let f = place_of Empty n ss in
+    let z = ok.size in
+    let m = ok.most in
+    by-test (ltb f n)
+    (λ t. let q : f ≡ ch.slot = ap slot-named (sym (cond-true (ltb f n) _ _ t) ∙ e) in
+    let w = place_found Empty n ss (omega arith) (ltb-true f n t) in
+    let u : not (slot_in ss ch.slot).filled ≡ true = ap (λ (x : ℕ). not (slot_in ss x).filled) (sym q) ∙ w in
+    by-test (slot_in ss ch.slot).filled (λ d. absurd (true≢false (sym u ∙ ap not d))) (λ d. d))
+    (λ t. absurd (true≢false (sym (ap is-named (sym (cond-false (ltb f n) _ _ t) ∙ e)))))
 
 -- the two numbers of a channel that is accepted
 abbrev pub taken_ids : ChannelId → RemoteId → ChannelIds

@@ -72,12 +72,13 @@ above-less m b (suc x) h k =
 pub above-spent : (m b n : ℕ) → 0 < b → n ≤ m → Above m (clamp (pos b -ℤ pos (min n 9223372036854775807)))
 above-spent m b n h k = above-less m b (min n 9223372036854775807) h (omega arith)
 
-diff-pos : (a s : ℕ) → s ≤ a → pos a -ℤ pos s ≡ pos (a - s)
+-- a difference, by its sign
+pub diff-pos : (a s : ℕ) → s ≤ a → pos a -ℤ pos s ≡ pos (a - s)
 diff-pos a zero h = ap pos (omega arith)
 diff-pos a (suc s) h =
     pick (λ (y : ℤ). y ≡ pos (a - suc s)) (ltb a (suc s)) (λ t. let z = ltb-true a (suc s) t in absurd (omega arith)) (λ t. ap pos (omega arith))
 
-diff-neg : (a s : ℕ) → a < s → pos a -ℤ pos s ≡ negsuc (s - suc a)
+pub diff-neg : (a s : ℕ) → a < s → pos a -ℤ pos s ≡ negsuc (s - suc a)
 diff-neg a zero h = absurd (omega arith)
 diff-neg a (suc s) h =
     pick (λ (y : ℤ). y ≡ negsuc (suc s - suc a)) (ltb a (suc s)) (λ t. ap negsuc (omega arith)) (λ t. let z = ltb-false a (suc s) t in absurd (omega arith))

@@ -47,7 +47,7 @@ use Rattle.history.specs.Seen.{held_of, Seen, seen_of, events_of}
 use Rattle.history.specs.Book.{Ledger, clean, credit_in, payload_at, book_at, entry}
 use Rattle.history.specs.Demand3.{Distinct, Apart}
 use Rattle.history.specs.Credits.{Credit, no_credit, added_in, fills_at, begun_by, moved, credit_after, credits_of, Budgets}
-use Rattle.history.proofs.Accepts.{allocated-below}
+use Rattle.history.proofs.Accepts.{allocated-inside}
 use Rattle.history.proofs.Budgets.{AtLeast0, credit-least}
 use Rattle.history.proofs.Credits.{writes_in, heard-writes, credit-reads, goes, idle, dispatch-goes, settle-goes, take-goes, close-goes, front-goes, accept-goes, reject-goes, verdict-goes, let-go-goes, open-goes, read-goes, write-goes}
 use Rattle.history.proofs.Heard.{heard_of}
@@ -126,13 +126,6 @@ module _ (l : Lent) (ok : TableOk (policy l) l.state.header.negotiated.config.ch
 
   -- ---- verdicts
 
-  allotted : (ch : ChannelId) → allocated l.state.header ss ≡ Ok ch → ch.slot < length ss
-  allotted ch e =
-      let a = allocated-below l.state.header ss ch e in
-      let m = ok.most in
-      let z = ok.size in
-      omega arith
-
   abbrev granting : ChannelId → RemoteId → ℕ → Outcome
   granting ch remote credit =
       ends (then (begun (numbered h0) l) (slot_to ch.slot (accepted_slot (record { local = ch.local; remote = remote }) credit (policy l)) ∷ []) (okay_frame (record { local = ch.local; remote = remote }) (offered_credit l.state.header.negotiated) ∷ [])) (Opened ch) 0 []
@@ -145,7 +138,7 @@ module _ (l : Lent) (ok : TableOk (policy l) l.state.header.negotiated.config.ch
   unfolding begun_by ends answer_number answer_values
   granted-accept out remote credit ch e fs =
       let o = saw_of (granting ch remote credit) fs in
-      stored-at ch.slot (accepted_slot (record { local = ch.local; remote = remote }) credit (policy l)) (begun_by i (accept_call out) o k) (allotted ch e)
+      stored-at ch.slot (accepted_slot (record { local = ch.local; remote = remote }) credit (policy l)) (begun_by i (accept_call out) o k) (allocated-inside (policy l) l.state.header ss l.rx ok ch e)
       (λ q t. absurd (true≢false (sym t ∙ ap (λ (m : Credit). m.told) (cond-true (fills_at i o) no_credit k (filled-at ch.slot o refl refl q)))))
 
   granted-verdict : (out : List ℕ) (given remote : RemoteId) (credit : ℕ) (ch : ChannelId) → allocated l.state.header ss ≡ Ok ch → begins-as (verdict_call out true given credit) (granting ch remote (word_in credit))
@@ -154,7 +147,7 @@ module _ (l : Lent) (ok : TableOk (policy l) l.state.header.negotiated.config.ch
       let o = saw_of (granting ch remote (word_in credit)) fs in
       let m : Credit = record { told = true; opening = word_in credit; added = 0; sent = 0 } in
       let a : word_in credit ≡ word_in credit + 0 + 0 = omega arith in
-      stored-at ch.slot (accepted_slot (record { local = ch.local; remote = remote }) (word_in credit) (policy l)) (begun_by i (verdict_call out true given credit) o k) (allotted ch e)
+      stored-at ch.slot (accepted_slot (record { local = ch.local; remote = remote }) (word_in credit) (policy l)) (begun_by i (verdict_call out true given credit) o k) (allocated-inside (policy l) l.state.header ss l.rx ok ch e)
       (λ q t. subst (λ (y : Credit). (accepted_slot (record { local = ch.local; remote = remote }) (word_in credit) (policy l)).send_budget ≡ pos (y.opening + y.added) -ℤ pos y.sent)
       (sym (cond-true (fills_at i o) m k (filled-at ch.slot o refl refl q)))
       (accepted-budget (record { local = ch.local; remote = remote }) (word_in credit) ∙ ap pos a))
@@ -322,11 +315,11 @@ module _ (w : World) (ok : TableOk (policy (lent w)) (lent w).state.header.negot
 -- ---- what is kept between calls
 
 -- the budget is the book's, while its sums are of 63 bits
-abbrev Sound : List ChannelSlot → ℕ → Credit → Type 0
+abbrev pub Sound : List ChannelSlot → ℕ → Credit → Type 0
 Sound ts i k =
     (slot_in ts i).filled ≡ true → k.told ≡ true → k.opening + k.added < 2 ^ 63 → k.sent < 2 ^ 63 → (slot_in ts i).send_budget ≡ pos (k.opening + k.added) -ℤ pos k.sent
 
-abbrev none-read : ℕ → Bool
+abbrev pub none-read : ℕ → Bool
 none-read i = false
 
 module _ (w : World) (r : List ℕ) (rx store : ℕ) where
@@ -394,7 +387,7 @@ module _ (w : World) (r : List ℕ) (rx store : ℕ) where
 -- ---- lists of calls
 
 module _ (n : Negotiated) (r : List ℕ) (rx store : ℕ) (long : n.config.channels * (2 * cap_of n.config) ≤ rx) (delayed : (policy_of n).delayed ≡ true) (i : ℕ) where
-  sound-step : (w : World) → Holds n r rx store w → Distinct w → (y : Ledger) → Kept none-read n w y → (k : Credit) → Sound (state_of w.state).slots i k → (x : Call) → Distinct (after w x)
+  pub sound-step : (w : World) → Holds n r rx store w → Distinct w → (y : Ledger) → Kept none-read n w y → (k : Credit) → Sound (state_of w.state).slots i k → (x : Call) → Distinct (after w x)
       → Sound (state_of (after w x).state).slots i (credit_after i x (seen_of (record { call = x; held = held_of w x })) (book_at y i) k)
   sound-step w h far y kept k sound x next =
       let m = (state_of w.state).header.negotiated in

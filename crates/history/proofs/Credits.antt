@@ -54,25 +54,23 @@ use Rattle.slot.specs.declared.ChannelError.{ChannelError}
 use Rattle.slot.specs.declared.Settled.{Settled}
 use Rattle.slot.specs.declared.Spending.{Spending}
 use Rattle.slot.specs.Ids.{closed_by}
-use Rattle.slot.proofs.Kept.{settled-sound}
 use Rattle.slot.proofs.Stays.{settled-stays, settled-state}
 use Rattle.state.specs.Change.{changed_all}
 use Rattle.connection.proofs.Slots.{slots-by, slots_length}
 use Rattle.history.proofs.Marks.{Mark, there-filled, tame-act, tame-at}
-use Rattle.history.proofs.Steps.{unless-is, settled-run, table-set}
+use Rattle.history.proofs.Steps.{unless-is, settled-run, table-settled}
 use lib.Seq.{length-take-le}
 use Rattle.slot.specs.Slot.{empty_slot, emptied_slot, closed_slot, opening_slot, is_closed, opened_by, opened_of, settled_of, has_data, take_len, took_of, taken_of, error_of, delivered_of, leave_of, spent_of}
 use Rattle.state.specs.State.{is_ours}
 use Rattle.table.specs.declared.ChannelId.{ChannelId}
 use Rattle.table.specs.declared.NoFreeChannels.{NoFreeChannels as NoFree}
-use Rattle.table.specs.declared.Want.TheVariants.{Empty}
-use Rattle.table.specs.Table.{wanted_by, numbered, allocated}
-use Rattle.table_dispatch.proofs.KeepLaws.{place_found}
+use Rattle.table.specs.Table.{numbered, allocated}
 use Rattle.connection.specs.declared.Answer.TheVariants.{Done, Waiting, Read, Written, Refused}
 use Rattle.connection.specs.declared.Refusal.TheVariants.{OutShort, ChannelClosed}
 use Rattle.connection.specs.Calls.{Lent, Outcome, Work, begun, then, then_acted, ends, looked, dropped, pending_for, policy, ids_in, is_there, slot_for, ack_frames, fault_refusal, unless_fault, received_of, body_of, frame_len, dispatch_by, dispatch_step, settled_as, settle_step, taken_by, take_step, close_step, take_front_by, take_front_step, open_on, still_pending, open_readied, open_acted, open_by, open_step, offer_in, is_offered, reject_on, accept_on, accept_step, reject_step, verdict_step, let_go_step, error_refusal, reread, read_settled, read_acted, is_direct, read_direct, read_by, read_taken, read_first, read_step, send_len, send_some, send_by, send_again, write_readied, write_acted, write_act, write_by, write_first, write_on, write_step}
 use Rattle.connection.proofs.Slots.{slots_by, slots-append, slot-set-same, slot-set-other}
 use Rattle.history.specs.Book.{header_at, payload_at}
+use Rattle.history.proofs.Accepts.{allocated-vacant}
 use Rattle.history.proofs.Budgets.{exact-more, exact-less, AtLeast0, credit-least, SameBudget, closed-budget, delivered-budget, settled-budget, other-budget, touches_of}
 use Rattle.history.proofs.Opens.{and-false}
 use Rattle.history.proofs.Packets.{Stops, Got, stopped, packet, got, set_same, ready-no-write, reads-arg1, reads-payload}
@@ -122,7 +120,7 @@ heard-writes n l (close_frame ids ∷ fs) = let e = heard-writes n l fs in omega
 heard-writes n l (open_frame local credit destination ∷ fs) = let e = heard-writes n l fs in omega arith
 heard-writes n l (write_frame ids bytes ∷ fs) = ap (λ (x : ℕ). cond (eqb ids.local.0 l) (length bytes) 0 + x) (heard-writes n l fs)
 
-writes-append : (l : ℕ) (xs ys : List Frame) → writes_in l (xs ++ ys) ≡ writes_in l xs + writes_in l ys
+pub writes-append : (l : ℕ) (xs ys : List Frame) → writes_in l (xs ++ ys) ≡ writes_in l xs + writes_in l ys
 writes-append l [] ys = omega arith
 writes-append l (okay_frame ids n ∷ fs) ys = writes-append l fs ys
 writes-append l (close_frame ids ∷ fs) ys = writes-append l fs ys
@@ -143,24 +141,29 @@ is-read (Err f) = false
 not-read : (f : CreditFault) (z : ℤ) → Err f ≡ Ok z → ⊥
 not-read f z e = true≢false (sym (ap is-read e))
 
-reads-signed : (n c : ℕ) → at_least_zero (signed 31 n) ≡ Ok (pos c) → n ≡ c
+reads-signed : (n c : ℕ) → at_least_zero (signed 31 n) ≡ Ok (pos c) → (n ≡ c) × (c < 2 ^ 31)
 unfolding at_least_zero signed
 reads-signed n c =
-    pick (λ (z : ℤ). at_least_zero z ≡ Ok (pos c) → n ≡ c) (ltb n (2 ^ 31)) (λ t e. ap credit-read e) (λ t e. absurd (not-read Negative (pos c) e))
+    pick (λ (z : ℤ). at_least_zero z ≡ Ok (pos c) → (n ≡ c) × (c < 2 ^ 31)) (ltb n (2 ^ 31))
+    (λ t e. let q : n ≡ c = ap credit-read e in let h = ltb-true n (2 ^ 31) t in (q, omega arith)) (λ t e. absurd (not-read Negative (pos c) e))
 
-pub credit-reads : (payload : List ℕ) (c : ℕ) → credit_of payload ≡ Ok (pos c) → credit_in payload ≡ c
+-- a credit that reads is the payload's number, of 31 bits
+pub credit-whole : (payload : List ℕ) (c : ℕ) → credit_of payload ≡ Ok (pos c) → (credit_in payload ≡ c) × (c < 2 ^ 31)
 unfolding credit_of credit_in
-credit-reads payload c e =
+credit-whole payload c e =
     let n = num_of (part payload 0 4) in
     let short = ltb (length payload) 4 in
     let long = ltb 4 (length payload) in
     by-test short
     (λ t. absurd (not-read Short (pos c) (sym (cond-true short _ _ t) ∙ e)))
     (λ t. let f = sym (cond-false short _ _ t) ∙ e in
-    cond-false short 0 n t
-    ∙ by-test long (λ u. absurd (not-read Long (pos c) (sym (cond-true long _ _ u) ∙ f))) (λ u. reads-signed n c (sym (cond-false long _ _ u) ∙ f)))
+    by-test long (λ u. absurd (not-read Long (pos c) (sym (cond-true long _ _ u) ∙ f)))
+    (λ u. let z = reads-signed n c (sym (cond-false long _ _ u) ∙ f) in (cond-false short 0 n t ∙ z.0, z.1)))
 
-word-ready : (c : Command) → eqb (word_of c) (word_of Ready) ≡ is_ready c
+pub credit-reads : (payload : List ℕ) (c : ℕ) → credit_of payload ≡ Ok (pos c) → credit_in payload ≡ c
+credit-reads payload c e = (credit-whole payload c e).0
+
+pub word-ready : (c : Command) → eqb (word_of c) (word_of Ready) ≡ is_ready c
 unfolding word_of letters_of num_of is_ready is_the
 word-ready Sync = refl
 word-ready Connect = refl
@@ -189,10 +192,10 @@ no-ready-close : (c : Command) → is_close c ≡ true → is_ready c ≡ false
 no-ready-close c e = by-test (is_ready c) (λ t. absurd (true≢false (sym e ∙ (ready-no-write c t).1))) (λ t. t)
 
 -- what a packet adds to a channel, by the answer's number
-abbrev adds : ℕ → Bool → List ℕ → ℕ
+abbrev pub adds : ℕ → Bool → List ℕ → ℕ
 adds number own payload = cond (is_lost number) 0 (cond own (credit_in payload) 0)
 
-adds-packet : (received : List ℕ) (limit : ℕ) (k : Packet) → Says received limit k → (number l : ℕ)
+pub adds-packet : (received : List ℕ) (limit : ℕ) (k : Packet) → Says received limit k → (number l : ℕ)
     → added_in received number (frame_len k) l ≡ adds number (is_ready k.command && eqb k.arg1 l) (body_of received k)
 unfolding added_in
 adds-packet received limit k sy number l =
@@ -202,7 +205,8 @@ adds-packet received limit k sy number l =
     ∙ ap (λ (x : ℕ). cond (is_lost number) 0 (cond (is_ready k.command && eqb x l) (credit_in (payload_at received (frame_len k))) 0)) (reads-arg1 received limit k sy)
     ∙ ap (λ (x : List ℕ). cond (is_lost number) 0 (cond (is_ready k.command && eqb k.arg1 l) (credit_in x) 0)) (reads-payload received limit k sy)
 
-adds-unused : (received : List ℕ) (number l : ℕ) → added_in received number 0 l ≡ 0
+-- no bytes add none
+pub adds-unused : (received : List ℕ) (number l : ℕ) → added_in received number 0 l ≡ 0
 unfolding added_in
 adds-unused received number l = refl
 
@@ -331,14 +335,6 @@ no-fault (Some f) = false
 cond-first : (x y : Bool) → cond x y false ≡ true → x ≡ true
 cond-first true y e = refl
 cond-first false y e = e
-
-abbrev slot-named : Result ChannelId NoFree → ℕ
-slot-named (Ok c) = c.slot
-slot-named (Err b) = 0
-
-abbrev is-named : Result ChannelId NoFree → Bool
-is-named (Ok c) = true
-is-named (Err b) = false
 
 -- ---- the calls, beside a channel that is there
 
@@ -528,17 +524,8 @@ module _ (l : Lent) (ok : TableOk (policy l) l.state.header.negotiated.config.ch
 
   -- the place that is filled is empty before
   allocated-empty : (ch : ChannelId) → allocated l.state.header ss ≡ Ok ch → i ≡ ch.slot → ⊥
-  unfolding allocated wanted_by
   allocated-empty ch e q =
-      let n = l.state.header.negotiated.config.channels in
-      let f = place_of Empty n ss in
-      let z = ok.size in
-      let m = ok.most in
-      by-test (ltb f n)
-      (λ t. let g : f ≡ ch.slot = ap slot-named (sym (cond-true (ltb f n) _ _ t) ∙ e) in
-      let w = place_found Empty n ss (omega arith) (ltb-true f n t) in
-      true≢false (sym w ∙ ap not (ap (λ (x : ℕ). (slot_in ss x).filled) (g ∙ sym q) ∙ there)))
-      (λ t. true≢false (sym (ap is-named (sym (cond-false (ltb f n) _ _ t) ∙ e))))
+      true≢false (sym there ∙ ap (λ (x : ℕ). (slot_in ss x).filled) q ∙ allocated-vacant (policy l) l.state.header ss l.rx ok ch e)
 
   accept-goes-on : (remote : RemoteId) (credit : ℕ) (r : Result ChannelId NoFree) → allocated l.state.header ss ≡ r → goes [] (accept_on l h0 remote credit r)
   unfolding accept_on ends
@@ -679,7 +666,7 @@ module _ (l : Lent) (ok : TableOk (policy l) l.state.header.negotiated.config.ch
     last_unused t a handed b = last_goes t [] a 0 handed b refl (adds-unused received (answer_number a) own_local)
 
     ok1 : TableOk (policy l) l.state.header.negotiated.config.channels ts l.rx
-    ok1 = table-set (policy l) l.state.header.negotiated.config.channels ss l.rx j r1.slot ok filled (settled-stays (slot_in ss j) (policy l) room) (settled-sound (slot_in ss j) (policy l) room (policy l).rx_cap (ok.sound j filled))
+    ok1 = table-settled (policy l) l.state.header.negotiated.config.channels ss l.rx j room ok filled
 
     stays1 : SameBudget (slot_in ss i) (slot_in ts i)
     stays1 = set_same (λ (s : ChannelSlot). s.send_budget) ss j i r1.slot same1

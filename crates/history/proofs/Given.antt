@@ -56,31 +56,33 @@ open_told : is_open Open ≡ true
 unfolding is_open is_the word_of letters_of num_of
 open_told = refl
 
--- ---- the numbers given out: 1 to k, at most g
+-- ---- the numbers given out: 1 to k, at most g, and at least b
 
-record Given (g : ℕ) (c : Connection) : Type 0 where
-  k : ℕ
-  le : k ≤ g
-  below : (i : ℕ) → (slot_in c.slots i).filled ≡ true → (slot_in c.slots i).local.0 ≤ k
-  pending-open : is_ours c.header.pending.what ≡ true → c.header.pending.local.0 ≤ k
+pub record Given (b g : ℕ) (c : Connection) : Type 0 where
+  pub k : ℕ
+  pub least : b ≤ k
+  pub le : k ≤ g
+  pub below : (i : ℕ) → (slot_in c.slots i).filled ≡ true → (slot_in c.slots i).local.0 ≤ k
+  pub pending-open : is_ours c.header.pending.what ≡ true → c.header.pending.local.0 ≤ k
   -- the number of the pending open is no channel's
-  away : is_ours c.header.pending.what ≡ true → (i : ℕ) → (slot_in c.slots i).filled ≡ true → (slot_in c.slots i).local.0 ≡ c.header.pending.local.0 → ⊥
-  apart : (i j : ℕ) → (slot_in c.slots i).filled ≡ true → (slot_in c.slots j).filled ≡ true → (slot_in c.slots i).local.0 ≡ (slot_in c.slots j).local.0 → i ≡ j
-  next : k < 2 ^ 32 - 1 → c.header.next_local ≡ suc k
+  pub away : is_ours c.header.pending.what ≡ true → (i : ℕ) → (slot_in c.slots i).filled ≡ true → (slot_in c.slots i).local.0 ≡ c.header.pending.local.0 → ⊥
+  pub apart : (i j : ℕ) → (slot_in c.slots i).filled ≡ true → (slot_in c.slots j).filled ≡ true → (slot_in c.slots i).local.0 ≡ (slot_in c.slots j).local.0 → i ≡ j
+  pub next : k < 2 ^ 32 - 1 → c.header.next_local ≡ suc k
 
 -- a slot that is filled was so before, with the same number
 unfoldable Shrinks : List ChannelSlot → List ChannelSlot → Type 0
 Shrinks ss ts = (i : ℕ) → (slot_in ts i).filled ≡ true → ((slot_in ss i).filled ≡ true) × ((slot_in ts i).local.0 ≡ (slot_in ss i).local.0)
 
 -- no number is given out
-given-keeps : (g g' : ℕ) (c d : Connection) → g ≤ g' → Shrinks c.slots d.slots → d.header.next_local ≡ c.header.next_local → (is_ours d.header.pending.what ≡ true → d.header.pending ≡ c.header.pending)
-    → Given g c → Given g' d
+given-keeps : (b g g' : ℕ) (c d : Connection) → g ≤ g' → Shrinks c.slots d.slots → d.header.next_local ≡ c.header.next_local → (is_ours d.header.pending.what ≡ true → d.header.pending ≡ c.header.pending)
+    → Given b g c → Given b g' d
 unfolding Shrinks
-given-keeps g g' c d h sh en ew v =
+given-keeps b g g' c d h sh en ew v =
     let on : is_ours d.header.pending.what ≡ true → is_ours c.header.pending.what ≡ true = λ t. sym (ap (λ x. is_ours x.what) (ew t)) ∙ t in
     let wl : is_ours d.header.pending.what ≡ true → d.header.pending.local.0 ≡ c.header.pending.local.0 = λ t. ap (λ x. x.local.0) (ew t) in
     record {
       k = v.k;
+      least = v.least;
       le = let a = v.le in omega arith;
       below = λ i f. let s = sh i f in subst (λ (x : ℕ). x ≤ v.k) (sym s.1) (v.below i s.0);
       pending-open = λ t. subst (λ (x : ℕ). x ≤ v.k) (sym (wl t)) (v.pending-open (on t));
@@ -90,15 +92,16 @@ given-keeps g g' c d h sh en ew v =
     }
 
 -- the next number is given out, to the pending open or to none
-given-next : (g : ℕ) (c d : Connection) → suc g < 2 ^ 32 → Shrinks c.slots d.slots → d.header.next_local ≡ next_local_id c.header.next_local
-    → (is_ours d.header.pending.what ≡ true → d.header.pending.local.0 ≡ c.header.next_local) → Given g c → Given (suc g) d
+given-next : (b g : ℕ) (c d : Connection) → suc g < 2 ^ 32 → Shrinks c.slots d.slots → d.header.next_local ≡ next_local_id c.header.next_local
+    → (is_ours d.header.pending.what ≡ true → d.header.pending.local.0 ≡ c.header.next_local) → Given b g c → Given b (suc g) d
 unfolding Shrinks next_local_id
-given-next g c d small sh en ew v =
+given-next b g c d small sh en ew v =
     let a = v.le in
     let e : c.header.next_local ≡ suc v.k = v.next (omega arith) in
     let w : is_ours d.header.pending.what ≡ true → d.header.pending.local.0 ≡ suc v.k = λ t. ew t ∙ e in
     record {
       k = suc v.k;
+      least = let z = v.least in omega arith;
       le = omega arith;
       below = λ i f. let s = sh i f in let b = v.below i s.0 in let q = s.1 in omega arith;
       pending-open = λ t. let q = w t in omega arith;
@@ -108,10 +111,10 @@ given-next g c d small sh en ew v =
     }
 
 -- the next number is given out to a slot that is filled with it, and nothing is pending
-given-takes : (g : ℕ) (c d : Connection) (j : ℕ) (t : ChannelSlot) → suc g < 2 ^ 32 → j < length c.slots → d.slots ≡ set c.slots j t → t.local.0 ≡ c.header.next_local
-    → d.header.next_local ≡ next_local_id c.header.next_local → is_ours d.header.pending.what ≡ false → Given g c → Given (suc g) d
+given-takes : (b g : ℕ) (c d : Connection) (j : ℕ) (t : ChannelSlot) → suc g < 2 ^ 32 → j < length c.slots → d.slots ≡ set c.slots j t → t.local.0 ≡ c.header.next_local
+    → d.header.next_local ≡ next_local_id c.header.next_local → is_ours d.header.pending.what ≡ false → Given b g c → Given b (suc g) d
 unfolding next_local_id
-given-takes g c d j t small inside es el en off v =
+given-takes b g c d j t small inside es el en off v =
     let a = v.le in
     let e : c.header.next_local ≡ suc v.k = v.next (omega arith) in
     let own : (i : ℕ) → i ≡ j → (slot_in d.slots i).local.0 ≡ suc v.k =
@@ -122,6 +125,7 @@ given-takes g c d j t small inside es el en off v =
     let low : (i : ℕ) → (i ≡ j → ⊥) → (slot_in d.slots i).filled ≡ true → (slot_in d.slots i).local.0 ≤ v.k = λ i q f. subst (λ (x : ℕ). x ≤ v.k) (sym (same i q)) (v.below i (was i q f)) in
     record {
       k = suc v.k;
+      least = let z = v.least in omega arith;
       le = omega arith;
       below = λ i f. by-test (eqb i j) (λ u. let q = own i (eqb-true i j u) in omega arith) (λ u. let q = low i (eqb-false i j u) f in omega arith);
       pending-open = λ w. absurd (true≢false (sym w ∙ off));
@@ -137,9 +141,9 @@ given-takes g c d j t small inside es el en off v =
     }
 
 -- the pending open fills its slot, and is pending no more
-given-fills : (g g' : ℕ) (c d : Connection) (j : ℕ) (t : ChannelSlot) → g ≤ g' → j < length c.slots → d.slots ≡ set c.slots j t → t.local.0 ≡ c.header.pending.local.0
-    → d.header.next_local ≡ c.header.next_local → is_ours c.header.pending.what ≡ true → is_ours d.header.pending.what ≡ false → Given g c → Given g' d
-given-fills g g' c d j t h inside es el en on off v =
+given-fills : (b g g' : ℕ) (c d : Connection) (j : ℕ) (t : ChannelSlot) → g ≤ g' → j < length c.slots → d.slots ≡ set c.slots j t → t.local.0 ≡ c.header.pending.local.0
+    → d.header.next_local ≡ c.header.next_local → is_ours c.header.pending.what ≡ true → is_ours d.header.pending.what ≡ false → Given b g c → Given b g' d
+given-fills b g g' c d j t h inside es el en on off v =
     let at : (i : ℕ) → i ≡ j → slot_in d.slots i ≡ t = λ i e. ap (λ (x : List ChannelSlot). slot_in x i) es ∙ ap (slot_in (set c.slots j t)) e ∙ slot-set-same c.slots j t inside in
     let far : (i : ℕ) → (i ≡ j → ⊥) → slot_in d.slots i ≡ slot_in c.slots i = λ i e. ap (λ (x : List ChannelSlot). slot_in x i) es ∙ slot-set-other c.slots j i t e in
     let own : (i : ℕ) → i ≡ j → (slot_in d.slots i).local.0 ≡ c.header.pending.local.0 = λ i e. ap (λ (x : ChannelSlot). x.local.0) (at i e) ∙ el in
@@ -147,6 +151,7 @@ given-fills g g' c d j t h inside es el en on off v =
     let same : (i : ℕ) → (i ≡ j → ⊥) → (slot_in d.slots i).local.0 ≡ (slot_in c.slots i).local.0 = λ i e. ap (λ (x : ChannelSlot). x.local.0) (far i e) in
     record {
       k = v.k;
+      least = v.least;
       le = let a = v.le in omega arith;
       below = λ i f.
           by-test (eqb i j) (λ u. subst (λ (x : ℕ). x ≤ v.k) (sym (own i (eqb-true i j u))) (v.pending-open on))
@@ -200,7 +205,7 @@ module _ (w : World) (r : List ℕ) (rx store : ℕ) where
   abbrev l : Lent
   l = lent w
 
-  module _ (h : Holds m r rx store w) (long : m.config.channels * (2 * cap_of m.config) ≤ length w.rx) (g : ℕ) (v : Given g c) where
+  module _ (h : Holds m r rx store w) (long : m.config.channels * (2 * cap_of m.config) ≤ length w.rx) (b g : ℕ) (v : Given b g c) where
     ok : TableOk (policy_of m) m.config.channels c.slots w.rx
     ok = table (λ i. false) w r rx store h long v.apart
 
@@ -222,7 +227,7 @@ module _ (w : World) (r : List ℕ) (rx store : ℕ) where
     unfolding close_step ends emptied_slot empty_slot
     close-shrinks ch = pick S (is_there l ch && (slot_for l ch).has_remote) (λ t. empty-shrinks c.slots ch.slot (emptied_slot (slot_for l ch)) refl) (λ t. none-shrinks)
 
-    opens-out : (received : List ℕ) (t : Bool) (out : ℕ) (o : Outcome) → Opens l received o → Opens l received (checked_out t l out o)
+    pub opens-out : (received : List ℕ) (t : Bool) (out : ℕ) (o : Outcome) → Opens l received o → Opens l received (checked_out t l out o)
     unfolding checked_out checked answer_number
     opens-out received t out o s =
         let O = Opens l received in
@@ -239,8 +244,8 @@ module _ (w : World) (r : List ℕ) (rx store : ℕ) where
     after-slots : (x : Outcome) → S x → Shrinks c.slots (to x).slots
     after-slots x s = subst (Shrinks c.slots) (sym (slots-by c x.changes)) s
 
-    heads-given : (x : Outcome) (d : ℕ) → Heads l x → S x → Given (g + d) (to x)
-    heads-given x d a s = given-keeps g (g + d) c (to x) (omega arith) (after-slots x s) a.next a.pending-is v
+    heads-given : (x : Outcome) (d : ℕ) → Heads l x → S x → Given b (g + d) (to x)
+    heads-given x d a s = given-keeps b g (g + d) c (to x) (omega arith) (after-slots x s) a.next a.pending-is v
 
     -- what is seen of a call
     abbrev event : Call → Event
@@ -280,30 +285,30 @@ module _ (w : World) (r : List ℕ) (rx store : ℕ) where
         (λ t. absurd (true≢false (ap is_some (sym e ∙ cond-false (ltb (place_of Empty m.config.channels c.slots) m.config.channels) _ (Err (record {})) t))))
 
     next-given : (x : Outcome) (d : ℕ) → d ≡ 1 → g + d < 2 ^ 32 → S x → (to x).header.next_local ≡ next_local_id c.header.next_local
-        → (is_ours (to x).header.pending.what ≡ true → (to x).header.pending.local.0 ≡ c.header.next_local) → Given (g + d) (to x)
+        → (is_ours (to x).header.pending.what ≡ true → (to x).header.pending.local.0 ≡ c.header.next_local) → Given b (g + d) (to x)
     next-given x d e small s en ew =
         let q : suc g ≡ g + d = omega arith in
-        subst (λ (k : ℕ). Given k (to x)) q (given-next g c (to x) (omega arith) (after-slots x s) en ew v)
+        subst (λ (k : ℕ). Given b k (to x)) q (given-next b g c (to x) (omega arith) (after-slots x s) en ew v)
 
     open-given : (out destination received : List ℕ) → let x = open_call out destination received in g + given_by x (seen_of (event x)) < 2 ^ 32
-        → (o : Outcome) → o ≡ outcome w x → Numbers l (bytes_in destination) o → Opens l (bytes_in received) o → Given (g + given_by x (seen_of (event x))) (to o)
+        → (o : Outcome) → o ≡ outcome w x → Numbers l (bytes_in destination) o → Opens l (bytes_in received) o → Given b (g + given_by x (seen_of (event x))) (to o)
     unfolding answer_number
     open-given out destination received small o z (keeps a) (leaves o1 e t) = heads-given o _ a.heads (tame-shrinks c.slots o.changes t)
-    open-given out destination received small o z (keeps a) (fills o1 t k sy e1 e2 e3 e5 on off e4) =
-        let ng = subst (Leaves (λ (u : ChannelSlot). Good (policy_of m) (record { credit = 0; reads = false }) u [] _)) e4
-        (new-good (policy_of m) (record { credit = 0; reads = false }) 0 c.header.pending.local (record { 0 = k.arg0 }) (λ d. refl) (body_of (bytes_in received) k)) in
+    open-given out destination received small o z (keeps a) (fills o1 t k sy e1 e2 e3 e5 on off e4 rd mine us) =
+        let ng = subst (Leaves (λ (u : ChannelSlot). Good (policy_of m) (record { credit = 0; reads = false; counts = true }) u [] _)) e4
+        (new-good (policy_of m) (record { credit = 0; reads = false; counts = true }) 0 c.header.pending.local (record { 0 = k.arg0 }) (λ d. refl) (body_of (bytes_in received) k)) in
         let p = (h.facts.pending-open on).place in
         let q = h.facts.limits.within.most-channels in
         let y = ok.size in
-        given-fills g _ c (to o) c.header.pending.slot t (omega arith) (omega arith) (slots-by c o.changes ∙ e2) (sym ng.loc) a.heads.next on off v
+        given-fills b g _ c (to o) c.header.pending.slot t (omega arith) (omega arith) (slots-by c o.changes ∙ e2) (sym ng.loc) a.heads.next on off v
     open-given out destination received small o z (asks ch q e f fr) (leaves o1 e1 t) =
         next-given o _ (open-one out destination received _ (ap (λ (x : Outcome). x.frames) (sym z) ∙ fr) open_told) small (tame-shrinks c.slots o.changes t)
         (ap (λ (x : Header). x.next_local) f) (λ u. ap (λ (x : Header). x.pending.local.0) f ∙ begun-local ch e)
-    open-given out destination received small o z (asks ch q e f fr) (fills o1 t k sy e1 e2 e3 e5 on off e4) = absurd (true≢false (sym on ∙ q))
+    open-given out destination received small o z (asks ch q e f fr) (fills o1 t k sy e1 e2 e3 e5 on off e4 rd mine us) = absurd (true≢false (sym on ∙ q))
     open-given out destination received small o z (skips q f a lt) (leaves o1 e1 t) =
         next-given o _ (skip-one out destination received (ap (λ (x : Outcome). x.answer) (sym z) ∙ a) lt) small (tame-shrinks c.slots o.changes t)
         (ap (λ (x : Header). x.next_local) f) (λ u. absurd (true≢false (sym u ∙ ap (λ (x : Header). is_ours x.pending.what) f)))
-    open-given out destination received small o z (skips q f a lt) (fills o1 t k sy e1 e2 e3 e5 on off e4) = absurd (true≢false (sym on ∙ q))
+    open-given out destination received small o z (skips q f a lt) (fills o1 t k sy e1 e2 e3 e5 on off e4 rd mine us) = absurd (true≢false (sym on ∙ q))
 
     -- a call that gives one out where it is done: an accept, and a verdict that takes
     module _ (x : Call) (counts : (o : Seen) → given_by x o ≡ cond (eqb o.number 0) 1 0) where
@@ -311,7 +316,7 @@ module _ (w : World) (r : List ℕ) (rx store : ℕ) where
       unfolding answer_number
       accept-one ch e = counts (seen_of (event x)) ∙ ap (λ (k : ℕ). cond (eqb k 0) 1 0) (number-seen x ∙ ap answer_number e)
 
-      accept-given : g + given_by x (seen_of (event x)) < 2 ^ 32 → (o : Outcome) → o ≡ outcome w x → Grants l o → Accepts l o → Given (g + given_by x (seen_of (event x))) (to o)
+      accept-given : g + given_by x (seen_of (event x)) < 2 ^ 32 → (o : Outcome) → o ≡ outcome w x → Grants l o → Accepts l o → Given b (g + given_by x (seen_of (event x))) (to o)
       unfolding answer_number accepted_slot opening_slot
       accept-given small o z (held a) (declines o1 e t es er) = heads-given o _ a.heads (tame-shrinks c.slots o.changes t)
       accept-given small o z (grants ch0 e f a) (declines o1 e1 t es er) = absurd (true≢false (sym (ap (λ (y : Answer). eqb (answer_number y) 0) a) ∙ e1))
@@ -321,12 +326,12 @@ module _ (w : World) (r : List ℕ) (rx store : ℕ) where
           let y = ok.size in
           let d = accept-one ch (ap (λ (y : Outcome). y.answer) (sym z) ∙ e1) in
           let k : suc g ≡ g + given_by x (seen_of (event x)) = omega arith in
-          subst (λ (y : ℕ). Given y (to o)) k
-          (given-takes g c (to o) ch.slot _ (omega arith) (omega arith) (slots-by c o.changes ∙ e2) (allocated-local c.header c.slots ch e0)
+          subst (λ (y : ℕ). Given b y (to o)) k
+          (given-takes b g c (to o) ch.slot _ (omega arith) (omega arith) (slots-by c o.changes ∙ e2) (allocated-local c.header c.slots ch e0)
           (ap (λ (x : Header). x.next_local) eh) (ap (λ (x : Header). is_ours x.pending.what) eh) v)
 
     -- each call
-    call-given : (x : Call) → g + given_by x (seen_of (event x)) < 2 ^ 32 → Given (g + given_by x (seen_of (event x))) (to (outcome w x))
+    call-given : (x : Call) → g + given_by x (seen_of (event x)) < 2 ^ 32 → Given b (g + given_by x (seen_of (event x))) (to (outcome w x))
     unfolding outcome open_outcome dispatch_outcome settle_outcome take_outcome read_outcome write_outcome close_outcome take_front_outcome look_outcome numbers_outcome accept_outcome reject_outcome let_go_outcome verdict_outcome verdict_step given_by
     call-given (open_call out destination received) small =
         open-given out destination received small _ refl (moves w (open_call out destination received)) (opens-out (bytes_in received) (is_whole w.state) (length out) _ (opens l ok (bytes_in received) (length out) (bytes_in destination)))
@@ -357,13 +362,13 @@ module _ (w : World) (r : List ℕ) (rx store : ℕ) where
         let o = verdict_step l false (record { 0 = word_in remote.0 }) (word_in credit) in
         heads-given _ _ (moves w (verdict_call out false remote credit)).heads (shrinks-out (is_whole w.state) (length out) o (tame-shrinks c.slots o.changes (reject-tame-on l ok (dropped c.header) _ Done)))
 
-    after-given : (x : Call) → g + given_by x (seen_of (event x)) < 2 ^ 32 → Given (g + given_by x (seen_of (event x))) (state_of (after w x).state)
-    after-given x small = subst (Given (g + given_by x (seen_of (event x)))) (sym (state-after m r rx store w h x)) (call-given x small)
+    pub after-given : (x : Call) → g + given_by x (seen_of (event x)) < 2 ^ 32 → Given b (g + given_by x (seen_of (event x))) (state_of (after w x).state)
+    after-given x small = subst (Given b (g + given_by x (seen_of (event x)))) (sym (state-after m r rx store w h x)) (call-given x small)
 
 -- ---- a list of calls
 
 module _ (n : Negotiated) (r : List ℕ) (rx store : ℕ) (long : n.config.channels * (2 * cap_of n.config) ≤ rx) where
-  apart-all : (w : World) → Holds n r rx store w → (g : ℕ) → Given g (state_of w.state) → (cs : List Call) → g + given_in (events_of w cs) < 2 ^ 32 → Apart w cs
+  apart-all : (w : World) → Holds n r rx store w → (g : ℕ) → Given 0 g (state_of w.state) → (cs : List Call) → g + given_in (events_of w cs) < 2 ^ 32 → Apart w cs
   unfolding Apart events_of given_in
   apart-all w k g v [] small = tt
   apart-all w k g v (x ∷ cs) small =
@@ -373,16 +378,17 @@ module _ (n : Negotiated) (r : List ℕ) (rx store : ℕ) (long : n.config.chann
       let lm = subst (λ (z : Negotiated). z.config.channels * (2 * cap_of z.config) ≤ rx) e long in
       let lw = subst (λ (z : ℕ). m.config.channels * (2 * cap_of m.config) ≤ z) (sym k.rx-length) lm in
       let d = given_by x (seen_of (record { call = x; held = held_of w x })) in
-      let u = after-given w r rx store hm lw g v x (omega arith) in
+      let u = after-given w r rx store hm lw 0 g v x (omega arith) in
       (u.apart, apart-all (after w x) (holds_after n r rx store w k x) (g + d) u cs (omega arith))
 
-fresh-given : (n : Negotiated) (w : World) → state_of w.state ≡ fresh n → Given 0 (state_of w.state)
+pub fresh-given : (n : Negotiated) (w : World) → state_of w.state ≡ fresh n → Given 0 0 (state_of w.state)
 unfolding fresh
 fresh-given n w e =
     let f = no_slot n w e in
     let off : is_ours (state_of w.state).header.pending.what ≡ false = ap (λ (d : Connection). is_ours d.header.pending.what) e in
     record {
       k = 0;
+      least = omega arith;
       le = omega arith;
       below = λ i t. absurd (true≢false (sym t ∙ f i));
       pending-open = λ t. absurd (true≢false (sym t ∙ off));

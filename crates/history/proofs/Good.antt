@@ -43,14 +43,15 @@ pub record Owed (buffered settled unacked accepted acked aside : ℕ) : Type 0 w
   pub low : acked + unacked ≤ accepted
   pub high : min accepted (2 ^ 64 - 1) ≤ acked + unacked
 
--- what our OPENs carry in delayed mode; whether the channel is read by reads alone
+-- what our OPENs carry in delayed mode; whether the channel is read by reads alone; whether the book's sum of credit is the slot's
 pub record Terms : Type 0 where
   pub credit : ℕ
   pub reads : Bool
+  pub counts : Bool
 
 -- the slot's total beside the book's sum of credit
-pub record Tally (p : RxPolicy) (total acked : ℕ) : Type 0 where
-  pub delayed : p.delayed ≡ true → total ≡ min acked (2 ^ 64 - 1)
+pub record Tally (p : RxPolicy) (counts : Bool) (total acked : ℕ) : Type 0 where
+  pub delayed : counts ≡ true → p.delayed ≡ true → total ≡ min acked (2 ^ 64 - 1)
   pub plain : p.delayed ≡ false → total ≡ 0
 
 -- q: the bytes that the slot has buffered
@@ -67,7 +68,7 @@ pub record Good (p : RxPolicy) (credit : Terms) (s : ChannelSlot) (q : List ℕ)
   pub ends : b.closed ≡ is_closed s.state
   pub owed : p.delayed ≡ true → b.closed ≡ false → Owed s.buffered s.settled s.unacked (length b.accepted) b.acked b.aside
   pub kept : p.delayed ≡ true → b.kept ≡ true → b.over ≡ false
-  pub tally : Tally p s.acked_total b.acked
+  pub tally : Tally p credit.counts s.acked_total b.acked
   -- what reads hand over was acknowledged
   pub even : credit.reads ≡ true → p.delayed ≡ true → b.closed ≡ false → length b.handed + s.settled ≤ b.acked
 
@@ -94,18 +95,18 @@ unfolding carried
 carried-plain p a d = cond-false p.delayed _ 0 d
 
 -- credit of 0 adds none
-tally-none : (p : RxPolicy) (t a k : ℕ) → k ≡ 0 → Tally p t a → Tally p t (a + k)
-tally-none p t a k z y = record { delayed = λ d. let e = y.delayed d in omega arith; plain = y.plain }
+tally-none : (p : RxPolicy) (c : Bool) (t a k : ℕ) → k ≡ 0 → Tally p c t a → Tally p c t (a + k)
+tally-none p c t a k z y = record { delayed = λ u d. let e = y.delayed u d in omega arith; plain = y.plain }
 
-tally-drop : (p : RxPolicy) (t a k : ℕ) → k ≡ 0 → Tally p t (a + k) → Tally p t a
-tally-drop p t a k z y = record { delayed = λ d. let e = y.delayed d in omega arith; plain = y.plain }
+tally-drop : (p : RxPolicy) (c : Bool) (t a k : ℕ) → k ≡ 0 → Tally p c t (a + k) → Tally p c t a
+tally-drop p c t a k z y = record { delayed = λ u d. let e = y.delayed u d in omega arith; plain = y.plain }
 
 -- an OKAY that carries k in delayed mode
-tally-more : (p : RxPolicy) (t a k c : ℕ) → (p.delayed ≡ true → c ≡ k) → Tally p t a → Tally p (total_with p t k) (a + c)
+tally-more : (p : RxPolicy) (q : Bool) (t a k c : ℕ) → (p.delayed ≡ true → c ≡ k) → Tally p q t a → Tally p q (total_with p t k) (a + c)
 unfolding total_with sat_sum
-tally-more p t a k c f y =
+tally-more p q t a k c f y =
     record {
-      delayed = λ d. cond-true p.delayed _ t d ∙ (let e = y.delayed d in let g = f d in let r : min (t + k) (2 ^ 64 - 1) ≡ min (a + c) (2 ^ 64 - 1) = omega arith in r);
+      delayed = λ u d. cond-true p.delayed _ t d ∙ (let e = y.delayed u d in let g = f d in let r : min (t + k) (2 ^ 64 - 1) ≡ min (a + c) (2 ^ 64 - 1) = omega arith in r);
       plain = λ d. cond-false p.delayed _ t d ∙ y.plain d;
     }
 
@@ -200,7 +201,7 @@ module _ (p : RxPolicy) (credit : Terms) (s : ChannelSlot) (q : List ℕ) (b : B
         kept = g.kept;
         nums = let m = g.nums in record { all = m.all; inside = m.inside; room = m.room; within = m.within; counted = m.counted; acks = omega arith };
         owed = λ d c. let o = g.owed d c in let z = h d c in record { same = omega arith; held = o.held; low = omega arith; high = omega arith };
-        tally = tally-none p _ _ _ k g.tally;
+        tally = tally-none p _ _ _ _ k g.tally;
         even = λ t d c. let v = g.even t d c in omega arith;
       }
 
@@ -238,7 +239,7 @@ module _ (p : RxPolicy) (credit : Terms) (s : ChannelSlot) (q : List ℕ) (b : B
             let x = book-aside d c in
             let w : cond (eqb s.settled 0) (min want s.buffered) s.settled ≡ min want s.buffered = cond-true (eqb s.settled 0) _ _ (eq-eqb s.settled 0 z) in
             record { same = omega arith; held = omega arith; low = omega arith; high = omega arith };
-        tally = tally-more p _ _ k _ (λ d. carried-delayed p (Some k) d) g.tally;
+        tally = tally-more p _ _ _ k _ (λ d. carried-delayed p (Some k) d) g.tally;
         even = λ t d c. let o = g.owed d c in let e = f d in let y : carried p (Some k) ≡ k = carried-delayed p (Some k) d in let v = g.even t d c in omega arith;
       }
 
@@ -312,7 +313,7 @@ acked-drop p credit s q b k z g =
       kept = g.kept;
       nums = record { all = m.all; inside = m.inside; room = m.room; within = m.within; counted = m.counted; acks = omega arith };
       owed = λ d c. let o = g.owed d c in record { same = o.same; held = o.held; low = omega arith; high = omega arith };
-      tally = tally-drop p _ _ k z g.tally;
+      tally = tally-drop p _ _ _ k z g.tally;
       even = λ t d c. let v = g.even t d c in omega arith;
     }
 
@@ -385,7 +386,7 @@ module _ (p : RxPolicy) (credit : Terms) (s : ChannelSlot) (q : List ℕ) (b : B
         kept = g.kept;
         nums = record { all = m.all; inside = m.inside; room = m.room; within = m.within; counted = m.counted; acks = omega arith };
         owed = λ d c. let o = g.owed d c in record { same = o.same; held = o.held; low = omega arith; high = omega arith };
-        tally = tally-none p _ _ k z g.tally;
+        tally = tally-none p _ _ _ k z g.tally;
         even = λ t d c. let v = g.even t d c in omega arith;
       }
 
@@ -524,7 +525,7 @@ module _ (p : RxPolicy) (credit : Terms) (s : ChannelSlot) (q : List ℕ) (b : B
 
   -- a WRTE that goes straight to the reader
   module _ (before : ℕ) (body : List ℕ) (nil : q ≡ []) where
-    direct_good : (u k t : ℕ) → (p.delayed ≡ true → (u ≡ s.unacked) × (k ≡ length body)) → k ≤ length body → Tally p t (b.acked + k)
+    direct_good : (u k t : ℕ) → (p.delayed ≡ true → (u ≡ s.unacked) × (k ≡ length body)) → k ≤ length body → Tally p credit.counts t (b.acked + k)
         → Good p credit (with_total (with_numbers s u s.settled s.head s.buffered) t) q (acked_b k (handed_b body (accepted_b body (sent_b before (length body) b))))
     direct_good u k t f le y0 =
         let m = g.nums in
@@ -563,12 +564,12 @@ module _ (p : RxPolicy) (credit : Terms) (s : ChannelSlot) (q : List ℕ) (b : B
     direct-delayed a d e =
         let c = carried-delayed p a d in
         direct_good s.unacked (carried p a) (total_with p s.acked_total (length body)) (λ x. (refl, c ∙ e)) (omega arith)
-        (tally-more p s.acked_total b.acked (length body) (carried p a) (λ x. c ∙ e) g.tally)
+        (tally-more p credit.counts s.acked_total b.acked (length body) (carried p a) (λ x. c ∙ e) g.tally)
 
     direct-plain : (u : ℕ) (a : Option ℕ) → p.delayed ≡ false → after-direct (acked (with_numbers s u s.settled s.head s.buffered) a)
     direct-plain u a d =
         let c = carried-plain p a d in
-        direct_good u (carried p a) s.acked_total (λ x. absurd (true≢false (sym x ∙ d))) (omega arith) (tally-none p _ _ _ c g.tally)
+        direct_good u (carried p a) s.acked_total (λ x. absurd (true≢false (sym x ∙ d))) (omega arith) (tally-none p _ _ _ _ c g.tally)
 
     pub deliver-good : after-direct (delivered_of s p (length body))
     unfolding delivered_of
@@ -596,7 +597,7 @@ new-numbers p credit asked s l r h f k e1 e2 e3 e4 e5 e6 e7 =
       nums = record { all = omega arith; inside = omega arith; room = omega arith; within = omega arith; counted = omega arith; acks = omega arith };
       owed = λ d c. record { same = e4; held = omega arith; low = omega arith; high = omega arith };
       kept = λ d x. refl;
-      tally = record { delayed = λ d. omega arith; plain = λ d. sym e7 };
+      tally = record { delayed = λ u d. omega arith; plain = λ d. sym e7 };
       even = λ t d c. omega arith;
     }
 

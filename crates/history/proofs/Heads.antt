@@ -91,6 +91,26 @@ abbrev FrontWaits : Header → Option (QueuedOpen × Header) → Type 0
 FrontWaits h (Some (q, less)) = (is_ours less.pending.what ≡ false) × (less.next_local ≡ h.next_local)
 FrontWaits h None = Unit {0}
 
+-- ---- a pending open
+
+-- a pending open stays where the answer is waiting alone
+pub still-waits : (n : Answer) (h : Header) → is_ours (still_pending n h).pending.what ≡ true → n ≡ Waiting
+unfolding still_pending
+still-waits Waiting h t = refl
+still-waits Done h t = absurd (true≢false (sym t))
+still-waits Nothing h t = absurd (true≢false (sym t))
+still-waits (Opened ch) h t = absurd (true≢false (sym t))
+still-waits (SettledIs x) h t = absurd (true≢false (sym t))
+still-waits (Read n) h t = absurd (true≢false (sym t))
+still-waits (Written n) h t = absurd (true≢false (sym t))
+still-waits (FrontIs r c p n) h t = absurd (true≢false (sym t))
+still-waits (NumbersAre c1 c2 c3 c4 c5) h t = absurd (true≢false (sym t))
+still-waits (Refused r) h t = absurd (true≢false (sym t))
+
+pub still-is : (n : Answer) (h : Header) → is_ours (still_pending n h).pending.what ≡ true → (still_pending n h).pending ≡ h.pending
+unfolding still_pending
+still-is n h t = ap (λ (x : Answer). (still_pending x h).pending) (still-waits n h t)
+
 -- ---- the calls
 
 module _ (l : Lent) where
@@ -347,19 +367,6 @@ module _ (l : Lent) where
   open-readied-heads ch remote used (Ok t) = off _ _ used [] ((refl, refl), refl)
   open-readied-heads ch remote used (Err b) = off _ _ used [] ((refl, refl), refl)
 
-  still-on : (n : Answer) (h : Header) → is_ours (still_pending n h).pending.what ≡ true → (still_pending n h).pending ≡ h.pending
-  unfolding still_pending
-  still-on Waiting h t = refl
-  still-on Done h t = absurd (true≢false (sym t))
-  still-on Nothing h t = absurd (true≢false (sym t))
-  still-on (Opened ch) h t = absurd (true≢false (sym t))
-  still-on (SettledIs x) h t = absurd (true≢false (sym t))
-  still-on (Read n) h t = absurd (true≢false (sym t))
-  still-on (Written n) h t = absurd (true≢false (sym t))
-  still-on (FrontIs r c p n) h t = absurd (true≢false (sym t))
-  still-on (NumbersAre c1 c2 c3 c4 c5) h t = absurd (true≢false (sym t))
-  still-on (Refused r) h t = absurd (true≢false (sym t))
-
   still-no : (n : Answer) (h : Header) → is_offer h.pending.what ≡ false → is_offer (still_pending n h).pending.what ≡ false
   unfolding still_pending
   still-no Waiting h e = e
@@ -394,11 +401,11 @@ module _ (l : Lent) where
       let c = calm h l.state.slots l.state.queue l.rx l.store k payload in
       let a = unless_fault b.fault Waiting in
       still (storing (then_acted (begun h l) b) (still_pending a b.header)) _ used []
-      (still-next a b.header ∙ c.next) (λ t. still-on a b.header t ∙ c.pending-is) c.quiet-opens (still-no a b.header (ap (λ x. is_offer x.what) c.pending-is ∙ calm-offer))
+      (still-next a b.header ∙ c.next) (λ t. still-is a b.header t ∙ c.pending-is) c.quiet-opens (still-no a b.header (ap (λ x. is_offer x.what) c.pending-is ∙ calm-offer))
 
   open-received-heads : is_offer l.state.header.pending.what ≡ false → (ch : ChannelId) (received : List ℕ) (r : Result Packet (Answer × ℕ)) → Quits (open_by l ch received r)
   unfolding open_by
-  open-received-heads calm-offer ch received (Err (n, used)) = still (begun (still_pending n l.state.header) l) n used [] (still-next n l.state.header) (still-on n l.state.header) (λ m. refl) (still-no n l.state.header calm-offer)
+  open-received-heads calm-offer ch received (Err (n, used)) = still (begun (still_pending n l.state.header) l) n used [] (still-next n l.state.header) (still-is n l.state.header) (λ m. refl) (still-no n l.state.header calm-offer)
   open-received-heads calm-offer ch received (Ok k) =
       let mine = eqb k.arg1 ch.local.0 in
       pick Quits (is_ready k.command && mine) (λ t. open-readied-heads ch k.arg0 (frame_len k) _)

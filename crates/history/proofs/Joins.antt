@@ -45,7 +45,7 @@ use Rattle.connection.proofs.Slots.{slots_by, slot-set-same, slot-set-other}
 use Rattle.history.proofs.Places.{TableOk}
 use Rattle.history.proofs.Opens.{and-false, refused-is, refused-some, open-call, Opens, fills, leaves, opens}
 use Rattle.history.proofs.Steps.{saw, saw_of, Fine}
-use Rattle.history.proofs.Accepts.{Accepts, takes, declines, taken_ids, allocated-below, accepts-on, accepts, accepted-good, heard-remote, heard-credit}
+use Rattle.history.proofs.Accepts.{Accepts, takes, declines, taken_ids, allocated-inside, accepts-on, accepts, accepted-good, heard-remote, heard-credit}
 use Rattle.config.specs.Negotiated.{offered_credit}
 use Rattle.connection.proofs.Sending.{sent_of}
 use Rattle.slot.specs.declared.ChannelError.{ChannelError}
@@ -57,14 +57,14 @@ unfolding run_of part
 run_none rx cap i s e = ap (λ (n : ℕ). take n (drop s.head (share_of rx cap i))) e
 
 -- a place with no channel, whose total is that of the last one
-pub record Vacant (p : RxPolicy) (s : ChannelSlot) (b : Book) : Type 0 where
+pub record Vacant (p : RxPolicy) (counts : Bool) (s : ChannelSlot) (b : Book) : Type 0 where
   pub gone : b.there ≡ false
   pub known : s.has_remote ≡ false
-  pub tally : Tally p s.acked_total b.acked
+  pub tally : Tally p counts s.acked_total b.acked
 
 -- the same of a slot and a book that are the same in these
-vacant-by : (p : RxPolicy) (s t : ChannelSlot) (b c : Book) → Vacant p s b → t.has_remote ≡ s.has_remote → cond t.has_remote 0 t.acked_total ≡ cond s.has_remote 0 s.acked_total → c ≡ b → Vacant p t c
-vacant-by p s t b c v e f g =
+vacant-by : (p : RxPolicy) (q : Bool) (s t : ChannelSlot) (b c : Book) → Vacant p q s b → t.has_remote ≡ s.has_remote → cond t.has_remote 0 t.acked_total ≡ cond s.has_remote 0 s.acked_total → c ≡ b → Vacant p q t c
+vacant-by p q s t b c v e f g =
     let k = e ∙ v.known in
     let total : t.acked_total ≡ s.acked_total = sym (cond-false t.has_remote 0 _ k) ∙ f ∙ cond-false s.has_remote 0 _ v.known in
     record {
@@ -72,26 +72,26 @@ vacant-by p s t b c v e f g =
       known = k;
       tally =
           record {
-            delayed = λ d. total ∙ v.tally.delayed d ∙ ap (λ (x : Book). min x.acked (2 ^ 64 - 1)) (sym g);
+            delayed = λ u d. total ∙ v.tally.delayed u d ∙ ap (λ (x : Book). min x.acked (2 ^ 64 - 1)) (sym g);
             plain = λ d. total ∙ v.tally.plain d;
           };
     }
 
 -- of a slot that stays
-vacant-stays : (p : RxPolicy) (s t : ChannelSlot) (b c : Book) → Vacant p s b → t ≡ s → c ≡ b → Vacant p t c
-vacant-stays p s t b c v e g = vacant-by p s t b c v (ap (λ (z : ChannelSlot). z.has_remote) e) (ap (λ (z : ChannelSlot). cond z.has_remote 0 z.acked_total) e) g
+vacant-stays : (p : RxPolicy) (q : Bool) (s t : ChannelSlot) (b c : Book) → Vacant p q s b → t ≡ s → c ≡ b → Vacant p q t c
+vacant-stays p q s t b c v e g = vacant-by p q s t b c v (ap (λ (z : ChannelSlot). z.has_remote) e) (ap (λ (z : ChannelSlot). cond z.has_remote 0 z.acked_total) e) g
 
 -- where there never was one
-pub vacant-fresh : (p : RxPolicy) (s : ChannelSlot) (b : Book) → s ≡ empty_slot → b ≡ no_book → Vacant p s b
+pub vacant-fresh : (p : RxPolicy) (q : Bool) (s : ChannelSlot) (b : Book) → s ≡ empty_slot → b ≡ no_book → Vacant p q s b
 unfolding empty_slot
-vacant-fresh p s b e g =
-    subst (λ (x : ChannelSlot). Vacant p x b) (sym e)
-    (subst (Vacant p empty_slot) (sym g) (record { gone = refl; known = refl; tally = record { delayed = λ d. omega arith; plain = λ d. refl } }))
+vacant-fresh p q s b e g =
+    subst (λ (x : ChannelSlot). Vacant p q x b) (sym e)
+    (subst (Vacant p q empty_slot) (sym g) (record { gone = refl; known = refl; tally = record { delayed = λ u d. omega arith; plain = λ d. refl } }))
 
 -- what is kept of one place, between calls
 pub record KeptAt (p : RxPolicy) (credit : Terms) (i : ℕ) (ss : List ChannelSlot) (rx : List ℕ) (b : Book) : Type 0 where
   pub full : (slot_in ss i).filled ≡ true → Good p credit (slot_in ss i) (run_of rx p.rx_cap i (slot_in ss i)) b
-  pub none : (slot_in ss i).filled ≡ false → Vacant p (slot_in ss i) b
+  pub none : (slot_in ss i).filled ≡ false → Vacant p credit.counts (slot_in ss i) b
 
 -- the same after an outcome
 abbrev pub KeptBy : RxPolicy → Terms → ℕ → List ChannelSlot → Outcome → Book → Type 0
@@ -156,7 +156,7 @@ module _ (p : RxPolicy) (credit : Terms) (i : ℕ) (ss : List ChannelSlot) (rx :
         full = λ f. let f0 = sym fi ∙ f in let g = k.full f0 in stays call x fs g (ap (λ (y : Mark). y.local) m) eo (ef g f0);
         none = λ f.
             let v = k.none (sym fi ∙ f) in
-            vacant-by p _ _ b _ v (ap (λ (y : Mark). y.known) m) (ap (λ (y : Mark). y.left) m) (gone call (saw_of x fs) v.gone (eo b));
+            vacant-by p _ _ _ b _ v (ap (λ (y : Mark). y.known) m) (ap (λ (y : Mark). y.left) m) (gone call (saw_of x fs) v.gone (eo b));
       }
 
   -- a refusal by 8, 9 or 13
@@ -323,14 +323,6 @@ module _ (credit : Terms) (l : Lent) (ok : TableOk (policy l) l.state.header.neg
 
   -- ---- accept
 
-  -- a place that was allocated is one of the table's
-  allotted-place : (ch : ChannelId) → allocated l.state.header ws ≡ Ok ch → ch.slot < length ws
-  allotted-place ch e =
-      let a = allocated-below l.state.header ws ch e in
-      let m = ok.most in
-      let z = ok.size in
-      omega arith
-
   -- changes that leave this slot and its bytes
   good-tame : (x : Outcome) → slots_by ws x.changes ≡ ws → x.rx ≡ l.rx → here p credit i ws l.rx books asked b k b → Fine p credit ws i x b
   good-tame x e er g =
@@ -371,7 +363,7 @@ module _ (credit : Terms) (l : Lent) (ok : TableOk (policy l) l.state.header.neg
         (accepted-good p credit (okay_credit fs) ids cr (λ d. heard-credit n ids fs heard small d ∙ offered)) in
         let inner : Book = cond b.there b b in
         let same : inner ≡ b = pick (λ (z : Book). z ≡ b) b.there (λ q. refl) (λ q. refl) in
-        let inside = allotted-place ch e0 in
+        let inside = allocated-inside (policy l) l.state.header ws l.rx ok ch e0 in
         record {
           full = λ f.
               by-test (eqb j i)
@@ -396,7 +388,7 @@ module _ (credit : Terms) (l : Lent) (ok : TableOk (policy l) l.state.header.neg
               (λ u. let so = slot-set-other ws j i t (λ z. eqb-false j i u (sym z)) in
               let se : slot_in (slots_by ws x.changes) i ≡ slot_in ws i = ap (λ (z : List ChannelSlot). slot_in z i) e2 ∙ so in
               let v = k.none (sym (ap (λ (s : ChannelSlot). s.filled) se) ∙ f) in
-              vacant-stays p (slot_in ws i) _ b _ v se
+              vacant-stays p _ (slot_in ws i) _ b _ v se
               (gone p credit i ws l.rx books asked b k accept_e (saw_of x fs) v.gone (taken-book x b ch e1 ∙ cond-false (eqb j i) nb b u)));
         }
 
@@ -456,9 +448,9 @@ module _ (credit : Terms) (l : Lent) (ok : TableOk (policy l) l.state.header.neg
     unfolding emptied_slot empty_slot
     emptied-none s = refl
 
-    emptied-vacant : (s t : ChannelSlot) (c : Book) → Tally p s.acked_total b.acked → t ≡ emptied_slot s → c ≡ gone_book b → Vacant p t c
+    emptied-vacant : (s t : ChannelSlot) (c : Book) → Tally p credit.counts s.acked_total b.acked → t ≡ emptied_slot s → c ≡ gone_book b → Vacant p credit.counts t c
     unfolding emptied_slot empty_slot
-    emptied-vacant s t c y e g = subst (λ (x : ChannelSlot). Vacant p x c) (sym e) (subst (Vacant p (emptied_slot s)) (sym g) (record { gone = refl; known = refl; tally = y }))
+    emptied-vacant s t c y e g = subst (λ (x : ChannelSlot). Vacant p credit.counts x c) (sym e) (subst (Vacant p credit.counts (emptied_slot s)) (sym g) (record { gone = refl; known = refl; tally = y }))
 
     unopened : opened_b i asked (close_call out ch) close_o b ≡ b
     unfolding opened_b
@@ -486,7 +478,7 @@ module _ (credit : Terms) (l : Lent) (ok : TableOk (policy l) l.state.header.neg
               (λ o. absurd (true≢false (sym (close-else l credit ok lim i f0 b g books mk ch w o).filled ∙ f))))
               (λ f0. let v = k.none f0 in
               let e = close-empty ch f0 in
-              vacant-stays p (slot_in ws i) _ b _ v e
+              vacant-stays p _ (slot_in ws i) _ b _ v e
               (gone p credit i ws l.rx books asked b k (close_call out ch) close_o v.gone unopened));
         }
 
@@ -531,7 +523,7 @@ module _ (credit : Terms) (l : Lent) (ok : TableOk (policy l) l.state.header.neg
         → KeptBy p credit i ws x (book_after p books asked open_e (saw_of x fs) i b)
     unfolding book_after
     open-by x1 (leaves x e t) hs ef = plain-kept p credit i ws l.rx books asked b k open_e x fs t (λ c. undone-book x c e) ef
-    open-by x1 (fills x t q sy e1 e2 e3 e5 on off e4) hs ef =
+    open-by x1 (fills x t q sy e1 e2 e3 e5 on off e4 rd mine us) hs ef =
         let o = saw_of x fs in
         let a0 = reads-arg0 (bytes_in received) _ q sy in
         let nb = new_book wlocal (header_at (bytes_in received)).arg0 asked in
@@ -565,7 +557,7 @@ module _ (credit : Terms) (l : Lent) (ok : TableOk (policy l) l.state.header.neg
               (λ u. let so = slot-set-other ws wslot i t (λ z. eqb-false wslot i u (sym z)) in
               let se : slot_in (slots_by ws x.changes) i ≡ slot_in ws i = ap (λ (z : List ChannelSlot). slot_in z i) e2 ∙ so in
               let v = k.none (sym (ap (λ (s : ChannelSlot). s.filled) se) ∙ f) in
-              vacant-stays p (slot_in ws i) _ b _ v se
+              vacant-stays p _ (slot_in ws i) _ b _ v se
               (gone p credit i ws l.rx books asked b k open_e o v.gone (filled-book x b e1 ∙ cond-false (eqb wslot i) nb b u)));
         }
 

@@ -23,7 +23,7 @@ use Rattle.slot.specs.declared.Settled.{Settled}
 use Rattle.slot.specs.Ids.{closed_by}
 use Rattle.slot.specs.Slot.{empty_slot, is_opening, is_failed, is_closed, has_data, settled_of, taken_of, took_of, take_len, delivered_of, closed_slot, spent_of, leave_of, ready_of, wrote_of}
 use Rattle.slot.proofs.Stays.{ReadiedStays, Stays, closed-stays, delivered-stays, ready-stays, settled-stays, spent-stays, took-stays, wrote-stays}
-use Rattle.slot.proofs.Kept.{pick, settled-sound}
+use Rattle.slot.proofs.Kept.{pick}
 use Rattle.slot.proofs.Laws.{cond-false}
 use Rattle.state.specs.declared.Header.{Header}
 use Rattle.state.specs.declared.QueuedOpen.{QueuedOpen}
@@ -44,7 +44,7 @@ use Rattle.connection.specs.Frames.{Frame, write_frame, frames_bytes, close_fram
 use Rattle.history.proofs.Acts.{NoSlot, pushed-slots, withdrawn-slots}
 use Rattle.connection.proofs.Slots.{slots_by, slots-by}
 use Rattle.history.proofs.Places.{TableOk, found-filled}
-use Rattle.history.proofs.Steps.{table-set}
+use Rattle.history.proofs.Steps.{table-settled}
 use Rattle.slot.specs.declared.ChannelFault.{ChannelFault as SlotFault}
 use Rattle.std.specs.Prelude.{Option, Some, None, Result, Ok, Err}
 use Rattle.credit.specs.declared.CreditFault.{CreditFault}
@@ -302,7 +302,7 @@ module _ (l : Lent) (ok : TableOk (policy l) l.state.header.negotiated.config.ch
       ss1 = set ss j s1
 
       ok1 : TableOk p l.state.header.negotiated.config.channels ss1 l.rx
-      ok1 = table-set p l.state.header.negotiated.config.channels ss l.rx j s1 ok fill (settled-stays (slot_in ss j) p room) (settled-sound (slot_in ss j) p room p.rx_cap (ok.sound j fill))
+      ok1 = table-settled p l.state.header.negotiated.config.channels ss l.rx j room ok fill
 
       abbrev act : Acted
       act = act_on h0 ss1 l.state.queue l.rx l.store k (body_of received k)

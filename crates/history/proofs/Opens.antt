@@ -5,6 +5,7 @@ use mathlib.Core.List.{List, [], ◌∷◌}
 use Prim.Native.Nat.{ℕ, ◌+◌}
 use native.Mathlib.Omega.{arith}
 use lib.Dec.{eqb, ltb}
+use borrow.Author.Tests.{eqb-true}
 use lib.ListN.{length, set}
 use borrow.Author.Tests.{ne_eqb, not-true}
 use Rattle.le.proofs.Parts.{by-test}
@@ -218,7 +219,8 @@ pub data Opens (l : Lent) (received : List ℕ) : Outcome → Type 0 where
       → x.answer ≡ Opened (record { slot = l.state.header.pending.slot; local = l.state.header.pending.local })
       → slots_by l.state.slots x.changes ≡ set l.state.slots l.state.header.pending.slot t → x.rx ≡ l.rx → x.frames ≡ [] → is_ours l.state.header.pending.what ≡ true
       → is_ours (changed_all l.state x.changes).header.pending.what ≡ false
-      → opened_of (opening_slot l.state.header.pending.local) (record { 0 = k.arg0 }) (body_of received k) (policy l) ≡ Ok t → Opens l received x
+      → opened_of (opening_slot l.state.header.pending.local) (record { 0 = k.arg0 }) (body_of received k) (policy l) ≡ Ok t
+      → is_ready k.command ≡ true → k.arg1 ≡ l.state.header.pending.local.0 → x.used ≡ frame_len k → Opens l received x
   leaves : (x : Outcome) → eqb (answer_number x.answer) 0 ≡ false → Tame l.state.slots x.changes → Opens l received x
 
 module _ (l : Lent) (ok : TableOk (policy l) l.state.header.negotiated.config.channels l.state.slots l.rx) (received : List ℕ) where
@@ -243,11 +245,12 @@ module _ (l : Lent) (ok : TableOk (policy l) l.state.header.negotiated.config.ch
   abbrev wch : ChannelId
   wch = record { slot = hh.pending.slot; local = hh.pending.local }
 
-  opens-readied : is_ours hh.pending.what ≡ true → (k : Packet) → Says received hh.negotiated.config.max_payload k → (r : Result ChannelSlot CreditFault)
+  opens-readied : is_ours hh.pending.what ≡ true → (k : Packet) → Says received hh.negotiated.config.max_payload k
+      → is_ready k.command ≡ true → k.arg1 ≡ hh.pending.local.0 → (r : Result ChannelSlot CreditFault)
       → opened_of (opening_slot hh.pending.local) (record { 0 = k.arg0 }) (body_of received k) (policy l) ≡ r → Opens l received (open_readied l wch k.arg0 (frame_len k) r)
   unfolding open_readied ends answer_number
-  opens-readied on k sy (Ok t) e = fills _ t k sy refl refl refl refl on refl e
-  opens-readied on k sy (Err b) e = plain (then (begun (dropped hh) l) [] (close_frame (record { local = hh.pending.local; remote = record { 0 = k.arg0 } }) ∷ [])) (Refused (BadCredit b)) (frame_len k) (by_number (λ n. eqb n 0 ≡ false) refl refl refl b) tt
+  opens-readied on k sy rd mine (Ok t) e = fills _ t k sy refl refl refl refl on refl e rd mine refl
+  opens-readied on k sy rd mine (Err b) e = plain (then (begun (dropped hh) l) [] (close_frame (record { local = hh.pending.local; remote = record { 0 = k.arg0 } }) ∷ [])) (Refused (BadCredit b)) (frame_len k) (by_number (λ n. eqb n 0 ≡ false) refl refl refl b) tt
 
   not_opened : (f : Option ChannelFault) → eqb (answer_number (unless_fault f Waiting)) 0 ≡ false
   unfolding unless_fault answer_number
@@ -266,7 +269,7 @@ module _ (l : Lent) (ok : TableOk (policy l) l.state.header.negotiated.config.ch
   opens_by on r (stopped a used st) = plain (begun (still_pending a hh) l) a used st.undone tt
   opens_by on r (packet k sy) =
       let mine = eqb k.arg1 hh.pending.local.0 in
-      pick (Opens l received) (is_ready k.command && mine) (λ t. opens-readied on k sy (opened_of (opening_slot hh.pending.local) (record { 0 = k.arg0 }) (body_of received k) (policy l)) refl)
+      pick (Opens l received) (is_ready k.command && mine) (λ t. let m = and-true (is_ready k.command) mine t in opens-readied on k sy m.0 (eqb-true k.arg1 hh.pending.local.0 m.1) (opened_of (opening_slot hh.pending.local) (record { 0 = k.arg0 }) (body_of received k) (policy l)) refl)
       (λ t. pick (Opens l received) (is_write k.command && mine)
       (λ u. plain (then (begun (dropped hh) l) [] (close_frame (record { local = hh.pending.local; remote = record { 0 = k.arg0 } }) ∷ [])) (Refused UnexpectedCommand) (frame_len k) refl tt)
       (λ u. pick (Opens l received) (is_close k.command && mine) (λ v. plain (begun (dropped hh) l) (Refused ChannelClosed) (frame_len k) refl tt) (λ v. opens-acted k)))

@@ -26,7 +26,7 @@ use Rattle.slot.specs.declared.ids.LocalId.{LocalId}
 use Rattle.slot.specs.declared.ids.RemoteId.{RemoteId}
 use Rattle.slot.specs.Ids.{closed_by}
 use Rattle.slot.specs.Slot.{is_failed, is_closed, error_of, has_data, take_len, took_of, taken_of, settled_of, leave_of, spent_of, ready_of, opening_slot, opened_of}
-use Rattle.slot.proofs.Kept.{pick, settled-sound}
+use Rattle.slot.proofs.Kept.{pick}
 use Rattle.slot.proofs.Stays.{settled-stays}
 use Rattle.state.specs.declared.Header.{Header}
 use Rattle.state.specs.Change.{Step, Change, slot_to, changed_all}
@@ -50,7 +50,7 @@ use Rattle.history.proofs.Acts.{acted-fault, acted-at, at_named}
 use Rattle.history.proofs.Marks.{there-filled}
 use Rattle.history.proofs.Packets.{Got, stopped, packet, got, set_same}
 use Rattle.history.proofs.Places.{TableOk, fault_of, found-filled, found_local}
-use Rattle.history.proofs.Steps.{table-set}
+use Rattle.history.proofs.Steps.{table-settled}
 use Rattle.slot.specs.declared.ChannelFault.{ChannelFault}
 use Rattle.std.specs.Prelude.{Option, Some, None, Result, Ok, Err}
 use Rattle.slot.specs.declared.ChannelError.{ChannelError}
@@ -268,7 +268,7 @@ module _ (l : Lent) (ok : TableOk (policy l) l.state.header.negotiated.config.ch
       ss1 = set ss ch.slot s1
 
       ok1 : TableOk p l.state.header.negotiated.config.channels ss1 l.rx
-      ok1 = table-set p l.state.header.negotiated.config.channels ss l.rx ch.slot s1 ok fill (settled-stays (slot_in ss ch.slot) p room) (settled-sound (slot_in ss ch.slot) p room p.rx_cap (ok.sound ch.slot fill))
+      ok1 = table-settled p l.state.header.negotiated.config.channels ss l.rx ch.slot room ok fill
 
       stays1 : (j : ℕ) → ((slot_in ss1 j).filled ≡ (slot_in ss j).filled) × ((slot_in ss1 j).local.0 ≡ (slot_in ss j).local.0)
       stays1 j =

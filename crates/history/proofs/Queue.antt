@@ -944,7 +944,7 @@ module _ (n : Negotiated) (r : List ℕ) (rx store : ℕ) (fit : stores_fit n.co
       ∙ ap (moved n.config.channels (back_move (take 1 (queue_in w)))) (queue-moves n r rx store fit w h front_taken)
       ∙ back_is n.config.channels (queue_in w)
 
-  queues : Queues n.config.channels w
+  pub queues : Queues n.config.channels w
   queues =
       record {
         moves = queue-moves n r rx store fit w h;
@@ -958,7 +958,7 @@ module _ (n : Negotiated) (r : List ℕ) (rx store : ℕ) (fit : stores_fit n.co
         ended = λ x f t. call-offer w x f (sym (ap (λ (d : Connection). is_offer d.header.pending.what) (state-after n r rx store w h x)) ∙ t);
       }
 
-start-empty : (s : Start) → queue_in (begins s) ≡ []
+pub start-empty : (s : Start) → queue_in (begins s) ≡ []
 unfolding queue_of fresh queued_opens
 start-empty s =
     ap (λ (y : Connection). queued_opens y.header.negotiated.config.max_payload (begins s).store (take y.header.queued y.queue))

@@ -24,9 +24,9 @@ use Rattle.slot.specs.declared.ChannelFault.TheVariants.{RxOverflow, BadCredit, 
 use Rattle.slot.specs.declared.ChannelSlot.{ChannelSlot}
 use Rattle.slot.specs.declared.Settled.{Settled}
 use Rattle.slot.specs.Slot.{is_opening, is_failed, spent_of, delivered_of, settled_of, SlotOk}
-use Rattle.slot.proofs.Kept.{pick}
+use Rattle.slot.proofs.Kept.{pick, settled-sound}
 use Rattle.slot.proofs.Laws.{cond-false}
-use Rattle.slot.proofs.Stays.{Stays}
+use Rattle.slot.proofs.Stays.{Stays, settled-stays}
 use Rattle.state.specs.Change.{Change, header_to, changed, changed_all}
 use Rattle.state.specs.State.{Connection}
 use Rattle.state.specs.declared.Header.{Header}
@@ -126,6 +126,13 @@ table-set p n ss rx j t ok there a sound =
 
     same-local : (x : ℕ) → (slot_in (set ss j t) x).local.0 ≡ (slot_in ss x).local.0
     same-local x = at x (λ (s : ChannelSlot). s.local.0 ≡ (slot_in ss x).local.0) (λ e. ap (λ y. y.0) a.local ∙ ap (λ (y : ℕ). (slot_in ss y).local.0) (sym e)) refl
+
+-- as it does where one is settled
+pub table-settled : (p : RxPolicy) (n : ℕ) (ss : List ChannelSlot) (rx : List ℕ) (j room : ℕ) → TableOk p n ss rx → (slot_in ss j).filled ≡ true
+    → TableOk p n (set ss j (settled_of (slot_in ss j) p room).slot) rx
+table-settled p n ss rx j room ok there =
+    table-set p n ss rx j (settled_of (slot_in ss j) p room).slot ok there (settled-stays (slot_in ss j) p room)
+    (settled-sound (slot_in ss j) p room p.rx_cap (ok.sound j there))
 
 -- ---- a packet, or none, to a call that is on no channel or on another
 

@@ -63,7 +63,7 @@ each_at f i (b ∷ bs) zero h = let e : i ≡ i + 0 = omega arith in ap (λ (x :
 each_at f i (b ∷ bs) (suc j) h = let e : suc i + j ≡ i + suc j = omega arith in each_at f (suc i) bs j (omega arith) ∙ ap (λ (x : ℕ). f x (get_or bs j no_book)) e
 
 -- the book at a place after a call
-book-at : (p : RxPolicy) (c : Call) (o : Seen) (y : Ledger) (i : ℕ) → i < length y.books → book_at (entry p c o y) i ≡ book_after p y.books y.asked c o i (book_at y i)
+pub book-at : (p : RxPolicy) (c : Call) (o : Seen) (y : Ledger) (i : ℕ) → i < length y.books → book_at (entry p c o y) i ≡ book_after p y.books y.asked c o i (book_at y i)
 unfolding entry
 book-at p c o y i h =
     each_at (book_after p y.books y.asked c o) 0 y.books i h ∙ ap (λ (x : ℕ). book_after p y.books y.asked c o x (book_at y i)) (zero-add i)
@@ -74,9 +74,13 @@ book-size p c o y = each-length (book_after p y.books y.asked c o) 0 y.books
 
 -- ---- what is kept between calls
 
+-- whether a book's sum of credit is its slot's; whether the channel is read by reads alone
+abbrev pub counted : Bool → Bool → Negotiated → Terms
+counted counts reads n = record { credit = offered_credit n; reads = reads; counts = counts }
+
 -- reads: the places that are read by reads alone
 abbrev pub terms : Bool → Negotiated → Terms
-terms reads n = record { credit = offered_credit n; reads = reads }
+terms reads n = counted true reads n
 
 pub record Kept (reads : ℕ → Bool) (n : Negotiated) (w : World) (y : Ledger) : Type 0 where
   pub size : length y.books ≡ 64
@@ -124,9 +128,9 @@ module _ (reads : ℕ → Bool) (w : World) (r : List ℕ) (rx store : ℕ) wher
           apart = far;
         }
 
-    limits : (t : Bool) → Limits (policy_of m) (terms t m) m.config.max_payload
+    limits : (a t : Bool) → Limits (policy_of m) (counted a t m) m.config.max_payload
     unfolding policy_of offered_credit
-    limits t =
+    limits a t =
         let s = sound m.config h.facts.limits.within in
         record {
           fits = by-test m.delayed_ack
@@ -152,67 +156,67 @@ module _ (reads : ℕ → Bool) (w : World) (r : List ℕ) (rx store : ℕ) wher
       mark : Marked y.books c.slots
       mark = marked reads m w y h.facts.slots.full k
 
-      -- at one place
-      module _ (i : ℕ) where
+      -- at one place, and any book that goes with its slot
+      module _ (i : ℕ) (a : Bool) (b : Book) (kb : KeptAt (policy_of m) (counted a (reads i) m) i c.slots w.rx b) where
         abbrev follows : Call → Outcome → Type 0
-        follows x o = Follows (terms (reads i) m) l table (limits (reads i)) empty placed y.books mark y.asked (λ t d. k.asks t) i (book_at y i) (k.each i) x o
+        follows x o = Follows (counted a (reads i) m) l table (limits a (reads i)) empty placed y.books mark y.asked (λ t d. k.asks t) i b kb x o
 
         -- the refusals ahead of a call
         follows-checked : (x : Call) (t : Bool) (o : Outcome) → follows x o → follows x (checked t l o)
         unfolding checked answer_number
         follows-checked x t o f =
             pick (follows x) t
-            (λ a. pick (follows x) (stores_fit m.config (length w.rx) (length w.store)) (λ b. f)
-            (λ b. early-follows (terms (reads i) m) l table (limits (reads i)) empty placed y.books mark y.asked (λ t d. k.asks t) i (book_at y i) (k.each i) x StoreShort refl))
-            (λ a. early-follows (terms (reads i) m) l table (limits (reads i)) empty placed y.books mark y.asked (λ t d. k.asks t) i (book_at y i) (k.each i) x BrokenState refl)
+            (λ u. pick (follows x) (stores_fit m.config (length w.rx) (length w.store)) (λ v. f)
+            (λ v. early-follows (counted a (reads i) m) l table (limits a (reads i)) empty placed y.books mark y.asked (λ t d. k.asks t) i b kb x StoreShort refl))
+            (λ u. early-follows (counted a (reads i) m) l table (limits a (reads i)) empty placed y.books mark y.asked (λ t d. k.asks t) i b kb x BrokenState refl)
 
         follows-out : (x : Call) (t : Bool) (out : ℕ) (o : Outcome) → follows x o → follows x (checked_out t l out o)
         unfolding checked_out answer_number
         follows-out x t out o f =
             follows-checked x t _ (pick (follows x) (ltb out 56)
-            (λ b. early-follows (terms (reads i) m) l table (limits (reads i)) empty placed y.books mark y.asked (λ t d. k.asks t) i (book_at y i) (k.each i) x OutShort refl) (λ b. f))
+            (λ u. early-follows (counted a (reads i) m) l table (limits a (reads i)) empty placed y.books mark y.asked (λ t d. k.asks t) i b kb x OutShort refl) (λ u. f))
 
         call-follows : (x : Call) → (reads i ≡ true → NoTake i x) → follows x (outcome w x)
         unfolding outcome open_outcome dispatch_outcome settle_outcome take_outcome read_outcome write_outcome close_outcome take_front_outcome look_outcome numbers_outcome accept_outcome reject_outcome let_go_outcome verdict_outcome
         call-follows (open_call out destination received) only =
             follows-out (open_call out destination received) (is_whole w.state) (length out) _
-            (open-follows (terms (reads i) m) l table (limits (reads i)) empty placed y.books mark y.asked (λ t d. k.asks t) i (book_at y i) (k.each i) out destination received)
+            (open-follows (counted a (reads i) m) l table (limits a (reads i)) empty placed y.books mark y.asked (λ t d. k.asks t) i b kb out destination received)
         call-follows (dispatch_call out received) only =
             follows-out (dispatch_call out received) (is_whole w.state) (length out) _
-            (dispatch-follows (terms (reads i) m) l table (limits (reads i)) empty placed y.books mark y.asked (λ t d. k.asks t) i (book_at y i) (k.each i) out received)
+            (dispatch-follows (counted a (reads i) m) l table (limits a (reads i)) empty placed y.books mark y.asked (λ t d. k.asks t) i b kb out received)
         call-follows (settle_call out ch want) only =
             follows-out (settle_call out ch want) (is_whole w.state) (length out) _
-            (settle-follows (terms (reads i) m) l table (limits (reads i)) empty placed y.books mark y.asked (λ t d. k.asks t) i (book_at y i) (k.each i) out ch want)
+            (settle-follows (counted a (reads i) m) l table (limits a (reads i)) empty placed y.books mark y.asked (λ t d. k.asks t) i b kb out ch want)
         call-follows (take_call ch buf) only =
             follows-checked (take_call ch buf) (is_whole w.state) _
-            (take-follows (terms (reads i) m) l table (limits (reads i)) empty placed y.books mark y.asked (λ t d. k.asks t) i (book_at y i) (k.each i) ch buf only)
+            (take-follows (counted a (reads i) m) l table (limits a (reads i)) empty placed y.books mark y.asked (λ t d. k.asks t) i b kb ch buf only)
         call-follows (read_call out ch buf received) only =
             follows-out (read_call out ch buf received) (is_whole w.state) (length out) _
-            (read-follows (terms (reads i) m) l table (limits (reads i)) empty placed y.books mark y.asked (λ t d. k.asks t) i (book_at y i) (k.each i) out ch buf received)
+            (read-follows (counted a (reads i) m) l table (limits a (reads i)) empty placed y.books mark y.asked (λ t d. k.asks t) i b kb out ch buf received)
         call-follows (write_call spending out ch bytes received) only =
             follows-out (write_call spending out ch bytes received) (is_whole w.state) (length out) _
-            (write-follows (terms (reads i) m) l table (limits (reads i)) empty placed y.books mark y.asked (λ t d. k.asks t) i (book_at y i) (k.each i) spending out ch bytes received)
+            (write-follows (counted a (reads i) m) l table (limits a (reads i)) empty placed y.books mark y.asked (λ t d. k.asks t) i b kb spending out ch bytes received)
         call-follows (close_call out ch) only =
             follows-out (close_call out ch) (is_whole w.state) (length out) _
-            (close_follows (terms (reads i) m) l table (limits (reads i)) empty placed y.books mark y.asked (λ t d. k.asks t) i (book_at y i) (k.each i) out ch)
+            (close_follows (counted a (reads i) m) l table (limits a (reads i)) empty placed y.books mark y.asked (λ t d. k.asks t) i b kb out ch)
         call-follows front_taken only =
             follows-checked front_taken (is_whole w.state) _
-            (front-follows (terms (reads i) m) l table (limits (reads i)) empty placed y.books mark y.asked (λ t d. k.asks t) i (book_at y i) (k.each i))
+            (front-follows (counted a (reads i) m) l table (limits a (reads i)) empty placed y.books mark y.asked (λ t d. k.asks t) i b kb)
         call-follows (look_call (numbers_look ch)) only =
             follows-checked (look_call (numbers_look ch)) (is_whole w.state) _
-            (look-follows (terms (reads i) m) l table (limits (reads i)) empty placed y.books mark y.asked (λ t d. k.asks t) i (book_at y i) (k.each i) (numbers_look ch) (numbers_for l ch))
+            (look-follows (counted a (reads i) m) l table (limits a (reads i)) empty placed y.books mark y.asked (λ t d. k.asks t) i b kb (numbers_look ch) (numbers_for l ch))
         call-follows (accept_call out) only =
             follows-out (accept_call out) (is_whole w.state) (length out) _
-            (accept-follows (terms (reads i) m) l table (limits (reads i)) empty placed y.books mark y.asked (λ t d. k.asks t) i (book_at y i) (k.each i) refl small-credit out)
+            (accept-follows (counted a (reads i) m) l table (limits a (reads i)) empty placed y.books mark y.asked (λ t d. k.asks t) i b kb refl small-credit out)
         call-follows (reject_call out) only =
             follows-out (reject_call out) (is_whole w.state) (length out) _
-            (reject-follows (terms (reads i) m) l table (limits (reads i)) empty placed y.books mark y.asked (λ t d. k.asks t) i (book_at y i) (k.each i) out)
+            (reject-follows (counted a (reads i) m) l table (limits a (reads i)) empty placed y.books mark y.asked (λ t d. k.asks t) i b kb out)
         call-follows let_go_call only =
             follows-checked let_go_call (is_whole w.state) _
-            (let-go-follows (terms (reads i) m) l table (limits (reads i)) empty placed y.books mark y.asked (λ t d. k.asks t) i (book_at y i) (k.each i))
+            (let-go-follows (counted a (reads i) m) l table (limits a (reads i)) empty placed y.books mark y.asked (λ t d. k.asks t) i b kb)
         call-follows (verdict_call out take remote credit) only =
             follows-out (verdict_call out take remote credit) (is_whole w.state) (length out) _
-            (verdict-follows (terms (reads i) m) l table (limits (reads i)) empty placed y.books mark y.asked (λ t d. k.asks t) i (book_at y i) (k.each i) refl small-credit out take remote credit _ _)
+            (verdict-follows (counted a (reads i) m) l table (limits a (reads i)) empty placed y.books mark y.asked (λ t d. k.asks t) i b kb refl small-credit out take remote credit _ _)
 
       -- what is seen of a call
       abbrev event : Call → Event
@@ -226,21 +230,28 @@ module _ (reads : ℕ → Bool) (w : World) (r : List ℕ) (rx store : ℕ) wher
           let e = seen-is m r rx store w h x in
           e ∙ ap (λ (s : Seen). saw_of (outcome w x) s.sent) (sym e)
 
+      -- any book that goes with the slot of a place, after a call
+      pub book-keeps : (i : ℕ) (a : Bool) (b : Book) → KeptAt (policy_of m) (counted a (reads i) m) i c.slots w.rx b → (x : Call) → (reads i ≡ true → NoTake i x)
+          → KeptAt (policy_of m) (counted a (reads i) m) i (state_of (after w x).state).slots (after w x).rx (book_after (policy_of m) y.books y.asked x (now x) i b)
+      unfolding after
+      book-keeps i a b kb x only =
+          let st = state-after m r rx store w h x in
+          let o = outcome w x in
+          let K : List ChannelSlot → Book → Type 0 = λ ss d. KeptAt (policy_of m) (counted a (reads i) m) i ss o.rx d in
+          let f = call-follows i a b kb x only (now x).sent (record { acks = λ n. seen-acks m r rx store w h x n; sent = ap (λ (s : Seen). s.sent) (seen-is m r rx store w h x) }) in
+          let e : book_after (policy_of m) y.books y.asked x (now x) i b ≡ book_after (policy_of m) y.books y.asked x (saw_of o (now x).sent) i b =
+          ap (λ (s : Seen). book_after (policy_of m) y.books y.asked x s i b) (sees x) in
+          subst (λ (d : Book). K (state_of (after w x).state).slots d) (sym e)
+          (subst (λ (d : Connection). K d.slots (book_after (policy_of m) y.books y.asked x (saw_of o (now x).sent) i b)) (sym st)
+          (subst (λ (ss : List ChannelSlot). K ss (book_after (policy_of m) y.books y.asked x (saw_of o (now x).sent) i b)) (sym (slots-by c o.changes)) f))
+
       -- a place that is one of the table's
       inside : (i : ℕ) → i < 64 → (x : Call) → (reads i ≡ true → NoTake i x)
           → KeptAt (policy_of m) (terms (reads i) m) i (state_of (after w x).state).slots (after w x).rx (book_at (entry (policy_of m) x (now x) y) i)
-      unfolding after
       inside i lt x only =
-          let st = state-after m r rx store w h x in
-          let o = outcome w x in
-          let K : List ChannelSlot → Book → Type 0 = λ ss b. KeptAt (policy_of m) (terms (reads i) m) i ss o.rx b in
           let z = k.size in
-          let f = call-follows i x only (now x).sent (record { acks = λ n. seen-acks m r rx store w h x n; sent = ap (λ (s : Seen). s.sent) (seen-is m r rx store w h x) }) in
-          let e : book_at (entry (policy_of m) x (now x) y) i ≡ book_after (policy_of m) y.books y.asked x (saw_of o (now x).sent) i (book_at y i) =
-          book-at (policy_of m) x (now x) y i (omega arith) ∙ ap (λ (s : Seen). book_after (policy_of m) y.books y.asked x s i (book_at y i)) (sees x) in
-          subst (λ (b : Book). K (state_of (after w x).state).slots b) (sym e)
-          (subst (λ (d : Connection). K d.slots (book_after (policy_of m) y.books y.asked x (saw_of o (now x).sent) i (book_at y i))) (sym st)
-          (subst (λ (ss : List ChannelSlot). K ss (book_after (policy_of m) y.books y.asked x (saw_of o (now x).sent) i (book_at y i))) (sym (slots-by c o.changes)) f))
+          subst (λ (b : Book). KeptAt (policy_of m) (terms (reads i) m) i (state_of (after w x).state).slots (after w x).rx b) (sym (book-at (policy_of m) x (now x) y i (omega arith)))
+          (book-keeps i true (book_at y i) (k.each i) x only)
 
       -- one that is not
       outside : (i : ℕ) → 64 ≤ i → (x : Call)
@@ -254,7 +265,7 @@ module _ (reads : ℕ → Bool) (w : World) (r : List ℕ) (rx store : ℕ) wher
           let eb : book_at (entry (policy_of m) x (now x) y) i ≡ no_book = get_or-eq_default (entry (policy_of m) x (now x) y).books no_book {n = i} (omega arith) in
           record {
             full = λ f. absurd (true≢false (sym f ∙ ap (λ (s : ChannelSlot). s.filled) es));
-            none = λ f. vacant-fresh (policy_of m) _ _ es eb;
+            none = λ f. vacant-fresh (policy_of m) _ _ _ es eb;
           }
 
       -- so what is kept is kept by a call
@@ -326,6 +337,7 @@ module _ (reads : ℕ → Bool) (w : World) (r : List ℕ) (rx store : ℕ) wher
             used = us;
             write = wr;
             named = nm;
+            stays = there';
             over = over';
             broke = λ d.
                 by-test (slot_in (state_of (after w x).state).slots j).filled
@@ -380,8 +392,8 @@ module _ (n : Negotiated) (w : World) (e : state_of w.state ≡ fresh n) where
   unfolding slot_in fresh
   fresh-slot i = ap (λ (d : Connection). slot_in d.slots i) e ∙ in-replicate 64 i empty_slot
 
-  pub fresh-vacant : (p : RxPolicy) (i : ℕ) → Vacant p (place_slot w i) (book_at clean i)
-  fresh-vacant p i = vacant-fresh p _ _ (fresh-slot i) (in-replicate 64 i no_book)
+  pub fresh-vacant : (p : RxPolicy) (i : ℕ) → Vacant p true (place_slot w i) (book_at clean i)
+  fresh-vacant p i = vacant-fresh p true _ _ (fresh-slot i) (in-replicate 64 i no_book)
 
   pub no_slot : (i : ℕ) → (place_slot w i).filled ≡ false
   unfolding empty_slot
@@ -443,11 +455,11 @@ claim p credit s q b g =
     }
 
 -- at each place
-place : (p : RxPolicy) (credit : Terms) (i : ℕ) (ss : List ChannelSlot) (rx : List ℕ) (b : Book) → KeptAt p credit i ss rx b → Place p (slot_in ss i) (run_of rx p.rx_cap i (slot_in ss i)) b
-place p credit i ss rx b k =
+place : (p : RxPolicy) (credit : Terms) (i : ℕ) (ss : List ChannelSlot) (rx : List ℕ) (b : Book) → credit.counts ≡ true → KeptAt p credit i ss rx b → Place p (slot_in ss i) (run_of rx p.rx_cap i (slot_in ss i)) b
+place p credit i ss rx b c k =
     by-test (slot_in ss i).filled
-    (λ t. let g = k.full t in record { there = g.there ∙ sym t; claim = λ u. claim p credit _ _ b g; total = g.tally.delayed; plain = g.tally.plain })
-    (λ t. let n = k.none t in record { there = n.gone ∙ sym t; claim = λ u. absurd (true≢false (sym u ∙ n.gone)); total = n.tally.delayed; plain = n.tally.plain })
+    (λ t. let g = k.full t in record { there = g.there ∙ sym t; claim = λ u. claim p credit _ _ b g; total = g.tally.delayed c; plain = g.tally.plain })
+    (λ t. let n = k.none t in record { there = n.gone ∙ sym t; claim = λ u. absurd (true≢false (sym u ∙ n.gone)); total = n.tally.delayed c; plain = n.tally.plain })
 
 -- what a list of none, and of one, says
 pub first-8 : (s : Start) → ((x : Call) → answer_number (outcome (after_all (begins s) []) x).answer ≡ 8) → (x : Call) → answer_number (outcome (begins s) x).answer ≡ 8
@@ -464,7 +476,7 @@ demand-3 s cs apart =
     let p = policy_in s in
     by-test (stores_fit s.config (length s.rx) (length s.store))
     (λ t. let z = ran (λ i. false) s t cs apart (λ i e. absurd (true≢false (sym e))) in
-    record { places = λ i. place p (terms false n) i _ _ _ (z.kept.each i); calls = z.told })
+    record { places = λ i. place p (terms false n) i _ _ _ refl (z.kept.each i); calls = z.told })
     (λ t. let a = always-8 s t in
     let w = begins s in
     let f : (x : Call) → answer_number (outcome w x).answer ≡ 8 = λ x. first-8 s (a []).1 x in
@@ -472,11 +484,11 @@ demand-3 s cs apart =
     let e = ledger-8 p w f g clean cs in
     record {
       places = λ i.
-          let v : Vacant p (place_slot (after_all w cs) i) (book_at (ledger_of p clean (events_of w cs)) i) =
-          subst (λ (y : Ledger). Vacant p (place_slot (after_all w cs) i) (book_at y i)) (sym e)
-          (subst (λ (x : World). Vacant p (place_slot x i) (book_at clean i)) (sym (a cs).0) (fresh-vacant n w (fresh_start s) p i)) in
+          let v : Vacant p true (place_slot (after_all w cs) i) (book_at (ledger_of p clean (events_of w cs)) i) =
+          subst (λ (y : Ledger). Vacant p true (place_slot (after_all w cs) i) (book_at y i)) (sym e)
+          (subst (λ (x : World). Vacant p true (place_slot x i) (book_at clean i)) (sym (a cs).0) (fresh-vacant n w (fresh_start s) p i)) in
           let sn : (place_slot (after_all w cs) i).filled ≡ false = ap (λ (v : World). (place_slot v i).filled) (a cs).0 ∙ no_slot n w (fresh_start s) i in
-          record { there = v.gone ∙ sym sn; claim = λ u. absurd (true≢false (sym u ∙ v.gone)); total = v.tally.delayed; plain = v.tally.plain };
+          record { there = v.gone ∙ sym sn; claim = λ u. absurd (true≢false (sym u ∙ v.gone)); total = v.tally.delayed refl; plain = v.tally.plain };
       calls = told-8 p w f g clean cs;
     })
 

@@ -77,7 +77,8 @@ pub record Noted (p : RxPolicy) (l m : Ledger) (e : Event) : Type 0 where
   pub used : e.held.used ≡ 0 → ⊥
   pub write : is_wrte (header_at (received_in e.call)) ≡ true
   pub named : (header_at (received_in e.call)).arg1 ≡ (book_at l place).local
-  -- its book has it, and in delayed mode that the device broke its rule
+  -- it is there after the call too; its book has the 11, and in delayed mode that the device broke its rule
+  pub stays : (book_at m place).there ≡ true
   pub over : (book_at m place).over ≡ true
   pub broke : p.delayed ≡ true → (book_at m place).kept ≡ false
 

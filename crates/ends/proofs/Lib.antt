@@ -1,0 +1,15 @@
+pub mod Amounts
+pub mod Joint
+pub mod Books
+pub mod Live
+pub mod Lined
+pub mod Host
+pub mod Quiet
+pub mod Its
+pub mod Unacked
+pub mod State
+pub mod Half
+pub mod Theirs
+pub mod Run
+pub mod Sum
+pub mod Runs

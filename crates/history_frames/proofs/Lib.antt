@@ -1,0 +1,4 @@
+pub mod Each
+pub mod Frames
+pub mod Receipt
+pub mod Sends
