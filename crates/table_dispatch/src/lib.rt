@@ -65,7 +65,7 @@ fn fault(i: usize, s: ChannelSlot, remote: RemoteId, fault: ChannelFault) -> Dis
 }
 
 // The lowest slot with the device's number that is not closed, or, where all are, the lowest.
-fn remote_place(state: &[u8], n: usize, remote: RemoteId) -> Option<usize>
+pub fn remote_place(state: &[u8], n: usize, remote: RemoteId) -> Option<usize>
     requires { Walks state.now n }
     ensures { result ≡ below n (remote_place n (state_of state.now).slots remote) }
 {

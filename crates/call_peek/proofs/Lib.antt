@@ -1,0 +1,3 @@
+pub mod OtherLaws
+pub mod PartLaws
+pub mod PeekLaws
