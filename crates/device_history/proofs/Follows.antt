@@ -129,7 +129,7 @@ called-head head b handled o (Some m) = pick (λ (g : Gives). g.head ≡ head) (
 
 -- ---- a list of calls
 
-after-append : (w : World) (xs ys : List Call) → after_all w (xs ++ ys) ≡ after_all (after_all w xs) ys
+pub after-append : (w : World) (xs ys : List Call) → after_all w (xs ++ ys) ≡ after_all (after_all w xs) ys
 unfolding after_all
 after-append w [] ys = refl
 after-append w (x ∷ xs) ys = after-append (after w x) xs ys

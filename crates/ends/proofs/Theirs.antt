@@ -23,7 +23,7 @@ use Rattle.device_history.specs.Run.{DeviceCall, device_dispatches, device_reads
 use Rattle.device_history.specs.Trace.{begins_at, Story, joined, part_of}
 use Rattle.device_history.proofs.BookLaws.{events-append}
 use Rattle.device_history.proofs.FreeLaws.{given_so, given-append}
-use Rattle.device_history.proofs.Follows.{keeps-after}
+use Rattle.device_history.proofs.Follows.{keeps-after, after-append}
 use Rattle.ends_device.proofs.Turns.{Handed, handed-all, handed-none, AloneTurn, IgnoringTurn, JudgingTurn, DeviceTurn, goes-alone, ignores, judges, verdict_on, turns, still-connected}
 use Rattle.ends_lines.specs.Lines.{frames_on}
 use Rattle.ends_lines.proofs.Carried.{Carried, more, carried-first, carried-same, carried-append, carried-reads}
@@ -81,18 +81,13 @@ given-more st v c e =
     ap given_in (events-append (begins_at st.from) st.calls (c ∷ [])) ∙ given-append (events_of (begins_at st.from) st.calls) (events_of (after_all (begins_at st.from) st.calls) (c ∷ []))
     ∙ ap (λ (z : World). given_so st + given_in (events_of z (c ∷ []))) (sym e) ∙ ap (λ (z : ℕ). given_so st + z) (one-event v c)
 
-after-all-append : (w : World) (xs ys : List Call) → after_all w (xs ++ ys) ≡ after_all (after_all w xs) ys
-unfolding after_all
-after-all-append w [] ys = refl
-after-all-append w (x ∷ xs) ys = after-all-append (after w x) xs ys
-
 -- and with two
 given-two : (st : Story) (v : World) (c d : Call) → v ≡ after_all (begins_at st.from) st.calls
     → given_so (record { from = st.from; calls = st.calls ++ c ∷ d ∷ [] }) ≡ given_so st + given_by c (seen-by v c) + given_by d (seen-by (after v c) d)
 unfolding after_all
 given-two st v c d e =
     let one : Story = record { from = st.from; calls = st.calls ++ c ∷ [] } in
-    let e1 : after v c ≡ after_all (begins_at st.from) (st.calls ++ c ∷ []) = ap (λ (z : World). after z c) e ∙ sym (after-all-append (begins_at st.from) st.calls (c ∷ [])) in
+    let e1 : after v c ≡ after_all (begins_at st.from) (st.calls ++ c ∷ []) = ap (λ (z : World). after z c) e ∙ sym (after-append (begins_at st.from) st.calls (c ∷ [])) in
     ap (λ (z : List Call). given_so (record { from = st.from; calls = z })) (sym (append_assoc st.calls (c ∷ []) (d ∷ []))) ∙ given-more one (after v c) d e1
     ∙ ap (λ (z : ℕ). z + given_by d (seen-by (after v c) d)) (given-more st v c e)
 
