@@ -1,6 +1,8 @@
-// The lines of the scripts that the programs replay: the words of a call (`words`), and what lends a line or prints (`text`).
+// The lines of the scripts that the programs replay: the words of a call (`words`), what lends a line or prints (`text`), and the line
+// that answers a call (`line`).
 #![tactic(auto)]
 
+pub mod line;
 pub mod scan;
 pub mod text;
 pub mod words;

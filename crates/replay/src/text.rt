@@ -1,6 +1,6 @@
-// Numbers and bytes as text: `Hex` for what a program prints, and writers of a line in lent bytes. Each of those puts as much of its
-// text as fits from `at` on, and answers where it ends. No program calls the writers since they print by Display: they
-// stay as public functions with promises and edits of their own.
+// Numbers and bytes as text, put into lent bytes: each writer puts as much of its text as fits from `at` on, and answers where it ends.
+// A `Line` is written by `put` and `put_hex`; the writers of numbers stay as public functions with promises and edits of their own, since
+// the programs print numbers by Display. `Hex` is bytes as a Display.
 ghost use Rattle.std.specs.Prelude.{◌≡◌, ◌++◌, ◌<◌, take, Some};
 ghost use Rattle.std.specs.Fmt.{HasWritten, IsPlainFormatter};
 ghost use Rattle.std.specs.Result.{IsOk};
@@ -97,7 +97,7 @@ fn write_byte<W: fmt::Write>(f: &mut fmt::Formatter<W>, b: u8) -> fmt::Result
     write!(f, "{b:02x}")
 }
 
-// Bytes in hexadecimal, "-" for none, as a Display: what a program prints has room for all of it.
+// Bytes in hexadecimal, "-" for none, as a Display. Each byte is a piece of its own to the writer, so it is for few bytes.
 #[derive(Clone, Copy)]
 pub struct Hex<'a>(pub &'a [u8]);
 

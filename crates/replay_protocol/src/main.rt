@@ -6,7 +6,7 @@ use intake::read_full;
 use protocol::command::Command;
 use protocol::packet::{DecodeError, Packet};
 use refusal::Numbered;
-use replay::text::Hex;
+use replay::line::Line;
 use replay::words::{bytes_at, number_at};
 use std::io::Write;
 
@@ -44,7 +44,7 @@ fn letters(command: Command) -> &'static str {
     }
 }
 
-fn refused<W: Write>(output: &mut W, refusal: DecodeError) -> std::io::Result<()> {
+fn refused(output: &mut Line, refusal: DecodeError) -> std::io::Result<()> {
     let number = refusal.number();
     match refusal {
         DecodeError::InvalidCommand(word) => writeln!(
@@ -60,23 +60,23 @@ fn refused<W: Write>(output: &mut W, refusal: DecodeError) -> std::io::Result<()
 }
 
 // A frame that was taken. That it is all there is tested again: `decode` promises its answer by a definition, and no clause has lengths.
-fn accepted<W: Write>(output: &mut W, p: Packet, received: &[u8]) -> std::io::Result<()> {
+fn accepted(output: &mut Line, p: Packet, received: &[u8]) -> std::io::Result<()> {
     let n = p.data_length;
     if n <= 1_048_576 && 24 + n <= received.len() {
         let command = letters(p.command);
-        let payload = Hex(p.payload_in(received));
-        let used = p.frame_len();
-        writeln!(
+        write!(
             output,
-            "decoded command={command} arg0={} arg1={} payload={payload} used={used}",
+            "decoded command={command} arg0={} arg1={} payload=",
             p.arg0, p.arg1
-        )
+        )?;
+        output.hex(p.payload_in(received));
+        writeln!(output, " used={}", p.frame_len())
     } else {
         Ok(())
     }
 }
 
-fn decode<W: Write>(output: &mut W, limit: u32, received: &[u8]) -> std::io::Result<()> {
+fn decode(output: &mut Line, limit: u32, received: &[u8]) -> std::io::Result<()> {
     match Packet::decode(received, limit) {
         Ok(None) => writeln!(output, "waiting used=0"),
         Ok(Some(packet)) => accepted(output, packet, received),
@@ -84,7 +84,7 @@ fn decode<W: Write>(output: &mut W, limit: u32, received: &[u8]) -> std::io::Res
     }
 }
 
-fn has_feature<W: Write>(output: &mut W, banner: &[u8], feature: &[u8]) -> std::io::Result<()> {
+fn has_feature(output: &mut Line, banner: &[u8], feature: &[u8]) -> std::io::Result<()> {
     let answer = if features::has_feature(banner, feature) {
         "yes"
     } else {
@@ -94,7 +94,7 @@ fn has_feature<W: Write>(output: &mut W, banner: &[u8], feature: &[u8]) -> std::
 }
 
 // One call: a word, then one or two arguments. A line that names none has no answer.
-fn answer<W: Write>(output: &mut W, line: &[u8]) -> std::io::Result<()> {
+fn answer(output: &mut Line, line: &[u8]) -> std::io::Result<()> {
     let mut first = io::large_buffer();
     let mut second = io::buffer();
     match Call::of(line) {
@@ -118,8 +118,11 @@ fn answer<W: Write>(output: &mut W, line: &[u8]) -> std::io::Result<()> {
 // This and `main` are alike in the three replay programs: one for all would take the reader, the writer and a closure, with a clause that it
 // may be called, in place of these few lines.
 fn replay<W: Write>(output: &mut W, script: &[u8]) -> std::io::Result<()> {
+    let mut out = Line::new();
     for line in script.split(|b| *b == b'\n') {
-        answer(output, line)?;
+        out.clear();
+        answer(&mut out, line)?;
+        output.write_all(out.text())?;
     }
     Ok(())
 }

@@ -9,7 +9,8 @@ ghost use Rattle.replay_shell.specs.Bounds.{Room};
 use console::Gathered;
 use intake::read_full;
 use refusal::{Numbered, WAITING, number_of};
-use replay::text::{Hex, written};
+use replay::line::Line;
+use replay::text::written;
 use replay::words::{bytes_at, number_at, size_at};
 use shell::{Frame, Kind};
 use std::io;
@@ -39,29 +40,18 @@ impl Call {
 }
 
 // A frame that was read, and its bytes as the writer makes them.
-fn whole<W: Write>(
-    output: &mut W,
-    frame: Frame,
-    payload: &[u8],
-    back: &mut [u8],
-) -> io::Result<()> {
+fn whole(output: &mut Line, frame: Frame, payload: &[u8], back: &mut [u8]) -> io::Result<()> {
     let kind = u8::from(frame.kind);
     let code = frame.code.unwrap_or(0);
     let n = shell_write::write_frame(u32::from(kind), payload, back).unwrap_or(0);
-    write!(
-        output,
-        "frame kind={kind} data={} code={code}",
-        Hex(payload)
-    )?;
-    writeln!(
-        output,
-        " back={} used={}",
-        Hex(written(back, n)),
-        frame.used
-    )
+    write!(output, "frame kind={kind} data=")?;
+    output.hex(payload);
+    write!(output, " code={code} back=")?;
+    output.hex(written(back, n));
+    writeln!(output, " used={}", frame.used)
 }
 
-fn read<W: Write>(output: &mut W, received: &[u8], back: &mut [u8]) -> io::Result<()> {
+fn read(output: &mut Line, received: &[u8], back: &mut [u8]) -> io::Result<()> {
     match shell::read_frame(received) {
         Ok(None) => writeln!(output, "waiting used=0"),
         Ok(Some(frame)) => whole(output, frame, frame.payload(received), back),
@@ -70,11 +60,13 @@ fn read<W: Write>(output: &mut W, received: &[u8], back: &mut [u8]) -> io::Resul
 }
 
 // The answer of a write, and all bytes that it was lent.
-fn write<W: Write>(output: &mut W, kind: u32, payload: &[u8], back: &mut [u8]) -> io::Result<()> {
+fn write(output: &mut Line, kind: u32, payload: &[u8], back: &mut [u8]) -> io::Result<()> {
     let answer = shell_write::write_frame(kind, payload, back);
     let number = number_of(answer);
     let n = answer.unwrap_or(0);
-    writeln!(output, "written {number} n={n} out={}", Hex(back))
+    write!(output, "written {number} n={n} out=")?;
+    output.hex(back);
+    writeln!(output)
 }
 
 // A piece with the rest before it, gathered behind what is there.
@@ -113,27 +105,21 @@ fn show(kind: Kind, received: &[u8], piece: usize, out: &mut [u8]) -> Gathered
 }
 
 // A session's output, errors and exit data, each gathered from the start, and how the session ended.
-fn session<W: Write>(
-    output: &mut W,
-    received: &[u8],
-    piece: usize,
-    back: &mut [u8],
-) -> io::Result<()> {
+fn session(output: &mut Line, received: &[u8], piece: usize, back: &mut [u8]) -> io::Result<()> {
     if received.len() > back.len() {
         return Ok(());
     }
+    write!(output, "session output=")?;
     let shown = show(Kind::Output, received, piece, back);
-    write!(
-        output,
-        "session output={}",
-        Hex(written(back, shown.length))
-    )?;
+    output.hex(written(back, shown.length));
+    write!(output, " errors=")?;
     let shown = show(Kind::Errors, received, piece, back);
-    write!(output, " errors={}", Hex(written(back, shown.length)))?;
+    output.hex(written(back, shown.length));
+    write!(output, " exit=")?;
     let shown = show(Kind::Exit, received, piece, back);
+    output.hex(written(back, shown.length));
     let ending = shown.refusal.map_or(WAITING, |refusal| refusal.number());
-    let exit = Hex(written(back, shown.length));
-    writeln!(output, " exit={exit} ending={ending} used={}", shown.used)
+    writeln!(output, " ending={ending} used={}", shown.used)
 }
 
 // The room for a frame that word 3 spells. replay_sync has its like: a public one would have to say how the buffer's borrow ends.
@@ -144,7 +130,7 @@ fn room<'a>(line: &[u8], back: &'a mut [u8]) -> &'a mut [u8] {
 
 // One call: `read` and bytes; `session`, a piece's length and bytes; `write` or `zeros`, a kind, data in hexadecimal or a count of
 // zero bytes, and the room for the frame. A line that names none has no answer.
-fn answer<W: Write>(output: &mut W, line: &[u8]) -> io::Result<()> {
+fn answer(output: &mut Line, line: &[u8]) -> io::Result<()> {
     let mut first = replay::space();
     let mut back = replay::space();
     match Call::of(line) {
@@ -181,8 +167,11 @@ fn answer<W: Write>(output: &mut W, line: &[u8]) -> io::Result<()> {
 // This and `main` are alike in the three replay programs: one for all would take the reader, the writer and a closure, with a clause that it
 // may be called, in place of these few lines.
 fn replay<W: Write>(output: &mut W, script: &[u8]) -> io::Result<()> {
+    let mut out = Line::new();
     for line in script.split(|b| *b == b'\n') {
-        answer(output, line)?;
+        out.clear();
+        answer(&mut out, line)?;
+        output.write_all(out.text())?;
     }
     Ok(())
 }

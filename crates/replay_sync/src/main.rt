@@ -7,7 +7,8 @@ pub mod wide;
 use exchange::{Exchange, SyncId};
 use intake::read_full;
 use refusal::{Numbered, number_of};
-use replay::text::{Hex, written};
+use replay::line::Line;
+use replay::text::written;
 use replay::words::{bytes_at, number_at, size_at};
 use std::io::Write;
 use std::{fmt, io};
@@ -132,26 +133,17 @@ fn fields_of(kind: u32, a: u32, b: u32, c: u32, d: u32) -> Fields {
 }
 
 // A message that was read, and its bytes as the writer makes them.
-fn whole<W: Write>(
-    output: &mut W,
-    x: Exchange,
-    w: Whole,
-    text: &[u8],
-    back: &mut [u8],
-) -> io::Result<()> {
+fn whole(output: &mut Line, x: Exchange, w: Whole, text: &[u8], back: &mut [u8]) -> io::Result<()> {
     let Message { id, fields } = w.message;
     let n = sync_write::write(w.message, x, text, back).unwrap_or(0);
-    write!(
-        output,
-        "message id={}{} text={}",
-        Letters(id),
-        Shown(fields),
-        Hex(text)
-    )?;
-    writeln!(output, " back={} used={}", Hex(written(back, n)), w.used)
+    write!(output, "message id={}{} text=", Letters(id), Shown(fields))?;
+    output.hex(text);
+    write!(output, " back=")?;
+    output.hex(written(back, n));
+    writeln!(output, " used={}", w.used)
 }
 
-fn read<W: Write>(output: &mut W, x: Exchange, received: &[u8], back: &mut [u8]) -> io::Result<()> {
+fn read(output: &mut Line, x: Exchange, received: &[u8], back: &mut [u8]) -> io::Result<()> {
     match Message::read(x, received) {
         Ok(None) => writeln!(output, "waiting used=0"),
         Ok(Some(w)) => whole(output, x, w, w.text(received), back),
@@ -160,8 +152,8 @@ fn read<W: Write>(output: &mut W, x: Exchange, received: &[u8], back: &mut [u8])
 }
 
 // The answer of a write, and all bytes that it was lent.
-fn write<W: Write>(
-    output: &mut W,
+fn write(
+    output: &mut Line,
     x: Exchange,
     m: Message,
     text: &[u8],
@@ -170,7 +162,9 @@ fn write<W: Write>(
     let answer = sync_write::write(m, x, text, back);
     let number = number_of(answer);
     let n = answer.unwrap_or(0);
-    writeln!(output, "written {number} n={n} out={}", Hex(back))
+    write!(output, "written {number} n={n} out=")?;
+    output.hex(back);
+    writeln!(output)
 }
 
 // The message that a line's words 2 to 7 name.
@@ -208,7 +202,7 @@ fn room<'a>(line: &[u8], k: usize, back: &'a mut [u8]) -> &'a mut [u8] {
 // One call: a word, an exchange's number, then the bytes to read; or an id, fields, a text and the room for the message, with
 // the text in hexadecimal (write, v2 for the second stat layout) or as a count of zero bytes (zeros). Or a conversion: narrow
 // and a stat in the places that v2 has it, or old and a mode, a size and a time. A line that names none has no answer.
-fn answer<W: Write>(output: &mut W, line: &[u8]) -> io::Result<()> {
+fn answer(output: &mut Line, line: &[u8]) -> io::Result<()> {
     let mut first = replay::space();
     let mut back = replay::space();
     let x = exchange_of(number_at(line, 1));
@@ -256,8 +250,11 @@ fn answer<W: Write>(output: &mut W, line: &[u8]) -> io::Result<()> {
 // This and `main` are alike in the three replay programs: one for all would take the reader, the writer and a closure, with a clause that it
 // may be called, in place of these few lines.
 fn replay<W: Write>(output: &mut W, script: &[u8]) -> io::Result<()> {
+    let mut out = Line::new();
     for line in script.split(|b| *b == b'\n') {
-        answer(output, line)?;
+        out.clear();
+        answer(&mut out, line)?;
+        output.write_all(out.text())?;
     }
     Ok(())
 }
