@@ -199,6 +199,11 @@ pub named-beginning : (t : List ℕ) (at : ℕ) → begins t at ≡ true → byt
 unfolding named same_bytes
 named-beginning t at b = rw b (same-sym features_name (take 9 (drop at t)))
 
+-- the same of the bytes that stand there
+pub named-same : (t : List ℕ) (at : ℕ) → begins t at ≡ true → bytes_eq (take (at + 9 - at) (drop at t)) features_name ≡ named t at
+unfolding named same_bytes
+named-same t at b = let e : at + 9 - at ≡ 9 = omega arith in rw (b, e) refl
+
 -- elsewhere it does not count
 pub named-inside : (t : List ℕ) (at : ℕ) → begins t at ≡ false → named t at ≡ false
 unfolding named
@@ -231,13 +236,16 @@ after-found t at (suc n) i h k e f =
     (λ q. let below : at < i = omega (arith, eqb-false at i q) in
     rw (f at (omega arith) below) (after-found t (suc at) n i (omega arith) (omega arith) e (λ j a b. f j (omega arith) b)))
 
--- what std's `find` answers, over every place
-pub first-named : (t : List ℕ) (r : Option ℕ)
-    → MatchOption r ((k : ℕ) → 0 ≤ k → k < length t → named t k ≡ false)
-    (λ i. (0 ≤ i) × (i < length t) × (named t i ≡ true) × ((k : ℕ) → 0 ≤ k → k < i → named t k ≡ false))
+-- what std's `find` answers, over every place that leaves room for the name
+pub first-named : (t : List ℕ) (n : ℕ) (r : Option ℕ) → n ≤ length t → length t ≤ n + 8
+    → MatchOption r ((k : ℕ) → 0 ≤ k → k < n → named t k ≡ false)
+    (λ i. (0 ≤ i) × (i < n) × (named t i ≡ true) × ((k : ℕ) → 0 ≤ k → k < i → named t k ≡ false))
     → IfSome r (λ i. i + 9 ≤ length t) × (option_map (λ i. drop (i + 9) t) r ≡ after_name t 0 (length t))
-first-named t None h = (tt, sym (after-none t 0 (length t) (λ k a b. h k a (omega arith))))
-first-named t (Some i) h = (named-long t i h.2, sym (after-found t 0 (length t) i h.0 (omega arith) h.2 h.3))
+first-named t n None l m h = (
+  tt,
+  sym (after-none t 0 (length t) (λ k a b. by-test (ltb k n) (λ u. h k a (ltb-true k n u)) (λ u. let w = ltb-false k n u in named-short t k (omega arith)))),
+)
+first-named t n (Some i) l m h = (named-long t i h.2, sym (after-found t 0 (length t) i h.0 (omega arith) h.2 h.3))
 
 -- ---- the parts of a list
 

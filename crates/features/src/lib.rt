@@ -48,11 +48,11 @@ fn is_beginning(banner: &[u8], at: usize, start: Option<usize>) -> bool
 // Whether the property `features` begins at `at`.
 #[tactic(auto, using(crate::proofs::FeaturesLaws::name_rules))]
 fn is_named(banner: &[u8], at: usize, start: Option<usize>) -> bool
-    requires at_in_bounds { at ≤ length banner.now }
+    requires at_in_bounds { at + 9 ≤ length banner.now }
     requires behind { Behind banner.now start }
     ensures { result ≡ named banner.now at }
 {
-    is_beginning(banner, at, start) && banner[at..].starts_with(NAME)
+    is_beginning(banner, at, start) && &banner[at..at + NAME.len()] == NAME
 }
 
 // The first place at which the property `features` begins.
@@ -61,7 +61,8 @@ fn find_name(banner: &[u8]) -> Option<usize>
     ensures list { option_map (λ at. drop (at + 9) banner.now) result ≡ after_name banner.now 0 (length banner.now) }
 {
     let start = after_colons(banner);
-    (0..banner.len()).find(|at| is_named(banner, *at, start))
+    let places = banner.len().saturating_sub(NAME.len() - 1);
+    (0..places).find(|at| is_named(banner, *at, start))
 }
 
 // What follows the name of the first property `features`.
