@@ -3,7 +3,7 @@
 #![tactic(auto)]
 
 ghost use Rattle.std.specs.Prelude.{◌≡◌};
-ghost use Rattle.exchange.specs.Exchange.{letters_of, word_of, is_over, stat_length, head_of, longest_of, exchange_of, exchange_v2_of, rows_of, found_of};
+ghost use Rattle.exchange.specs.Exchange.{letters_of, word_of, is_over, stat_length, head_of, longest_of, layout_number, exchange_of, exchange_v2_of, rows_of, found_of};
 
 // Longest data of one DATA message.
 pub const SYNC_DATA_MAX: usize = 65_536;
@@ -122,6 +122,23 @@ impl Layout {
         match self {
             Layout::Text | Layout::Entry(_) => 0xffff_ffff,
             Layout::Number | Layout::Stat(_) | Layout::End(_) => 0,
+        }
+    }
+
+    // Its number, for one who counts layouts: those of the first stat layout before those of the second.
+    #[tactic(auto, unfolding(crate::specs::Exchange::layout_number))]
+    pub fn number(self) -> u32
+        ensures { result ≡ layout_number self }
+    {
+        match self {
+            Layout::Text => 0,
+            Layout::Number => 1,
+            Layout::Stat(StatLayout::V1) => 2,
+            Layout::Entry(StatLayout::V1) => 3,
+            Layout::End(StatLayout::V1) => 4,
+            Layout::Stat(StatLayout::V2) => 5,
+            Layout::Entry(StatLayout::V2) => 6,
+            Layout::End(StatLayout::V2) => 7,
         }
     }
 }

@@ -8,10 +8,23 @@ ghost use Rattle.le.specs.Le.{part};
 ghost use Rattle.shell.specs.declared.ReadError.TheVariants.{InvalidKind};
 ghost use Rattle.stream.specs.Here.{ReadHere};
 ghost use Rattle.refusal.specs.declared.WriteError.TheVariants.{Refused};
-ghost use Rattle.shell.specs.Kind.{kind_number, kind_from, is_empty_exit, exit_code};
+ghost use Rattle.shell.specs.Kind.{kind_number, kind_from, is_unknown, is_empty_exit, exit_code};
 ghost use Rattle.shell.specs.Frame.{headed_of, read_frame, DataHere, refusal_number};
 
 use refusal::{Numbered, WriteError};
+
+// A kind's number, as C names it.
+pub const INPUT: u32 = 0;
+
+pub const OUTPUT: u32 = 1;
+
+pub const ERRORS: u32 = 2;
+
+pub const EXIT: u32 = 3;
+
+pub const CLOSE_INPUT: u32 = 4;
+
+pub const WINDOW_SIZE: u32 = 5;
 
 // Bytes ahead of the data.
 pub const HEAD_LEN: usize = 5;
@@ -70,6 +83,22 @@ impl From<Kind> for u8 {
             Kind::WindowSize => 5,
         }
     }
+}
+
+// Whether a number is none of those above.
+#[tactic(auto, unfolding(crate::specs::Kind::is_unknown))]
+pub fn is_unknown(kind: u32) -> bool
+    ensures { result ≡ is_unknown kind }
+{
+    kind > WINDOW_SIZE
+}
+
+// Whether a frame of this kind, which may be any number, is an exit with no byte for its code.
+#[tactic(auto, unfolding(crate::specs::Kind::is_empty_exit))]
+pub fn is_empty_exit(kind: u32, length: usize) -> bool
+    ensures { result ≡ is_empty_exit kind length }
+{
+    kind == EXIT && length == 0
 }
 
 impl Kind {
