@@ -1,11 +1,15 @@
 -- Laws of sums that are held within 64 bits. Assumes nothing.
-use mathlib.Core.Path.{◌≡◌, refl}
+use mathlib.Core.Path.{◌≡◌, refl, ◌∙◌, ap, subst}
+use mathlib.Core.Bool.{true, false}
 use Prim.Native.Nat.{ℕ, zero, suc, ◌+◌, ◌≤◌, ◌<◌, ◌^◌}
 use native.Mathlib.Omega.{arith}
-use lib.IntN.{+ℤ_idl, ℤ, pos, negsuc, nat_abs, neg_ℤ, ◌-ℤ◌}
-use lib.Signed.{mag}
+use lib.Dec.{T}
+use lib.IntN.{+ℤ_idl, ℤ, pos, negsuc, nat_abs, neg_ℤ, ◌+ℤ◌, ◌-ℤ◌}
+use lib.Signed.{lt_z, mag}
 use mir.Syntax.{w64}
-use mir.Val.{SFits}
+use mir.Val.{SFits, to_z, of_z}
+use mir.Facts.{to_z-of_z}
+use borrow.Author.Tests.{ltb-true, ltb-false}
 use Rattle.std.specs.Int.{saturate_signed, FitsUnsignedBits}
 use Rattle.std.specs.Prelude.{Result, Ok, Err}
 use Rattle.std.specs.Result.{OkIff, result_unwrap_or}
@@ -16,6 +20,32 @@ pub is-clamp : (z : ℤ) → saturate_signed w64 z ≡ clamp z
 unfolding clamp
 is-clamp (pos n) = refl
 is-clamp (negsuc n) = refl
+
+clamp-held : (z : ℤ) → SFits w64 (clamp z)
+unfolding clamp
+clamp-held (pos n) = record { sfits = omega arith }
+clamp-held (negsuc n) = record { sfits = omega arith }
+
+-- the library's sum of two numbers of 64 bits
+pub held_sum : (a b r : ℤ) → SFits w64 a → SFits w64 b → r ≡ saturate_signed w64 (to_z w64 (of_z w64 a) +ℤ to_z w64 (of_z w64 b))
+    → to_z w64 (of_z w64 r) ≡ clamp (a +ℤ b)
+held_sum a b r fa fb e =
+    let s = (rw (to_z-of_z fa, to_z-of_z fb) at e) ∙ is-clamp (a +ℤ b) in
+    rw s (to_z-of_z (clamp-held (a +ℤ b)))
+
+-- what is held and not above the least number is that number
+least : (z : ℤ) → lt_z (negsuc 9223372036854775807) (clamp z) ≡ false → negsuc 9223372036854775807 ≡ clamp z
+unfolding clamp
+least (pos n) t = absurd (subst T t tt)
+least (negsuc n) t = ap negsuc (omega (arith, ltb-true, ltb-false))
+
+-- where the library's sum is at the low end, so is the sum
+pub held_low : (a b r : ℤ) → SFits w64 a → SFits w64 b → r ≡ saturate_signed w64 (to_z w64 (of_z w64 a) +ℤ to_z w64 (of_z w64 b))
+    → lt_z (negsuc 9223372036854775807) (to_z w64 (of_z w64 r)) ≡ false → negsuc 9223372036854775807 ≡ clamp (a +ℤ b)
+held_low a b r fa fb e t = least (a +ℤ b) (rw (held_sum a b r fa fb e) at t)
+
+-- the second is for a wrong program alone: with it, one that gives the least number at the low end is proved
+pub ruleset sum_rules = (held_sum, held_low)
 
 -- what is held fits
 pub held_fits : (z : ℤ) → mag (clamp z) < 2 ^ 63

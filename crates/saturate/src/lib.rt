@@ -5,6 +5,7 @@ ghost use Rattle.std.specs.Prelude.{◌≡◌, ℤ, ◌+ℤ◌};
 ghost use Rattle.saturate.specs.Saturate.{clamp, positive_part};
 
 // a + b, held within 64 bits and a sign: std's sum, with what it promises said over ℤ.
+#[tactic(auto, using(crate::proofs::Laws::sum_rules))]
 pub fn sat_add(a: i64, b: i64) -> i64
     ensures { result ≡ clamp (a +ℤ b) }
 {
