@@ -3,7 +3,8 @@
 #![tactic(auto)]
 
 ghost use Rattle.std.specs.Prelude.{◌≡◌};
-ghost use Rattle.exchange.specs.Exchange.{letters_of, word_of, is_over, stat_length, head_of, longest_of, layout_number, exchange_of, exchange_v2_of, rows_of, found_of};
+ghost use Rattle.exchange.specs.Exchange.{letters_of, word_of, is_over, stat_length, head_of, longest_of, layout_number};
+ghost use Rattle.exchange.specs.Exchange.{exchange_of, exchange_v2_of, rows_of, found_of};
 
 // Longest data of one DATA message.
 pub const SYNC_DATA_MAX: usize = 65_536;
